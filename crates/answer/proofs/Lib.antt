@@ -1,0 +1,3 @@
+pub mod Booleans
+pub mod Judged
+pub mod SumLaws

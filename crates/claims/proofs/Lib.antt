@@ -1,0 +1,5 @@
+pub mod Elements
+pub mod Numbers
+pub mod OneOutcomeElements
+pub mod OneOutcomeLeaves
+pub mod Same

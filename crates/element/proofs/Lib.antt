@@ -1,0 +1,9 @@
+pub mod Bits
+pub mod FixedLength
+pub mod Histogram
+pub mod ReportLayout
+pub mod ReportTrip
+pub mod RequestLayout
+pub mod RequestTrip
+pub mod RoundTrips
+pub mod SpanTrip

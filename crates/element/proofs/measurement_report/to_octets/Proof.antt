@@ -1,0 +1,46 @@
+-- `measurement_report::to_octets` meets its contract: the octets lie in front.
+use mathlib.Core.Path.{_≡_, refl}
+use lib.ListN.{length}
+use Rattle.element.proofs.ReportLayout.{laid-out}
+use borrow.Author.Needs.{needs}
+use Rattle.element.proofs.measurement_report.to_octets.Statement.{statement}
+use Rattle.element.proofs.measurement_report.to_octets.Tie as tie
+
+returns : tie.Need-returns
+returns c =
+    let r = c .before .before .before .before .before .before .args .report in
+    let eight : length (r .densities) ≡ 8 = search needs in (
+      refl,
+      rw (c .last-of .ensures, c .before .to-octets .ensures, c .before .before .span-of .ensures, c .before .before .before .mode-of .ensures, c .before .before .before .before .size-of .ensures)
+          (laid-out (r .token) (r .kind) (r .densities) eight (r .matter)),
+    )
+
+pub to-octets-spec : {M : Type 1} → statement M
+to-octets-spec =
+    tie.close
+    (tie.spec
+    (λ c κs. search needs)
+    (λ c κs. search needs)
+    (λ c κs. search needs)
+    (λ c κs. search needs)
+    (λ c. search needs)
+    (λ c κs. search needs)
+    (λ c. search needs)
+    (λ c. search needs)
+    (λ c. search needs)
+    (λ c. search needs)
+    (λ c. search needs)
+    (λ c. search needs)
+    (λ c. search needs)
+    (λ c. search needs)
+    (λ c. search needs)
+    (λ c. search needs)
+    (λ c. search needs)
+    (λ c. search needs)
+    (λ c. search needs)
+    (λ c. search needs)
+    (λ c. search needs)
+    (λ c. search needs)
+    (λ c. search needs)
+    (λ c. search needs)
+    returns)

@@ -1,0 +1,223 @@
+-- Element 39, Measurement Report (01, "Octets"; 7.3.2.22): token, mode, type. Mode bits 0 Late, 1 Incapable, 2 Refused; more than
+-- one, at length 3 or more: 9; exactly one: length 3. With none, types 0 and 1 have length 15 and type 2 has 22: channel, start
+-- (8), duration (2), then map, busy fraction or eight densities; other types have 3 or more.
+use mathlib.Core.Bool.{Bool, true, false, not, _&&_, _||_}
+use mathlib.Core.List.{List, [], _∷_, _++_}
+use mathlib.Core.Path.{_≡_}
+use Prim.Native.Nat.{ℕ, _+_, _/_, _%_}
+use lib.ListN.{length, replicate}
+use lib.Dec.{ltb, eqb}
+use Rattle.answer.specs.Checks.{Outcome, refused, accepted, pick, _⇒_, judged}
+use Rattle.answer.specs.Sums.{sumOf}
+use Rattle.answer.specs.declared.Answer.{Answer}
+use Rattle.answer.specs.declared.Refusal.{Refusal}
+use Rattle.octets.specs.Numbers.{octet, octetsFrom}
+use Rattle.element.specs.Elements.{element, bit}
+use Rattle.element.specs.Span.{spanIn, spanOctets, spanForbids, SpanFits, noSpan}
+use Rattle.element.specs.declared.measurement_report.Matter.{Matter}
+use Rattle.element.specs.declared.measurement_report.Reading.{Reading}
+use Rattle.element.specs.declared.measurement_report.Report.{Report}
+use Rattle.element.specs.declared.span.Span.{Span}
+
+-- how many of Late, Incapable and Refused are set
+abbrev pub reportFlags : ℕ → ℕ
+reportFlags mode = mode % 2 + (mode / 2 % 2 + mode / 4 % 2)
+
+-- a measurement, by its type; of the map the reserved bits 5 to 7 are ignored
+abbrev pub reportMeasured : ℕ → List ℕ → Matter
+reportMeasured kind c =
+    pick (ltb 2 kind)
+    Matter.Uninterpreted
+    (pick (eqb kind 0)
+    (Matter.Basic (spanIn c) (octet 14 c % 32))
+    (pick (eqb kind 1) (Matter.Cca (spanIn c) (octet 14 c)) (Matter.Rpi (spanIn c))))
+
+abbrev pub reportMatterIn : ℕ → ℕ → List ℕ → Matter
+reportMatterIn mode kind c =
+    pick (bit 0 mode)
+    Matter.Late
+    (pick (bit 1 mode) Matter.Incapable (pick (bit 2 mode) Matter.Refused (reportMeasured kind c)))
+
+abbrev pub noDensities : List ℕ
+noDensities = replicate 8 0
+
+-- the eight densities beside what is reported
+abbrev pub densitiesIn : Matter → List ℕ → List ℕ
+densitiesIn Matter.Late c = noDensities
+densitiesIn Matter.Incapable c = noDensities
+densitiesIn Matter.Refused c = noDensities
+densitiesIn (Matter.Basic s m) c = noDensities
+densitiesIn (Matter.Cca s f) c = noDensities
+densitiesIn (Matter.Rpi s) c = octetsFrom 8 14 c
+densitiesIn Matter.Uninterpreted c = noDensities
+
+abbrev pub reportOf : ℕ → ℕ → Matter → List ℕ → Report
+reportOf token kind matter c =
+    record { token = token; kind = kind; matter = matter; densities = densitiesIn matter c }
+
+abbrev pub reportIn : List ℕ → Report
+reportIn c = reportOf (octet 0 c) (octet 2 c) (reportMatterIn (octet 1 c) (octet 2 c) c) c
+
+-- whether contents have a wrong length for what they report; none has under 3 octets
+abbrev pub reportMisfits : Matter → ℕ → Bool
+reportMisfits Matter.Late n = not (eqb n 3)
+reportMisfits Matter.Incapable n = not (eqb n 3)
+reportMisfits Matter.Refused n = not (eqb n 3)
+reportMisfits (Matter.Basic s m) n = not (eqb n 15)
+reportMisfits (Matter.Cca s f) n = not (eqb n 15)
+reportMisfits (Matter.Rpi s) n = not (eqb n 22)
+reportMisfits Matter.Uninterpreted n = false
+
+-- unmeasured, with any of bits 0 to 3
+abbrev pub mapForbids : ℕ → Bool
+mapForbids m = bit 4 m && not (eqb (m % 16) 0)
+
+-- such a map, or a channel over 200
+abbrev pub reportForbids : Matter → Bool
+reportForbids Matter.Late = false
+reportForbids Matter.Incapable = false
+reportForbids Matter.Refused = false
+reportForbids (Matter.Basic s m) = spanForbids s || mapForbids m
+reportForbids (Matter.Cca s f) = spanForbids s
+reportForbids (Matter.Rpi s) = spanForbids s
+reportForbids Matter.Uninterpreted = false
+
+unfoldable pub reportMeans : List ℕ → Outcome Report
+reportMeans c =
+    judged
+    (ltb (length c) 3 ⇒ Refusal.WrongLength
+    ∷ ltb 1 (reportFlags (octet 1 c)) ⇒ Refusal.ForbiddenValue
+    ∷ reportMisfits (reportIn c .matter) (length c) ⇒ Refusal.WrongLength
+    ∷ reportForbids (reportIn c .matter) ⇒ Refusal.ForbiddenValue
+    ∷ [])
+    (reportIn c)
+
+-- what stands beside a refusal
+abbrev pub noReport : Report
+noReport = record { token = 0; kind = 0; matter = Matter.Uninterpreted; densities = noDensities }
+
+-- the answer with its report beside it
+abbrev pub reportLaid : Outcome Report → Reading
+reportLaid (refused r) = record { answer = Answer.Refused r; report = noReport }
+reportLaid (accepted p) = record { answer = Answer.Accepted; report = p }
+
+-- ---- written
+
+-- the mode, with every reserved bit 0
+abbrev pub reportMode : Matter → ℕ
+reportMode Matter.Late = 1
+reportMode Matter.Incapable = 2
+reportMode Matter.Refused = 4
+reportMode (Matter.Basic s m) = 0
+reportMode (Matter.Cca s f) = 0
+reportMode (Matter.Rpi s) = 0
+reportMode Matter.Uninterpreted = 0
+
+abbrev pub reportMatterOctets : Matter → List ℕ → List ℕ
+reportMatterOctets Matter.Late ds = []
+reportMatterOctets Matter.Incapable ds = []
+reportMatterOctets Matter.Refused ds = []
+reportMatterOctets (Matter.Basic s m) ds = spanOctets s ++ (m ∷ [])
+reportMatterOctets (Matter.Cca s f) ds = spanOctets s ++ (f ∷ [])
+reportMatterOctets (Matter.Rpi s) ds = spanOctets s ++ ds
+reportMatterOctets Matter.Uninterpreted ds = []
+
+abbrev pub reportContents : Report → List ℕ
+reportContents r =
+    (r .token ∷ reportMode (r .matter) ∷ r .kind ∷ []) ++ reportMatterOctets (r .matter) (r .densities)
+
+-- uninterpreted contents are those of a type over 2 with no mode bit
+abbrev pub matterInterpreted : Matter → Bool
+matterInterpreted Matter.Late = true
+matterInterpreted Matter.Incapable = true
+matterInterpreted Matter.Refused = true
+matterInterpreted (Matter.Basic s m) = true
+matterInterpreted (Matter.Cca s f) = true
+matterInterpreted (Matter.Rpi s) = true
+matterInterpreted Matter.Uninterpreted = false
+
+abbrev pub reportInterpreted : Report → Bool
+reportInterpreted r = matterInterpreted (r .matter)
+
+-- whether a type can report this, with no reserved bit in the map; uninterpreted contents are never written
+abbrev pub reportAgrees : Matter → ℕ → Bool
+reportAgrees Matter.Late kind = true
+reportAgrees Matter.Incapable kind = true
+reportAgrees Matter.Refused kind = true
+reportAgrees (Matter.Basic s m) kind = eqb kind 0 && ltb m 32
+reportAgrees (Matter.Cca s f) kind = eqb kind 1
+reportAgrees (Matter.Rpi s) kind = eqb kind 2
+reportAgrees Matter.Uninterpreted kind = false
+
+-- only an RPI histogram has densities
+abbrev pub silent : Matter → List ℕ → Bool
+silent Matter.Late ds = eqb (sumOf ds) 0
+silent Matter.Incapable ds = eqb (sumOf ds) 0
+silent Matter.Refused ds = eqb (sumOf ds) 0
+silent (Matter.Basic s m) ds = eqb (sumOf ds) 0
+silent (Matter.Cca s f) ds = eqb (sumOf ds) 0
+silent (Matter.Rpi s) ds = true
+silent Matter.Uninterpreted ds = eqb (sumOf ds) 0
+
+-- what the reader would refuse may not be written, nor a reserved bit in the map, nor uninterpreted contents
+unfoldable pub reportMay : Report → Bool
+reportMay r = not (reportForbids (r .matter)) && reportAgrees (r .matter) (r .kind) && silent (r .matter) (r .densities)
+
+unfoldable pub reportOctets : Report → List ℕ
+reportOctets r = element 39 (reportContents r)
+
+abbrev pub mapClear : Matter → ℕ → Bool
+mapClear Matter.Late o = true
+mapClear Matter.Incapable o = true
+mapClear Matter.Refused o = true
+mapClear (Matter.Basic s m) o = ltb o 32
+mapClear (Matter.Cca s f) o = true
+mapClear (Matter.Rpi s) o = true
+mapClear Matter.Uninterpreted o = true
+
+-- no reserved bit is set: bits 3 to 7 of the mode, and bits 5 to 7 of the map
+abbrev pub reportClear : List ℕ → Bool
+reportClear c = ltb (octet 1 c) 8 && mapClear (reportIn c .matter) (octet 14 c)
+
+-- ---- the fields fit their types
+
+abbrev pub ReportMatterFits : Matter → Type 0
+ReportMatterFits Matter.Late = Unit {0}
+ReportMatterFits Matter.Incapable = Unit {0}
+ReportMatterFits Matter.Refused = Unit {0}
+ReportMatterFits (Matter.Basic s m) = SpanFits s
+ReportMatterFits (Matter.Cca s f) = SpanFits s
+ReportMatterFits (Matter.Rpi s) = SpanFits s
+ReportMatterFits Matter.Uninterpreted = Unit {0}
+
+abbrev pub ReportFits : Report → Type 0
+ReportFits r = ReportMatterFits (r .matter) × (length (r .densities) ≡ 8)
+
+-- ---- the code's own terms, which no public promise cites: the span, the octet behind it and the length of what is written
+
+abbrev pub reportSpan : Matter → Span
+reportSpan Matter.Late = noSpan
+reportSpan Matter.Incapable = noSpan
+reportSpan Matter.Refused = noSpan
+reportSpan (Matter.Basic s m) = s
+reportSpan (Matter.Cca s f) = s
+reportSpan (Matter.Rpi s) = s
+reportSpan Matter.Uninterpreted = noSpan
+
+abbrev pub reportLast : Matter → ℕ → ℕ
+reportLast Matter.Late d = 0
+reportLast Matter.Incapable d = 0
+reportLast Matter.Refused d = 0
+reportLast (Matter.Basic s m) d = m
+reportLast (Matter.Cca s f) d = f
+reportLast (Matter.Rpi s) d = d
+reportLast Matter.Uninterpreted d = 0
+
+abbrev pub reportSize : Matter → ℕ
+reportSize Matter.Late = 3
+reportSize Matter.Incapable = 3
+reportSize Matter.Refused = 3
+reportSize (Matter.Basic s m) = 15
+reportSize (Matter.Cca s f) = 15
+reportSize (Matter.Rpi s) = 22
+reportSize Matter.Uninterpreted = 3

@@ -1,0 +1,4 @@
+pub mod Ceilings
+pub mod Filling
+pub mod Possible
+pub mod SumBound

@@ -1,0 +1,3 @@
+pub mod JoinSplit
+pub mod Overwriting
+pub mod TwosComplement

@@ -1,0 +1,50 @@
+// Words, numbers and octets on standard output.
+use answer::Answer;
+use answer::Refusal;
+use libc::STDOUT_FILENO;
+
+pub fn text(word: &[u8]) {
+    io::write_all(STDOUT_FILENO, word);
+}
+
+pub fn number(n: u64) {
+    text(b" ");
+    io::print_decimal(STDOUT_FILENO, n);
+}
+
+pub fn octet(o: u8) {
+    number(o as u64);
+}
+
+pub fn octets(s: &[u8]) {
+    let mut i = 0;
+    while i < s.len() {
+        octet(s[i]);
+        i += 1;
+    }
+}
+
+pub fn refusal(r: Refusal) {
+    octet(r.number());
+}
+
+pub fn answer(a: Answer) {
+    octet(a.number());
+}
+
+pub fn flag(b: bool) {
+    if b {
+        number(1);
+    } else {
+        number(0);
+    }
+}
+
+// The element and the contents that are read, up to the answer.
+pub fn reading(id: u8, contents: &[u8]) {
+    text(b"read");
+    octet(id);
+    text(b":");
+    octets(contents);
+    text(b" =");
+}
