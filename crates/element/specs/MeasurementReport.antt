@@ -19,6 +19,17 @@ use Rattle.element.specs.declared.measurement_report.Reading.{Reading}
 use Rattle.element.specs.declared.measurement_report.Report.{Report}
 use Rattle.element.specs.declared.span.Span.{Span}
 
+-- by what is reported: nothing measured (Late, Incapable, Refused); type 0 with its map; type 1 with its busy fraction; type 2;
+-- uninterpreted contents
+abbrev pub byMatter : {A : Type 0} → Matter → A → (Span → ℕ → A) → (Span → ℕ → A) → (Span → A) → A → A
+byMatter Matter.Late unmeasured basic cca rpi other = unmeasured
+byMatter Matter.Incapable unmeasured basic cca rpi other = unmeasured
+byMatter Matter.Refused unmeasured basic cca rpi other = unmeasured
+byMatter (Matter.Basic s m) unmeasured basic cca rpi other = basic s m
+byMatter (Matter.Cca s f) unmeasured basic cca rpi other = cca s f
+byMatter (Matter.Rpi s) unmeasured basic cca rpi other = rpi s
+byMatter Matter.Uninterpreted unmeasured basic cca rpi other = other
+
 -- how many of Late, Incapable and Refused are set
 abbrev pub reportFlags : ℕ → ℕ
 reportFlags mode = mode % 2 + (mode / 2 % 2 + mode / 4 % 2)
@@ -43,13 +54,7 @@ noDensities = replicate 8 0
 
 -- the eight densities beside what is reported
 abbrev pub densitiesIn : Matter → List ℕ → List ℕ
-densitiesIn Matter.Late c = noDensities
-densitiesIn Matter.Incapable c = noDensities
-densitiesIn Matter.Refused c = noDensities
-densitiesIn (Matter.Basic s m) c = noDensities
-densitiesIn (Matter.Cca s f) c = noDensities
-densitiesIn (Matter.Rpi s) c = octetsFrom 8 14 c
-densitiesIn Matter.Uninterpreted c = noDensities
+densitiesIn m c = byMatter m noDensities (λ s o. noDensities) (λ s o. noDensities) (λ s. octetsFrom 8 14 c) noDensities
 
 abbrev pub reportOf : ℕ → ℕ → Matter → List ℕ → Report
 reportOf token kind matter c =
@@ -60,13 +65,8 @@ reportIn c = reportOf (octet 0 c) (octet 2 c) (reportMatterIn (octet 1 c) (octet
 
 -- whether contents have a wrong length for what they report; none has under 3 octets
 abbrev pub reportMisfits : Matter → ℕ → Bool
-reportMisfits Matter.Late n = not (eqb n 3)
-reportMisfits Matter.Incapable n = not (eqb n 3)
-reportMisfits Matter.Refused n = not (eqb n 3)
-reportMisfits (Matter.Basic s m) n = not (eqb n 15)
-reportMisfits (Matter.Cca s f) n = not (eqb n 15)
-reportMisfits (Matter.Rpi s) n = not (eqb n 22)
-reportMisfits Matter.Uninterpreted n = false
+reportMisfits m n =
+    byMatter m (not (eqb n 3)) (λ s o. not (eqb n 15)) (λ s o. not (eqb n 15)) (λ s. not (eqb n 22)) false
 
 -- unmeasured, with any of bits 0 to 3
 abbrev pub mapForbids : ℕ → Bool
@@ -74,13 +74,7 @@ mapForbids m = bit 4 m && not (eqb (m % 16) 0)
 
 -- such a map, or a channel over 200
 abbrev pub reportForbids : Matter → Bool
-reportForbids Matter.Late = false
-reportForbids Matter.Incapable = false
-reportForbids Matter.Refused = false
-reportForbids (Matter.Basic s m) = spanForbids s || mapForbids m
-reportForbids (Matter.Cca s f) = spanForbids s
-reportForbids (Matter.Rpi s) = spanForbids s
-reportForbids Matter.Uninterpreted = false
+reportForbids m = byMatter m false (λ s o. spanForbids s || mapForbids o) (λ s o. spanForbids s) (λ s. spanForbids s) false
 
 unfoldable pub reportMeans : List ℕ → Outcome Report
 reportMeans c =
@@ -114,13 +108,8 @@ reportMode (Matter.Rpi s) = 0
 reportMode Matter.Uninterpreted = 0
 
 abbrev pub reportMatterOctets : Matter → List ℕ → List ℕ
-reportMatterOctets Matter.Late ds = []
-reportMatterOctets Matter.Incapable ds = []
-reportMatterOctets Matter.Refused ds = []
-reportMatterOctets (Matter.Basic s m) ds = spanOctets s ++ (m ∷ [])
-reportMatterOctets (Matter.Cca s f) ds = spanOctets s ++ (f ∷ [])
-reportMatterOctets (Matter.Rpi s) ds = spanOctets s ++ ds
-reportMatterOctets Matter.Uninterpreted ds = []
+reportMatterOctets m ds =
+    byMatter m [] (λ s o. spanOctets s ++ (o ∷ [])) (λ s o. spanOctets s ++ (o ∷ [])) (λ s. spanOctets s ++ ds) []
 
 abbrev pub reportContents : Report → List ℕ
 reportContents r =
@@ -128,36 +117,20 @@ reportContents r =
 
 -- uninterpreted contents are those of a type over 2 with no mode bit
 abbrev pub matterInterpreted : Matter → Bool
-matterInterpreted Matter.Late = true
-matterInterpreted Matter.Incapable = true
-matterInterpreted Matter.Refused = true
-matterInterpreted (Matter.Basic s m) = true
-matterInterpreted (Matter.Cca s f) = true
-matterInterpreted (Matter.Rpi s) = true
-matterInterpreted Matter.Uninterpreted = false
+matterInterpreted m = byMatter m true (λ s o. true) (λ s o. true) (λ s. true) false
 
 abbrev pub reportInterpreted : Report → Bool
 reportInterpreted r = matterInterpreted (r .matter)
 
 -- whether a type can report this, with no reserved bit in the map; uninterpreted contents are never written
 abbrev pub reportAgrees : Matter → ℕ → Bool
-reportAgrees Matter.Late kind = true
-reportAgrees Matter.Incapable kind = true
-reportAgrees Matter.Refused kind = true
-reportAgrees (Matter.Basic s m) kind = eqb kind 0 && ltb m 32
-reportAgrees (Matter.Cca s f) kind = eqb kind 1
-reportAgrees (Matter.Rpi s) kind = eqb kind 2
-reportAgrees Matter.Uninterpreted kind = false
+reportAgrees m kind =
+    byMatter m true (λ s o. eqb kind 0 && ltb o 32) (λ s o. eqb kind 1) (λ s. eqb kind 2) false
 
 -- only an RPI histogram has densities
 abbrev pub silent : Matter → List ℕ → Bool
-silent Matter.Late ds = eqb (sumOf ds) 0
-silent Matter.Incapable ds = eqb (sumOf ds) 0
-silent Matter.Refused ds = eqb (sumOf ds) 0
-silent (Matter.Basic s m) ds = eqb (sumOf ds) 0
-silent (Matter.Cca s f) ds = eqb (sumOf ds) 0
-silent (Matter.Rpi s) ds = true
-silent Matter.Uninterpreted ds = eqb (sumOf ds) 0
+silent m ds =
+    byMatter m (eqb (sumOf ds) 0) (λ s o. eqb (sumOf ds) 0) (λ s o. eqb (sumOf ds) 0) (λ s. true) (eqb (sumOf ds) 0)
 
 -- what the reader would refuse may not be written, nor a reserved bit in the map, nor uninterpreted contents
 unfoldable pub reportMay : Report → Bool
@@ -167,13 +140,7 @@ unfoldable pub reportOctets : Report → List ℕ
 reportOctets r = element 39 (reportContents r)
 
 abbrev pub mapClear : Matter → ℕ → Bool
-mapClear Matter.Late o = true
-mapClear Matter.Incapable o = true
-mapClear Matter.Refused o = true
-mapClear (Matter.Basic s m) o = ltb o 32
-mapClear (Matter.Cca s f) o = true
-mapClear (Matter.Rpi s) o = true
-mapClear Matter.Uninterpreted o = true
+mapClear m o = byMatter m true (λ s x. ltb o 32) (λ s x. true) (λ s. true) true
 
 -- no reserved bit is set: bits 3 to 7 of the mode, and bits 5 to 7 of the map
 abbrev pub reportClear : List ℕ → Bool
@@ -196,28 +163,10 @@ ReportFits r = ReportMatterFits (r .matter) × (length (r .densities) ≡ 8)
 -- ---- the code's own terms, which no public promise cites: the span, the octet behind it and the length of what is written
 
 abbrev pub reportSpan : Matter → Span
-reportSpan Matter.Late = noSpan
-reportSpan Matter.Incapable = noSpan
-reportSpan Matter.Refused = noSpan
-reportSpan (Matter.Basic s m) = s
-reportSpan (Matter.Cca s f) = s
-reportSpan (Matter.Rpi s) = s
-reportSpan Matter.Uninterpreted = noSpan
+reportSpan m = byMatter m noSpan (λ s o. s) (λ s o. s) (λ s. s) noSpan
 
 abbrev pub reportLast : Matter → ℕ → ℕ
-reportLast Matter.Late d = 0
-reportLast Matter.Incapable d = 0
-reportLast Matter.Refused d = 0
-reportLast (Matter.Basic s m) d = m
-reportLast (Matter.Cca s f) d = f
-reportLast (Matter.Rpi s) d = d
-reportLast Matter.Uninterpreted d = 0
+reportLast m d = byMatter m 0 (λ s o. o) (λ s o. o) (λ s. d) 0
 
 abbrev pub reportSize : Matter → ℕ
-reportSize Matter.Late = 3
-reportSize Matter.Incapable = 3
-reportSize Matter.Refused = 3
-reportSize (Matter.Basic s m) = 15
-reportSize (Matter.Cca s f) = 15
-reportSize (Matter.Rpi s) = 22
-reportSize Matter.Uninterpreted = 3
+reportSize m = byMatter m 3 (λ s o. 15) (λ s o. 15) (λ s. 22) 3
