@@ -1,13 +1,13 @@
--- Laws of `judged`: what an accepted value says of each check before it. Assumes nothing.
+-- Laws of `checked`: what an accepted value says of each check before it, and the ways through a list of checks. Assumes nothing.
 use mathlib.Core.Path.{_≡_, refl}
 use mathlib.Core.Bool.{Bool, true, false}
 use mathlib.Core.List.{List, [], _∷_}
 use Prim.Native.Nat.{ℕ}
 use native.Mathlib.Omega.{arith}
 use Rattle.answer.specs.declared.Refusal.{Refusal}
-use Rattle.answer.specs.Checks.{Outcome, refused, accepted, Check, pick, judged}
+use Rattle.answer.specs.Checks.{Outcome, refused, accepted, Check, pick, checked}
 
-never : {A : Type 0} {r : Refusal} {a : A} → refused r ≡ accepted a → ⊥
+pub never : {A : Type 0} {r : Refusal} {a : A} → refused r ≡ accepted a → ⊥
 never e = let z : _≡_ {A = ℕ} 0 1 = cc in omega arith
 
 module _ {A : Type 0} {a : A} where
@@ -15,27 +15,36 @@ module _ {A : Type 0} {a : A} where
   first true r o e = absurd (never e)
   first false r o e = (refl, e)
 
-  -- behind an accepted value the first check did not fail, and the others were judged
-  pub passed : (c : Check) (cs : List Check) (x : A) → judged (c ∷ cs) x ≡ accepted a → (c .fails ≡ false) × (judged cs x ≡ accepted a)
-  unfolding judged
-  passed c cs x e = first (c .fails) (c .gives) (judged cs x) e
+  -- behind an accepted value the first check did not fail, and the others were made
+  pub passed : (c : Check) (cs : List Check) (o : Outcome A) → checked (c ∷ cs) o ≡ accepted a → (c .fails ≡ false) × (checked cs o ≡ accepted a)
+  unfolding checked
+  passed c cs o e = first (c .fails) (c .gives) (checked cs o) e
 
-  -- where no check is left, the value is the one that was judged
-  pub kept : (x : A) → judged [] x ≡ accepted a → x ≡ a
-  unfolding judged
+  -- where no check is left, the outcome stands
+  pub stands : (o : Outcome A) → checked [] o ≡ accepted a → o ≡ accepted a
+  unfolding checked
+  stands o e = e
+
+  pub kept : (x : A) → checked [] (accepted x) ≡ accepted a → x ≡ a
+  unfolding checked
   kept x e = cc
 
 -- ---- the ways through a list of checks: past each that does not fail, up to the one that does or to the end
 
 module _ {A : Type 0} where
-  pub past : (c : Check) (cs : List Check) (a : A) {o : Outcome A} → c .fails ≡ false → o ≡ judged cs a → o ≡ judged (c ∷ cs) a
-  unfolding judged
-  past c cs a p e = simp p e
+  pub past : (c : Check) (cs : List Check) (p : Outcome A) {o : Outcome A} → c .fails ≡ false → o ≡ checked cs p → o ≡ checked (c ∷ cs) p
+  unfolding checked
+  past c cs p h e = simp h e
 
-  pub stop : (c : Check) (cs : List Check) (a : A) → c .fails ≡ true → refused (c .gives) ≡ judged (c ∷ cs) a
-  unfolding judged
-  stop c cs a p = simp p
+  pub stop : (c : Check) (cs : List Check) (p : Outcome A) → c .fails ≡ true → refused (c .gives) ≡ checked (c ∷ cs) p
+  unfolding checked
+  stop c cs p h = simp h
 
-  pub done : (a : A) → accepted a ≡ judged [] a
-  unfolding judged
+  pub done : (a : A) → accepted a ≡ checked [] (accepted a)
+  unfolding checked
   done a = refl
+
+  -- past the last check
+  pub through : (p : Outcome A) {o : Outcome A} → o ≡ p → o ≡ checked [] p
+  unfolding checked
+  through p e = e

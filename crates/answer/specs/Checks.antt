@@ -22,7 +22,16 @@ pub record Check : Type 0 where
 abbrev pub _⇒_ : Bool → Refusal → Check
 t ⇒ r = record { fails = t; gives = r }
 
--- the first check of the list that fails refuses; where none does, the value is accepted
-unfoldable pub judged : {A : Type 0} → List Check → A → Outcome A
-judged [] a = accepted a
-judged (c ∷ cs) a = pick (c .fails) (refused (c .gives)) (judged cs a)
+-- checks in front of an outcome: the first that fails refuses, and where none does the outcome stands
+unfoldable pub checked : {A : Type 0} → List Check → Outcome A → Outcome A
+checked [] o = o
+checked (c ∷ cs) o = pick (c .fails) (refused (c .gives)) (checked cs o)
+
+-- checks in front of a value
+abbrev pub judged : {A : Type 0} → List Check → A → Outcome A
+judged cs a = checked cs (accepted a)
+
+-- what follows an accepted value; a refusal stays
+abbrev pub andThen : {A B : Type 0} → Outcome A → (A → Outcome B) → Outcome B
+andThen (refused r) next = refused r
+andThen (accepted a) next = next a

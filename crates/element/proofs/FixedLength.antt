@@ -6,7 +6,7 @@ use Prim.Native.Nat.{ℕ}
 use borrow.Author.Tests.{eq-eqb, ne-eqb, eqb-true, not-true, not-false}
 use lib.Dec.{eqb}
 use lib.ListN.{length}
-use Rattle.answer.specs.Checks.{Outcome, refused, accepted, judged}
+use Rattle.answer.specs.Checks.{Outcome, refused, accepted, checked}
 use Rattle.answer.specs.declared.Refusal.{Refusal}
 use Rattle.answer.proofs.Judged.{passed, kept}
 use Rattle.octets.specs.Numbers.{Octets}
@@ -15,15 +15,15 @@ use Rattle.element.specs.Elements.{fixed, RoundTrip}
 module _ {A : Type 0} (n : ℕ) (recordIn : List ℕ → A) (forbids : A → Bool) where
   module _ (c : List ℕ) where
     pub misfit : (length c ≡ n → ⊥) → refused Refusal.WrongLength ≡ fixed n recordIn forbids c
-    unfolding fixed judged
+    unfolding fixed checked
     misfit h = simp (ne-eqb (length c) n h)
 
     pub forbidden : length c ≡ n → forbids (recordIn c) ≡ true → refused Refusal.ForbiddenValue ≡ fixed n recordIn forbids c
-    unfolding fixed judged
+    unfolding fixed checked
     forbidden h f = simp (eq-eqb (length c) n h, f)
 
     pub good : length c ≡ n → forbids (recordIn c) ≡ false → accepted (recordIn c) ≡ fixed n recordIn forbids c
-    unfolding fixed judged
+    unfolding fixed checked
     good h f = simp (eq-eqb (length c) n h, f)
 
     -- an accepted record is the one in contents of that length, and none that is forbidden

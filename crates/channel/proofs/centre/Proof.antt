@@ -8,7 +8,7 @@ use borrow.Author.Needs.{needs}
 use borrow.Author.Tests.{lt-ltb, le-ltb, eqb-true}
 use lib.Dec.{eqb}
 use lib.ListN.{length, getD}
-use Rattle.answer.specs.Checks.{judged}
+use Rattle.answer.specs.Checks.{checked}
 use Rattle.channel.specs.Centres.{centreOf}
 use Rattle.channel.proofs.TableRule.{follows, rule-at}
 use Rattle.channel.proofs.centre.Statement.{statement}
@@ -22,12 +22,12 @@ centred : (table : List ℕ) (channel : ℕ) → follows right table ≡ true �
 centred table channel e h = eqb-true _ _ (rule-at right table 0 e channel h)
 
 returns : tie.Need-returns
-unfolding centreOf judged
+unfolding centreOf checked
 returns c = simp (lt-ltb _ _ (c .if1 .taken))
 
 -- `rw` finds the table in the goal, where the test computes to `true` and the length to 201
 returns-2 : tie.Need-returns-2
-unfolding centreOf judged
+unfolding centreOf checked
 returns-2 c =
     let passes : true ≡ true = refl in
     let within : c .before .args .channel < 201 = omega arith in

@@ -6,7 +6,7 @@ use native.Mathlib.Nat.{le-trans}
 use native.Mathlib.Omega.{arith}
 use borrow.Author.Needs.{needs}
 use lib.ListN.{length, take, length-set}
-use Rattle.answer.specs.Checks.{judged}
+use Rattle.answer.specs.Checks.{checked}
 use Rattle.answer.specs.Sums.{sumOf}
 use Rattle.answer.proofs.SumLaws.{entry-in-sum}
 use Rattle.fraction.specs.Fractions.{fractionOf, densitiesOf}
@@ -34,7 +34,7 @@ held c =
     rw (c .before .before .total .ensures) at (within _ (c .before .before .total .result) (p .result) (p .ensures) (c .if1 .left))
 
 returns : tie.Need-returns Inv-loop μ-loop
-unfolding densitiesOf judged
+unfolding densitiesOf checked
 returns c =
     (rw (← (c .before .before .total .ensures), ← (c .before .is-possible .ensures), c .if1 .taken), omega arith)
 
@@ -58,7 +58,7 @@ loop-again c =
     )
 
 returns-2 : tie.Need-returns-2 Inv-loop μ-loop
-unfolding densitiesOf judged
+unfolding densitiesOf checked
 returns-2 c =
     let l = c .before .loop in
     let b = c .before .before .before in
