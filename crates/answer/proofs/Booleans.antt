@@ -15,3 +15,17 @@ both false b e = absurd (let z : _≡_ {A = ℕ} 0 1 = cc in omega arith)
 pub neither : (a b : Bool) → (a || b) ≡ false → (a ≡ false) × (b ≡ false)
 neither true b e = clash e
 neither false b e = (refl, e)
+
+-- ---- a chain of tests, from the left: past one that leaves it open, or stopped at one that decides
+
+pub and-go : (a : Bool) {r : Bool} → a ≡ true → (a && r) ≡ r
+and-go a {r} e = simp e
+
+pub and-stop : (a : Bool) (r : Bool) → a ≡ false → (a && r) ≡ false
+and-stop a r e = simp e
+
+pub or-go : (a : Bool) {r : Bool} → a ≡ false → (a || r) ≡ r
+or-go a {r} e = simp e
+
+pub or-stop : (a : Bool) (r : Bool) → a ≡ true → (a || r) ≡ true
+or-stop a r e = simp e

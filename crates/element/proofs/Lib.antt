@@ -1,4 +1,3 @@
-pub mod Bits
 pub mod FixedLength
 pub mod Histogram
 pub mod ReportLayout

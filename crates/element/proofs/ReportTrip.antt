@@ -12,14 +12,14 @@ use Rattle.answer.specs.Sums.{sumOf}
 use Rattle.answer.proofs.Booleans.{clash, both}
 use Rattle.answer.proofs.Judged.{passed, kept, past, done}
 use Rattle.answer.proofs.SumLaws.{zero-sum}
-use Rattle.octets.specs.Numbers.{Octets, octet, octetsFrom}
+use Rattle.octets.specs.Numbers.{Octets, octet, octetsFrom, bit}
 use Rattle.octets.proofs.JoinSplit.{all-from}
-use Rattle.element.specs.Elements.{bit, RoundTrip}
+use Rattle.element.specs.Elements.{RoundTrip}
 use Rattle.element.specs.MeasurementReport.{reportFlags, reportMeasured, reportMatterIn, noDensities, densitiesIn, reportOf, reportIn, reportMisfits, reportForbids, reportMeans, reportMode, reportContents, matterInterpreted, reportInterpreted, reportAgrees, silent, reportMay, reportOctets, mapClear, reportClear, ReportMatterFits, ReportFits, reportSize}
 use Rattle.element.specs.Span.{spanIn}
 use Rattle.element.specs.declared.measurement_report.Matter.{Matter}
 use Rattle.element.specs.declared.measurement_report.Report.{Report}
-use Rattle.element.proofs.Bits.{low-bit, bit-value, three-bits}
+use Rattle.octets.proofs.Bits.{low-bit, bit-value, three-bits}
 use Rattle.element.proofs.ReportLayout.{made, within, counted}
 use Rattle.element.proofs.SpanTrip.{span-there, span-back, span-fits}
 

@@ -10,15 +10,15 @@ use lib.ListN.{length}
 use Rattle.answer.specs.Checks.{accepted, pick}
 use Rattle.answer.proofs.Booleans.{clash, both}
 use Rattle.answer.proofs.Judged.{passed, kept, past, done}
-use Rattle.octets.specs.Numbers.{Octets, octet, octetsFrom}
+use Rattle.octets.specs.Numbers.{Octets, octet, octetsFrom, bit}
 use Rattle.octets.proofs.JoinSplit.{all-from}
-use Rattle.element.specs.Elements.{bit, RoundTrip}
+use Rattle.element.specs.Elements.{RoundTrip}
 use Rattle.element.specs.MeasurementRequest.{requestMatterIn, requestIn, requestMisfits, requestForbids, requestMeans, requestMode, requestContents, requestInterpreted, requestAgrees, requestMay, requestClear, RequestMatterFits, RequestFits}
 use Rattle.element.specs.Span.{spanIn, spanOctets, SpanFits}
 use Rattle.element.specs.declared.span.Span.{Span}
 use Rattle.element.specs.declared.measurement_request.Matter.{Matter}
 use Rattle.element.specs.declared.measurement_request.Request.{Request}
-use Rattle.element.proofs.Bits.{bit-value, weigh, four-bits}
+use Rattle.octets.proofs.Bits.{bit-value, weigh, four-bits}
 use Rattle.element.proofs.RequestLayout.{made}
 use Rattle.element.proofs.SpanTrip.{span-there, span-back, span-fits}
 

@@ -2,7 +2,7 @@
 use mathlib.Core.Path.{_≡_}
 use mathlib.Core.Bool.{Bool, true, not}
 use mathlib.Core.List.{List, [], _∷_}
-use Prim.Native.Nat.{ℕ, _/_, _%_, _^_}
+use Prim.Native.Nat.{ℕ}
 use lib.ListN.{length}
 use lib.Dec.{eqb}
 use Rattle.answer.specs.Checks.{Outcome, accepted, _⇒_, judged}
@@ -19,10 +19,6 @@ fixed n recordIn forbids c =
 -- the octets of an element
 abbrev pub element : ℕ → List ℕ → List ℕ
 element id contents = id ∷ length contents ∷ contents
-
--- a bit of an octet
-abbrev pub bit : ℕ → ℕ → Bool
-bit i o = eqb (o / 2 ^ i % 2) 1
 
 -- Demand 2 for one element. `means` is what its contents say, `contents` are a record's octets, `may` says which records may be
 -- written, `Fits` that a record's fields fit their types, `interpreted` that it holds no uninterpreted contents, and `clear`

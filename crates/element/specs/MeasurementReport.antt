@@ -11,8 +11,8 @@ use Rattle.answer.specs.Checks.{Outcome, refused, accepted, pick, _⇒_, judged
 use Rattle.answer.specs.Sums.{sumOf}
 use Rattle.answer.specs.declared.Answer.{Answer}
 use Rattle.answer.specs.declared.Refusal.{Refusal}
-use Rattle.octets.specs.Numbers.{octet, octetsFrom}
-use Rattle.element.specs.Elements.{element, bit}
+use Rattle.octets.specs.Numbers.{octet, octetsFrom, bit}
+use Rattle.element.specs.Elements.{element}
 use Rattle.element.specs.Span.{spanIn, spanOctets, spanForbids, SpanFits, noSpan}
 use Rattle.element.specs.declared.measurement_report.Matter.{Matter}
 use Rattle.element.specs.declared.measurement_report.Reading.{Reading}

@@ -7,8 +7,8 @@ use lib.ListN.{length}
 use lib.Dec.{ltb, leb, eqb}
 use Rattle.answer.specs.Checks.{Outcome, refused, accepted, pick, _⇒_, judged}
 use Rattle.answer.specs.declared.Refusal.{Refusal}
-use Rattle.octets.specs.Numbers.{octet}
-use Rattle.element.specs.Elements.{element, bit}
+use Rattle.octets.specs.Numbers.{octet, bit}
+use Rattle.element.specs.Elements.{element}
 use Rattle.element.specs.Span.{spanIn, spanOctets, spanForbids, SpanFits, noSpan}
 use Rattle.element.specs.declared.measurement_request.Matter.{Matter}
 use Rattle.element.specs.declared.measurement_request.Reading.{Reading}

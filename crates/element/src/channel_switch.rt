@@ -46,9 +46,16 @@ pub fn read(contents: &[u8]) -> Reading
     Reading::Is(switch)
 }
 
+// What the reader would refuse may not be written.
+pub fn may_write(switch: ChannelSwitch) -> bool
+    ensures { λ r. ⌜ r ≡ switchMay switch ⌝ }
+{
+    !is_forbidden(switch)
+}
+
 pub fn write(switch: ChannelSwitch, buffer: &mut [u8], at: usize) -> Wrote
     ensures { λ r. ⌜ Written (switchMay switch) (switchOctets switch) at (now (buffer .entry)) r (now (buffer .exit)) ⌝ }
 {
     let element = [ID, 3, switch.mode, switch.channel, switch.count];
-    octets::put(!is_forbidden(switch), &element, buffer, at)
+    octets::put(may_write(switch), &element, buffer, at)
 }

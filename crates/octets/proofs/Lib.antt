@@ -1,3 +1,4 @@
+pub mod Bits
 pub mod JoinSplit
 pub mod Overwriting
 pub mod TwosComplement

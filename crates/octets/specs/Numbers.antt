@@ -1,7 +1,9 @@
 -- Octets in a list, and numbers of any width with the least significant octet first (01, the octet order of the base
 -- standard).
+use mathlib.Core.Bool.{Bool}
 use mathlib.Core.List.{List, [], _∷_}
-use Prim.Native.Nat.{ℕ, zero, suc, _+_, _*_, _/_, _%_, _<_}
+use Prim.Native.Nat.{ℕ, zero, suc, _+_, _*_, _/_, _%_, _<_, _^_}
+use lib.Dec.{eqb}
 use lib.ListN.{getD}
 
 -- a list of octets
@@ -30,3 +32,7 @@ octetsFrom (suc k) i os = octet i os ∷ octetsFrom k (i + 1) os
 -- the number of k octets from a place on
 abbrev pub number : ℕ → ℕ → List ℕ → ℕ
 number k i os = join (octetsFrom k i os)
+
+-- a bit of an octet
+abbrev pub bit : ℕ → ℕ → Bool
+bit i o = eqb (o / 2 ^ i % 2) 1

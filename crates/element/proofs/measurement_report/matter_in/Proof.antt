@@ -1,6 +1,6 @@
 -- `measurement_report::matter_in` meets its contract: the tests on the mode, in their order.
 use borrow.Author.Tests.{eq-eqb, ne-eqb}
-use Rattle.element.proofs.Bits.{low-bit}
+use Rattle.octets.proofs.Bits.{low-bit}
 use borrow.Author.Needs.{needs}
 use Rattle.element.proofs.measurement_report.matter_in.Statement.{statement}
 use Rattle.element.proofs.measurement_report.matter_in.Tie as tie

@@ -6,7 +6,7 @@ use native.Mathlib.Omega.{arith}
 use borrow.Author.Tests.{eqb-true, eqb-false}
 use lib.Dec.{eqb}
 use Rattle.answer.specs.Checks.{pick}
-use Rattle.element.specs.Elements.{bit}
+use Rattle.octets.specs.Numbers.{bit}
 
 -- a bit by its test
 pub bit-value : (n : ℕ) (b : Bool) → eqb (n % 2) 1 ≡ b → n % 2 ≡ pick b 1 0

@@ -1,0 +1,41 @@
+-- How an action body begins (01, "Order": category present (1), category (5), action present (1), action (5), token present (1),
+-- token value (9)). Action 4 has no token; token 0 is forbidden in actions 0 and 2.
+use mathlib.Core.Bool.{Bool, not, _&&_, _||_}
+use mathlib.Core.List.{List, [], _∷_}
+use Prim.Native.Nat.{ℕ}
+use lib.Dec.{ltb, eqb}
+use lib.ListN.{length}
+use Rattle.answer.specs.Checks.{Outcome, refused, accepted, pick, _⇒_, checked, judged}
+use Rattle.answer.specs.declared.Refusal.{Refusal}
+use Rattle.octets.specs.Numbers.{octet}
+use Rattle.action.specs.declared.opening.Opening.{Opening}
+
+pub data Opens : Type 0 where
+  -- action 4
+  switching : Opens
+  -- another action, and its token
+  with : ℕ → ℕ → Opens
+
+-- the outcome that each case of the answer stands for
+abbrev pub openingTold : Opening → Outcome Opens
+openingTold (Opening.Refused r) = refused r
+openingTold Opening.Switch = accepted switching
+openingTold (Opening.Token a t) = accepted (with a t)
+
+abbrev pub needsToken : ℕ → Bool
+needsToken action = eqb action 0 || eqb action 2
+
+unfoldable pub opensWith : List ℕ → Outcome Opens
+opensWith body =
+    checked
+    (ltb (length body) 1 ⇒ Refusal.TooShort
+    ∷ not (eqb (octet 0 body) 0) ⇒ Refusal.ForeignAction
+    ∷ ltb (length body) 2 ⇒ Refusal.TooShort
+    ∷ ltb 4 (octet 1 body) ⇒ Refusal.ForeignAction
+    ∷ [])
+    (pick (eqb (octet 1 body) 4) (accepted switching)
+    (judged
+    (ltb (length body) 3 ⇒ Refusal.TooShort
+    ∷ (needsToken (octet 1 body) && eqb (octet 2 body) 0) ⇒ Refusal.ForbiddenValue
+    ∷ [])
+    (with (octet 1 body) (octet 2 body))))

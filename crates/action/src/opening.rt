@@ -1,0 +1,52 @@
+// The fixed fields of an action body: category, action and, but for action 4, a dialog token.
+ghost use mathlib.Core.Path.{_≡_};
+ghost use Rattle.action.specs.Openings.{needsToken, openingTold, opensWith};
+use answer::Refusal;
+
+// How a body begins: with no token (action 4), or with an action below 4 and its token.
+pub enum Opening {
+    Refused(Refusal),
+    Switch,
+    Token { action: u8, token: u8 },
+}
+
+// Token 0 is for reports alone, so not for actions 0 and 2.
+fn needs_token(action: u8) -> bool
+    ensures { λ r. ⌜ r ≡ needsToken action ⌝ }
+{
+    if action == 0 {
+        return true;
+    }
+    action == 2
+}
+
+pub fn open(body: &[u8]) -> Opening
+    ensures { λ r. ⌜ openingTold r ≡ opensWith (now (body .entry)) ⌝ }
+{
+    if body.len() < 1 {
+        return Opening::Refused(Refusal::TooShort);
+    }
+    if body[0] != 0 {
+        return Opening::Refused(Refusal::ForeignAction);
+    }
+    if body.len() < 2 {
+        return Opening::Refused(Refusal::TooShort);
+    }
+    let action = body[1];
+    if 4 < action {
+        return Opening::Refused(Refusal::ForeignAction);
+    }
+    if action == 4 {
+        return Opening::Switch;
+    }
+    if body.len() < 3 {
+        return Opening::Refused(Refusal::TooShort);
+    }
+    let token = body[2];
+    if needs_token(action) {
+        if token == 0 {
+            return Opening::Refused(Refusal::ForbiddenValue);
+        }
+    }
+    Opening::Token { action, token }
+}
