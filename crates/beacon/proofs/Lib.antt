@@ -1,0 +1,5 @@
+pub mod Saying
+pub mod Slots
+pub mod Steps
+pub mod Taking
+pub mod Witness

@@ -1,0 +1,81 @@
+-- What the definitions say of single bodies. Assumes nothing.
+use mathlib.Core.Path.{_≡_, refl, ap}
+use mathlib.Core.List.{List, [], _∷_, _++_}
+use Prim.Native.Nat.{ℕ, zero, suc}
+use native.Mathlib.Omega.{arith}
+use lib.ListN.{replicate}
+use Rattle.answer.specs.Checks.{Outcome, refused, accepted, checked}
+use Rattle.answer.specs.declared.Refusal.{Refusal}
+use Rattle.element.specs.Elements.{fixed}
+use Rattle.element.specs.Quiet.{quietMeans, quietOctets}
+use Rattle.element.specs.declared.quiet.Quiet.{Quiet}
+use Rattle.walk.specs.Elements.{elementsBehind, elementsIn}
+use Rattle.beacon.specs.Beacons.{Said, Told, nothing, takes, says, beaconMeans}
+use Rattle.beacon.specs.Laid.{noQuiet, laid}
+use Rattle.beacon.specs.declared.Heard.{Heard}
+use Rattle.beacon.specs.declared.MaybePower.{MaybePower}
+use Rattle.beacon.specs.declared.MaybeReport.{MaybeReport}
+use Rattle.beacon.specs.declared.MaybeSwitch.{MaybeSwitch}
+
+-- a body with timestamp 0, interval 100 and a capability of one octet, and what it tells
+abbrev body : ℕ → List ℕ → List ℕ
+body capability elements = replicate 8 0 ++ (100 ∷ 0 ∷ capability ∷ 0 ∷ elements)
+
+abbrev tells : ℕ → Said → Told
+tells capability said = record { timestamp = 0; capability = capability; said = said }
+
+abbrev quietly : List Quiet → Said
+quietly qs = record { power = MaybePower.Absent; report = MaybeReport.Absent; switch = MaybeSwitch.Absent; quiets = qs }
+
+-- a Quiet element by its count, n of them with the counts n to 1, and their octets
+abbrev quietIn : ℕ → Quiet
+quietIn n = record { count = n; period = 0; duration = 10; offset = 20 }
+
+abbrev several : ℕ → List Quiet
+several zero = []
+several (suc n) = quietIn (suc n) ∷ several n
+
+abbrev octetsOf : List Quiet → List ℕ
+octetsOf [] = []
+octetsOf (q ∷ qs) = quietOctets q ++ octetsOf qs
+
+-- 12 octets and no element: accepted, and nothing is said
+pub bare : beaconMeans 100 (body 1 []) ≡ accepted (tells 1 nothing)
+unfolding beaconMeans checked says elementsIn elementsBehind
+bare = refl
+
+-- 11 octets: too short
+pub short : beaconMeans 100 (replicate 11 0) ≡ refused Refusal.TooShort
+unfolding beaconMeans checked
+short = refl
+
+-- another interval
+pub other : beaconMeans 101 (body 1 []) ≡ refused Refusal.OtherInterval
+unfolding beaconMeans checked
+other = refl
+
+-- two different Quiet elements: both are kept, in their order
+pub two-quiets : beaconMeans 100 (body 1 (octetsOf (quietIn 3 ∷ quietIn 5 ∷ []))) ≡ accepted (tells 1 (quietly (quietIn 3 ∷ quietIn 5 ∷ [])))
+unfolding beaconMeans checked says takes elementsIn elementsBehind quietMeans fixed quietOctets
+two-quiets = refl
+
+-- as the reader hands them out
+pub two-slots : laid (beaconMeans 100 (body 1 (octetsOf (quietIn 3 ∷ quietIn 5 ∷ [])))) .quiets ≡ quietIn 3 ∷ quietIn 5 ∷ replicate 6 noQuiet
+two-slots = ap (λ (o : Outcome Told). laid o .quiets) two-quiets
+
+-- eight are kept
+pub eight-quiets : beaconMeans 100 (body 1 (octetsOf (several 8))) ≡ accepted (tells 1 (quietly (several 8)))
+unfolding beaconMeans checked says takes elementsIn elementsBehind quietMeans fixed quietOctets
+eight-quiets = refl
+
+-- a ninth is refused
+pub nine-quiets : beaconMeans 100 (body 1 (octetsOf (several 9))) ≡ refused Refusal.TooManyQuiets
+unfolding beaconMeans checked says takes elementsIn elementsBehind quietMeans fixed quietOctets
+nine-quiets = refl
+
+-- bodies that differ in one octet of the capability are told apart
+pub capability-counts : laid (beaconMeans 100 (body 0 [])) ≡ laid (beaconMeans 100 (body 1 [])) → ⊥
+unfolding beaconMeans checked says elementsIn elementsBehind
+capability-counts e =
+    let z : _≡_ {A = ℕ} 0 1 = ap (λ (h : Heard). h .notice .capability) e in
+    omega arith
