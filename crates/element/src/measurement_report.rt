@@ -1,8 +1,9 @@
 // Element 39, Measurement Report (7.3.2.22).
 ghost use mathlib.Core.Path.{_≡_};
+ghost use Prim.Native.Nat.{_≤_};
 ghost use lib.ListN.{length, take};
 ghost use Rattle.octets.specs.Writing.{Written};
-ghost use Rattle.element.specs.MeasurementReport.{reportFlags, reportMeasured, reportMatterIn, densitiesIn, reportIn, reportMisfits, reportForbids, reportMeans, noReport, reportLaid, reportMode, reportSpan, reportLast, reportSize, reportAgrees, reportMay, reportOctets, silent};
+ghost use Rattle.element.specs.MeasurementReport.{reportFlags, reportMeasured, reportMatterIn, densitiesIn, reportIn, reportMisfits, reportForbids, reportMeans, noReport, reportLaid, reportMode, reportSpan, reportLast, reportSize, reportAgrees, reportMay, reportOctets, silent, reportInterpreted, mapClear, reportClear};
 use crate::span;
 use crate::span::Span;
 use answer::Answer;
@@ -154,7 +155,7 @@ fn is_forbidden(matter: Matter) -> bool
     }
 }
 
-fn refused(refusal: Refusal) -> Reading
+pub fn refused(refusal: Refusal) -> Reading
     ensures { λ r. ⌜ r ≡ record { answer = Answer.Refused refusal; report = noReport } ⌝ }
 {
     let densities = [0u8; 8];
@@ -188,6 +189,51 @@ pub fn read(contents: &[u8]) -> Reading
     Reading {
         answer: Answer::Accepted,
         report,
+    }
+}
+
+// Whether an octet behind the span has no reserved bit set: in a map, bits 5 to 7 are reserved.
+fn is_map_clear(matter: Matter, octet: u8) -> bool
+    ensures { λ r. ⌜ r ≡ mapClear matter octet ⌝ }
+{
+    match matter {
+        Matter::Late => true,
+        Matter::Incapable => true,
+        Matter::Refused => true,
+        Matter::Basic { span: _, map: _ } => octet < 32,
+        Matter::Cca { span: _, busy: _ } => true,
+        Matter::Rpi(_) => true,
+        Matter::Uninterpreted => true,
+    }
+}
+
+// Whether no reserved bit is set: in the mode, bits 3 to 7 are reserved, and in a map bits 5 to 7.
+pub fn is_clear(contents: &[u8]) -> bool
+    ensures { λ r. ⌜ r ≡ reportClear (now (contents .entry)) ⌝ }
+{
+    let mode = octets::octet_at(contents, 1);
+    if mode < 8 {
+        let kind = octets::octet_at(contents, 2);
+        let matter = matter_in(contents, mode, kind);
+        let last = octets::octet_at(contents, 14);
+        return is_map_clear(matter, last);
+    }
+    false
+}
+
+// Whether nothing in the report is uninterpreted.
+pub fn is_interpreted(report: Report) -> bool
+    ensures { λ r. ⌜ r ≡ reportInterpreted report ⌝ }
+{
+    let matter = report.matter;
+    match matter {
+        Matter::Late => true,
+        Matter::Incapable => true,
+        Matter::Refused => true,
+        Matter::Basic { span: _, map: _ } => true,
+        Matter::Cca { span: _, busy: _ } => true,
+        Matter::Rpi(_) => true,
+        Matter::Uninterpreted => false,
     }
 }
 
@@ -287,7 +333,8 @@ fn is_silent(matter: Matter, densities: [u8; 8]) -> bool
     sum == 0
 }
 
-fn may_write(report: Report) -> bool
+// Whether the reader would take the report back, and nothing in it is uninterpreted.
+pub fn may_write(report: Report) -> bool
     ensures { λ r. ⌜ r ≡ reportMay report ⌝ }
 {
     let matter = report.matter;
@@ -302,7 +349,7 @@ fn may_write(report: Report) -> bool
 }
 
 // The element's octets, and behind those of a shorter report some that are not written.
-fn to_octets(report: Report) -> [u8; 24]
+pub fn to_octets(report: Report) -> [u8; 24]
     ensures { λ r. ⌜ (length r ≡ 24) × (take (length (reportOctets report)) r ≡ reportOctets report) ⌝ }
 {
     let matter = report.matter;
@@ -337,6 +384,14 @@ fn to_octets(report: Report) -> [u8; 24]
         d[6],
         d[7],
     ]
+}
+
+// How many octets the element has, with its ID and its length.
+pub fn octet_count(report: Report) -> usize
+    ensures { λ r. ⌜ (r ≡ length (reportOctets report)) × (r ≤ 24) ⌝ }
+{
+    let matter = report.matter;
+    2 + (size_of(matter) as usize)
 }
 
 pub fn write(report: Report, buffer: &mut [u8], at: usize) -> Wrote

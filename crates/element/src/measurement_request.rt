@@ -1,8 +1,9 @@
 // Element 38, Measurement Request (7.3.2.21).
 ghost use mathlib.Core.Path.{_≡_};
+ghost use Prim.Native.Nat.{_≤_};
 ghost use lib.ListN.{length, take};
 ghost use Rattle.octets.specs.Writing.{Written};
-ghost use Rattle.element.specs.MeasurementRequest.{requestTold, requestMatterIn, requestIn, requestMisfits, requestForbids, requestMeans, requestMode, requestSpan, requestSize, requestAgrees, requestMay, requestOctets};
+ghost use Rattle.element.specs.MeasurementRequest.{requestTold, requestMatterIn, requestIn, requestMisfits, requestForbids, requestMeans, requestMode, requestSpan, requestSize, requestAgrees, requestMay, requestOctets, requestInterpreted, requestClear};
 use crate::span;
 use crate::span::Span;
 use answer::Refusal;
@@ -107,6 +108,35 @@ pub fn read(contents: &[u8]) -> Reading
     Reading::Is(request)
 }
 
+// Whether no reserved bit is set: with Enable all bits of the mode but 1 to 3 are reserved, and without it all but bit 1.
+pub fn is_clear(contents: &[u8]) -> bool
+    ensures { λ r. ⌜ r ≡ requestClear (now (contents .entry)) ⌝ }
+{
+    let mode = octets::octet_at(contents, 1);
+    if mode / 2 % 2 == 1 {
+        if mode % 2 == 0 {
+            return mode < 16;
+        }
+        return false;
+    }
+    mode == 0
+}
+
+// Whether nothing in the request is uninterpreted.
+pub fn is_interpreted(request: Request) -> bool
+    ensures { λ r. ⌜ r ≡ requestInterpreted request ⌝ }
+{
+    let matter = request.matter;
+    match matter {
+        Matter::Enable {
+            request: _,
+            report: _,
+        } => true,
+        Matter::Measure(_) => true,
+        Matter::Uninterpreted => false,
+    }
+}
+
 // Enable, with Request (4) and Report (8) as they are given.
 fn enable_mode(request: bool, report: bool) -> u8
     ensures { λ r. ⌜ r ≡ requestMode (Matter.Enable request report) ⌝ }
@@ -176,7 +206,8 @@ fn agrees(matter: Matter, kind: u8) -> bool
     }
 }
 
-fn may_write(request: Request) -> bool
+// Whether the reader would take the request back, and nothing in it is uninterpreted.
+pub fn may_write(request: Request) -> bool
     ensures { λ r. ⌜ r ≡ requestMay request ⌝ }
 {
     if is_forbidden(request) {
@@ -187,7 +218,7 @@ fn may_write(request: Request) -> bool
 }
 
 // The element's octets, and behind those of an Enable element some that are not written.
-fn to_octets(request: Request) -> [u8; 16]
+pub fn to_octets(request: Request) -> [u8; 16]
     ensures { λ r. ⌜ (length r ≡ 16) × (take (length (requestOctets request)) r ≡ requestOctets request) ⌝ }
 {
     let matter = request.matter;
@@ -212,6 +243,14 @@ fn to_octets(request: Request) -> [u8; 16]
         s[9],
         s[10],
     ]
+}
+
+// How many octets the element has, with its ID and its length.
+pub fn octet_count(request: Request) -> usize
+    ensures { λ r. ⌜ (r ≡ length (requestOctets request)) × (r ≤ 16) ⌝ }
+{
+    let matter = request.matter;
+    2 + (size_of(matter) as usize)
 }
 
 pub fn write(request: Request, buffer: &mut [u8], at: usize) -> Wrote

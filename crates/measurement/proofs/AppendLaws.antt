@@ -1,0 +1,106 @@
+-- The ways through the test whether a record may be written behind what is there. Assumes nothing.
+use mathlib.Core.Path.{_≡_, refl, sym, ap, _∙_}
+use mathlib.Core.Bool.{Bool, true, false, not, _&&_}
+use mathlib.Core.List.{List}
+use Prim.Native.Nat.{ℕ, _-_, _≤_}
+use borrow.Author.Tests.{eq-eqb, ne-eqb, ltb-true}
+use lib.Dec.{ltb}
+use lib.ListN.{length, take, drop, length-drop}
+use lib.Seq.{take-length}
+use Rattle.answer.specs.Checks.{Outcome, refused, accepted}
+use Rattle.answer.proofs.Booleans.{both}
+use Rattle.element.specs.declared.measurement_report.Report.{Report}
+use Rattle.element.specs.declared.measurement_request.Request.{Request}
+use Rattle.walk.specs.Elements.{elementsIn}
+use Rattle.measurement.specs.Bodies.{begins, joins, mayAppend}
+use Rattle.measurement.specs.Lists.{Sort, recordsIn, allClear, allInterpreted}
+use Rattle.measurement.specs.Reports.{reportSort}
+use Rattle.measurement.specs.Requests.{requestSort, used}
+use Rattle.measurement.specs.Surveys.{requestsSurveyed, reportsSurveyed}
+use Rattle.measurement.specs.declared.reports.Surveyed as Reports
+use Rattle.measurement.specs.declared.requests.Surveyed as Requests
+
+-- behind three tests that hold, the fourth decides
+pub last-test : (a b c d : Bool) → a ≡ true → b ≡ true → c ≡ true → d ≡ (a && (b && (c && d)))
+last-test a b c d p q r = simp (p, q, r)
+
+-- what begins a body has its first three octets
+pub three : (action token : ℕ) (there : List ℕ) → begins action token there ≡ true → 3 ≤ length there
+three action token there h = ltb-true 2 (length there) (both (ltb 2 (length there)) _ h .0)
+
+module _ {A : Type 0} (s : Sort A) (action token : ℕ) (a : A) (start : Bool) (there : List ℕ) where
+  pub not-may : s .may a ≡ false → false ≡ mayAppend s action token a start there
+  unfolding mayAppend
+  not-may h = simp h
+
+  module _ (may : s .may a ≡ true) where
+    pub no-start : start ≡ false → false ≡ mayAppend s action token a start there
+    unfolding mayAppend
+    no-start h = simp (may, h)
+
+    module _ (starts : start ≡ true) where
+      pub empty : length there ≡ 0 → true ≡ mayAppend s action token a start there
+      unfolding mayAppend
+      empty h = simp (may, starts, eq-eqb (length there) 0 h)
+
+      module _ (some : length there ≡ 0 → ⊥) where
+        -- with some octets there, what is left to test
+        rest : mayAppend s action token a start there
+            ≡ (begins action token there && (allClear s (elementsIn (drop 3 there)) && joins s a (recordsIn s (drop 3 there))))
+        unfolding mayAppend
+        rest = simp (may, starts, ne-eqb (length there) 0 some)
+
+        pub not-begun : begins action token there ≡ false → false ≡ mayAppend s action token a start there
+        not-begun h =
+            sym (rest ∙ ap (λ (b : Bool). b && (allClear s (elementsIn (drop 3 there)) && joins s a (recordsIn s (drop 3 there)))) h)
+
+        pub begun : begins action token there ≡ true
+            → (allClear s (elementsIn (drop 3 there)) && joins s a (recordsIn s (drop 3 there))) ≡ mayAppend s action token a start there
+        begun h =
+            sym (rest ∙ ap (λ (b : Bool). b && (allClear s (elementsIn (drop 3 there)) && joins s a (recordsIn s (drop 3 there)))) h)
+
+-- ---- what the survey of a run says of a record that is to join it
+
+and-false : (b : Bool) → (b && false) ≡ false
+and-false true = refl
+and-false false = refl
+
+and-assoc : (a b c : Bool) → (a && (b && c)) ≡ (a && b && c)
+and-assoc true b c = refl
+and-assoc false b c = refl
+
+and-true : (b : Bool) → (b && true) ≡ b
+and-true true = refl
+and-true false = refl
+
+-- what lies behind the first three octets, as the code lends it
+abbrev behind : List ℕ → List ℕ
+behind there = take (length there - 3) (drop 3 there)
+
+behind-all : (there : List ℕ) → behind there ≡ drop 3 there
+behind-all there = ap (λ (n : ℕ). take n (drop 3 there)) (sym (length-drop 3 there)) ∙ take-length (drop 3 there)
+
+pub request-joins : (q : Request) (there : List ℕ) {x : Requests.Surveyed}
+    → x ≡ requestsSurveyed 0 (q .token) (allClear requestSort (elementsIn (behind there))) (recordsIn requestSort (behind there))
+    → (x .plain && not (x .hit)) ≡ (allClear requestSort (elementsIn (drop 3 there)) && joins requestSort q (recordsIn requestSort (drop 3 there)))
+request-joins q there e =
+    ap (λ (x : Requests.Surveyed). x .plain && not (x .hit)) e
+    ∙ by (allClear requestSort (elementsIn (behind there))) (recordsIn requestSort (behind there))
+    ∙ ap (λ (run : List ℕ). allClear requestSort (elementsIn run) && joins requestSort q (recordsIn requestSort run)) (behind-all there)
+  where
+    by : (clear : Bool) (o : Outcome (List Request))
+        → (requestsSurveyed 0 (q .token) clear o .plain && not (requestsSurveyed 0 (q .token) clear o .hit)) ≡ (clear && joins requestSort q o)
+    by clear (refused r) = sym (and-false clear)
+    by clear (accepted l) = sym (and-assoc clear (allInterpreted requestSort l) (not (used (q .token) l)))
+
+pub report-joins : (p : Report) (there : List ℕ) {x : Reports.Surveyed}
+    → x ≡ reportsSurveyed 0 (allClear reportSort (elementsIn (behind there))) (recordsIn reportSort (behind there))
+    → x .plain ≡ (allClear reportSort (elementsIn (drop 3 there)) && joins reportSort p (recordsIn reportSort (drop 3 there)))
+report-joins p there e =
+    ap (λ (x : Reports.Surveyed). x .plain) e
+    ∙ by (allClear reportSort (elementsIn (behind there))) (recordsIn reportSort (behind there))
+    ∙ ap (λ (run : List ℕ). allClear reportSort (elementsIn run) && joins reportSort p (recordsIn reportSort run)) (behind-all there)
+  where
+    by : (clear : Bool) (o : Outcome (List Report)) → reportsSurveyed 0 clear o .plain ≡ (clear && joins reportSort p o)
+    by clear (refused r) = sym (and-false clear)
+    by clear (accepted l) = ap (λ (b : Bool). clear && b) (sym (and-true (allInterpreted reportSort l)))

@@ -1,0 +1,13 @@
+pub mod AppendAll
+pub mod AppendLaws
+pub mod Lending
+pub mod ListTrip
+pub mod Marking
+pub mod OneCall
+pub mod ReportLists
+pub mod RequestLists
+pub mod RunLaws
+pub mod StepCases
+pub mod Stepping
+pub mod SurveyLaws
+pub mod Walked

@@ -1,0 +1,48 @@
+-- From the walk to the survey, for requests and for reports. Assumes nothing.
+use mathlib.Core.Path.{_≡_, sym, ap, _∙_}
+use mathlib.Core.Bool.{Bool, true, false}
+use mathlib.Core.List.{List}
+use Prim.Native.Nat.{ℕ, _<_, _≤_}
+use lib.ListN.{length, getD}
+use Rattle.answer.specs.Checks.{Outcome, refused}
+use Rattle.answer.specs.declared.Answer.{Answer}
+use Rattle.answer.specs.declared.Refusal.{Refusal}
+use Rattle.element.specs.MeasurementReport.{reportLaid}
+use Rattle.element.specs.declared.measurement_report.Reading as ReportReading
+use Rattle.element.specs.declared.measurement_report.Report.{Report}
+use Rattle.element.specs.declared.measurement_request.Reading as RequestReading
+use Rattle.element.specs.declared.measurement_request.Request.{Request}
+use Rattle.walk.specs.Elements.{elementsIn}
+use Rattle.measurement.specs.Lists.{recordsIn, allClear}
+use Rattle.measurement.specs.Reports.{reportSort}
+use Rattle.measurement.specs.Requests.{requestSort}
+use Rattle.measurement.specs.Surveys.{requestRead, requestsSurveyed, reportsSurveyed}
+use Rattle.measurement.specs.declared.reports.Surveyed as Reports
+use Rattle.measurement.specs.declared.requests.Surveyed as Requests
+use Rattle.measurement.proofs.Marking.{Marked}
+use Rattle.measurement.proofs.Walked.{Walked, all-read, all-clear}
+
+-- ---- a refusal
+
+pub requests-refused : (index token : ℕ) (clear : Bool) (o : Outcome (List Request)) {x : Requests.Surveyed} {r : Refusal}
+    → x ≡ requestsSurveyed 0 0 true (refused r) → o ≡ refused r → x ≡ requestsSurveyed index token clear o
+requests-refused index token clear o h e = h ∙ sym (ap (requestsSurveyed index token clear) e)
+
+pub reports-refused : (index : ℕ) (clear : Bool) (o : Outcome (List Report)) {x : Reports.Surveyed} {r : Refusal}
+    → x ≡ reportsSurveyed 0 true (refused r) → o ≡ refused r → x ≡ reportsSurveyed index clear o
+reports-refused index clear o h e = h ∙ sym (ap (reportsSurveyed index clear) e)
+
+-- ---- the end of the run
+
+module _ {run : List ℕ} {index count at : ℕ} {plain : Bool} (past : length run ≤ at) (some : count ≡ 0 → ⊥) where
+  pub requests-read : {held : RequestReading.Reading} {before : List Request} {marks : List Bool}
+      → Walked requestSort requestRead run index count at held plain before → Marked marks before → (token : ℕ) → token < 256
+      → record { answer = Answer.Accepted; count = count; held = held; hit = getD marks token false; plain = plain }
+      ≡ requestsSurveyed index token (allClear requestSort (elementsIn run)) (recordsIn requestSort run)
+  requests-read w m token b =
+      rw (all-read w past some, all-clear w past, w .counted, w .kept, w .plainly, m .at token b)
+
+  pub reports-read : {held : ReportReading.Reading} {before : List Report} → Walked reportSort reportLaid run index count at held plain before
+      → record { answer = Answer.Accepted; count = count; held = held; plain = plain }
+      ≡ reportsSurveyed index (allClear reportSort (elementsIn run)) (recordsIn reportSort run)
+  reports-read w = rw (all-read w past some, all-clear w past, w .counted, w .kept, w .plainly)

@@ -1,0 +1,51 @@
+-- `reports::may_append` meets its contract: the tests, in their order, and what the survey says of what is there.
+use mathlib.Core.Path.{refl, sym, _∙_}
+use mathlib.Core.Bool.{true}
+use borrow.Author.Tests.{not-true, not-false}
+use Rattle.measurement.specs.Reports.{reportSort}
+use Rattle.measurement.proofs.AppendLaws.{three, not-may, empty, not-begun, begun, report-joins}
+use borrow.Author.Needs.{needs}
+use Rattle.measurement.proofs.reports.may_append.Statement.{statement}
+use Rattle.measurement.proofs.reports.may_append.Tie as tie
+
+returns : tie.Need-returns
+returns c =
+    let a = c .before .before .before .args in
+    not-may reportSort 1 (a .token) (a .report) true (a .there .now) (sym (c .before .may-write .ensures) ∙ not-true _ (c .if1 .taken))
+
+returns-2 : tie.Need-returns-2
+returns-2 c =
+    let a = c .before .before .before .before .args in
+    empty reportSort 1 (a .token) (a .report) true (a .there .now) (sym (c .before .before .may-write .ensures) ∙ not-false _ (c .before .if1 .left)) refl (c .if2 .taken)
+
+returns-3 : tie.Need-returns-3
+returns-3 c =
+    let a = c .before .before .before .before .before .before .args in
+    not-begun reportSort 1 (a .token) (a .report) true (a .there .now) (sym (c .before .before .before .before .may-write .ensures) ∙ not-false _ (c .before .before .before .if1 .left)) refl (c .before .before .if2 .left) (sym (c .before .is-begun .ensures) ∙ not-true _ (c .if3 .taken))
+
+sub-survey : tie.Need-sub-survey
+sub-survey c = three 1 (c .before .before .before .before .before .before .args .token) (c .before .before .before .before .before .before .args .there .now) (sym (c .before .is-begun .ensures) ∙ not-false _ (c .if3 .left))
+
+part-survey-start : tie.Need-part-survey-start
+part-survey-start c = three 1 (c .before .before .before .before .before .before .args .token) (c .before .before .before .before .before .before .args .there .now) (sym (c .before .is-begun .ensures) ∙ not-false _ (c .if3 .left))
+
+returns-4 : tie.Need-returns-4
+returns-4 c =
+    let a = c .before .before .before .before .before .before .before .before .args in
+    report-joins (a .report) (a .there .now) (c .survey .ensures)
+    ∙ begun reportSort 1 (a .token) (a .report) true (a .there .now) (sym (c .before .before .before .before .before .before .may-write .ensures) ∙ not-false _ (c .before .before .before .before .before .if1 .left)) refl (c .before .before .before .before .if2 .left) (sym (c .before .before .before .is-begun .ensures) ∙ not-false _ (c .before .before .if3 .left))
+
+pub may-append-spec : {M : Type 1} → statement M
+may-append-spec =
+    tie.close
+    (tie.spec
+    (λ c κs. search needs)
+    returns
+    returns-2
+    (λ c κs. search needs)
+    returns-3
+    sub-survey
+    part-survey-start
+    (λ c. search needs)
+    (λ c κs. search needs)
+    returns-4)

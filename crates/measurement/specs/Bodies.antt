@@ -1,0 +1,44 @@
+-- Bodies of one or more measurement elements, written one element at a time (01, "Octets": 0, action, token, elements). What is
+-- there already is a body of the same action and token with nothing uninterpreted and no reserved bit set, or nothing.
+use mathlib.Core.Path.{_≡_}
+use mathlib.Core.Bool.{Bool, false, not, _&&_, _||_}
+use mathlib.Core.List.{List, [], _∷_, _++_}
+use Prim.Native.Nat.{ℕ, _≤_}
+use lib.Dec.{ltb, eqb}
+use lib.ListN.{length, take, drop}
+use Rattle.answer.specs.Checks.{Outcome, refused, accepted, pick}
+use Rattle.octets.specs.Numbers.{octet}
+use Rattle.walk.specs.Elements.{elementsIn}
+use Rattle.measurement.specs.Lists.{Sort, recordsIn, allClear, allInterpreted, allOctets}
+
+-- a body's octets
+abbrev pub bodyOctets : {A : Type 0} → Sort A → ℕ → ℕ → List A → List ℕ
+bodyOctets s action token xs = (0 ∷ action ∷ token ∷ []) ++ allOctets s xs
+
+-- whether what is there begins a body of this action and token
+abbrev pub begins : ℕ → ℕ → List ℕ → Bool
+begins action token there =
+    ltb 2 (length there) && (eqb (octet 0 there) 0 && (eqb (octet 1 there) action && eqb (octet 2 there) token))
+
+-- whether the record may stand behind those of a run
+abbrev pub joins : {A : Type 0} → Sort A → A → Outcome (List A) → Bool
+joins s a (refused r) = false
+joins s a (accepted before) = allInterpreted s before && not (s .repeats a before)
+
+module _ {A : Type 0} (s : Sort A) (action token : ℕ) (a : A) where
+  -- whether the record may be written behind what is there; `start` says that the token may start a body
+  unfoldable pub mayAppend : Bool → List ℕ → Bool
+  mayAppend start there =
+      s .may a && (start &&
+      (eqb (length there) 0 || (begins action token there
+      && (allClear s (elementsIn (drop 3 there)) && joins s a (recordsIn s (drop 3 there))))))
+
+  -- the octets that are put behind what is there: with nothing there, the body's first three too
+  unfoldable pub appended : List ℕ → List ℕ
+  appended there = pick (eqb (length there) 0) (0 ∷ action ∷ token ∷ []) [] ++ s .octets a
+
+-- ---- the code's own term, which no public promise cites: octets that lie in front of others
+
+pub record Fronts (os bytes : List ℕ) : Type 0 where
+  pub fits : length os ≤ length bytes
+  pub front : take (length os) bytes ≡ os
