@@ -16,8 +16,8 @@ use Rattle.octets.specs.Writing.{wrote, left}
 use Rattle.walk.specs.Elements.{elementsIn}
 use Rattle.measurement.specs.Bodies.{bodyOctets, begins, mayAppend, appended}
 use Rattle.measurement.specs.Calls.{Buffer, behind, mayPut, appends}
-use Rattle.measurement.specs.Lists.{Sort, recordsIn, allClear, allInterpreted, allOctets, mayAll, mayList}
-use Rattle.measurement.proofs.ListTrip.{Trip, AllFit, first, may-first, list-there, list-known, list-clean, list-back, list-fits}
+use Rattle.measurement.specs.Lists.{AllFit, Sort, recordsIn, allClear, allInterpreted, allOctets, mayAll, mayList}
+use Rattle.measurement.proofs.ListTrip.{Trip, first, may-first, list-there, list-known, list-clean, list-back, list-fits}
 use Rattle.measurement.proofs.OneCall.{filled, filled-length, answers, leaves}
 
 module _ {A : Type 0} (s : Sort A) (Fits : A → Type 0) (t : Trip s Fits) (action token : ℕ) where

@@ -1,5 +1,5 @@
 -- The ways through the test whether a record may be written behind what is there. Assumes nothing.
-use mathlib.Core.Path.{_≡_, refl, sym, ap, _∙_}
+use mathlib.Core.Path.{_≡_, sym, ap, _∙_}
 use mathlib.Core.Bool.{Bool, true, false, not, _&&_}
 use mathlib.Core.List.{List}
 use Prim.Native.Nat.{ℕ, _-_, _≤_}
@@ -19,10 +19,7 @@ use Rattle.measurement.specs.Requests.{requestSort, used}
 use Rattle.measurement.specs.Surveys.{requestsSurveyed, reportsSurveyed}
 use Rattle.measurement.specs.declared.reports.Surveyed as Reports
 use Rattle.measurement.specs.declared.requests.Surveyed as Requests
-
--- behind three tests that hold, the fourth decides
-pub last-test : (a b c d : Bool) → a ≡ true → b ≡ true → c ≡ true → d ≡ (a && (b && (c && d)))
-last-test a b c d p q r = simp (p, q, r)
+use Rattle.measurement.proofs.Conjunctions.{and-true, and-false, and-assoc}
 
 -- what begins a body has its first three octets
 pub three : (action token : ℕ) (there : List ℕ) → begins action token there ≡ true → 3 ≤ length there
@@ -60,18 +57,6 @@ module _ {A : Type 0} (s : Sort A) (action token : ℕ) (a : A) (start : Bool) (
             sym (rest ∙ ap (λ (b : Bool). b && (allClear s (elementsIn (drop 3 there)) && joins s a (recordsIn s (drop 3 there)))) h)
 
 -- ---- what the survey of a run says of a record that is to join it
-
-and-false : (b : Bool) → (b && false) ≡ false
-and-false true = refl
-and-false false = refl
-
-and-assoc : (a b c : Bool) → (a && (b && c)) ≡ (a && b && c)
-and-assoc true b c = refl
-and-assoc false b c = refl
-
-and-true : (b : Bool) → (b && true) ≡ b
-and-true true = refl
-and-true false = refl
 
 -- what lies behind the first three octets, as the code lends it
 abbrev behind : List ℕ → List ℕ

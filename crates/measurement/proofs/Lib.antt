@@ -1,5 +1,6 @@
 pub mod AppendAll
 pub mod AppendLaws
+pub mod Conjunctions
 pub mod Lending
 pub mod ListTrip
 pub mod Marking

@@ -15,7 +15,7 @@ use Rattle.answer.proofs.Judged.{passed, kept}
 use Rattle.element.specs.Elements.{element, RoundTrip}
 use Rattle.octets.specs.Numbers.{Octets}
 use Rattle.walk.specs.Elements.{Elements, end, cutHeader, cutContents, more, elementsIn}
-use Rattle.measurement.specs.Lists.{Sort, listed, recordsIn, allClear, allInterpreted, allOctets, mayAll, mayList}
+use Rattle.measurement.specs.Lists.{AllFit, Sort, listed, recordsIn, allClear, allInterpreted, allOctets, mayAll, mayList}
 use Rattle.measurement.proofs.RunLaws.{front, none, split, empty, octets-front, octets-behind}
 
 -- what is asked of one element: demand 2, where its octets lie, and that what may be written is interpreted and clear
@@ -25,10 +25,6 @@ pub record Trip {A : Type 0} (s : Sort A) (Fits : A → Type 0) : Type 0 where
   pub laid : (a : A) → s .octets a ≡ element (s .id) (contents a)
   pub known : (a : A) → s .may a ≡ true → s .interpreted a ≡ true
   pub clean : (a : A) → s .may a ≡ true → s .clear (contents a) ≡ true
-
-abbrev pub AllFit : {A : Type 0} → (A → Type 0) → List A → Type 0
-AllFit Fits [] = Unit {0}
-AllFit Fits (a ∷ xs) = Fits a × AllFit Fits xs
 
 module _ {A : Type 0} (s : Sort A) (Fits : A → Type 0) (t : Trip s Fits) where
   -- what a list that may be written says of its first record

@@ -16,10 +16,10 @@ use Rattle.octets.specs.Numbers.{Octets}
 use Rattle.walk.specs.Elements.{elementsIn}
 use Rattle.measurement.specs.Bodies.{bodyOctets}
 use Rattle.measurement.specs.Calls.{appends}
-use Rattle.measurement.specs.Lists.{recordsIn, allClear, allInterpreted, allOctets, mayList}
+use Rattle.measurement.specs.Lists.{AllFit, recordsIn, allClear, allInterpreted, allOctets, mayList}
 use Rattle.measurement.specs.Requests.{requestSort}
 use Rattle.measurement.proofs.AppendAll.{append-all, append-back}
-use Rattle.measurement.proofs.ListTrip.{Trip, AllFit, list-there, list-back}
+use Rattle.measurement.proofs.ListTrip.{Trip, list-there, list-back}
 use Rattle.measurement.proofs.OneCall.{filled}
 
 agreed : (m : Matter) (k : ℕ) → requestAgrees m k ≡ true → requestMatterInterpreted m ≡ true

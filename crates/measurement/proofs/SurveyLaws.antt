@@ -1,6 +1,6 @@
 -- From the walk to the survey, for requests and for reports. Assumes nothing.
 use mathlib.Core.Path.{_≡_, sym, ap, _∙_}
-use mathlib.Core.Bool.{Bool, true, false}
+use mathlib.Core.Bool.{Bool, false}
 use mathlib.Core.List.{List}
 use Prim.Native.Nat.{ℕ, _<_, _≤_}
 use lib.ListN.{length, getD}
@@ -17,20 +17,13 @@ use Rattle.measurement.specs.Lists.{recordsIn, allClear}
 use Rattle.measurement.specs.Reports.{reportSort}
 use Rattle.measurement.specs.Requests.{requestSort}
 use Rattle.measurement.specs.Surveys.{requestRead, requestsSurveyed, reportsSurveyed}
-use Rattle.measurement.specs.declared.reports.Surveyed as Reports
-use Rattle.measurement.specs.declared.requests.Surveyed as Requests
 use Rattle.measurement.proofs.Marking.{Marked}
 use Rattle.measurement.proofs.Walked.{Walked, all-read, all-clear}
 
--- ---- a refusal
+-- ---- a refusal, for whatever is laid out of it
 
-pub requests-refused : (index token : ℕ) (clear : Bool) (o : Outcome (List Request)) {x : Requests.Surveyed} {r : Refusal}
-    → x ≡ requestsSurveyed 0 0 true (refused r) → o ≡ refused r → x ≡ requestsSurveyed index token clear o
-requests-refused index token clear o h e = h ∙ sym (ap (requestsSurveyed index token clear) e)
-
-pub reports-refused : (index : ℕ) (clear : Bool) (o : Outcome (List Report)) {x : Reports.Surveyed} {r : Refusal}
-    → x ≡ reportsSurveyed 0 true (refused r) → o ≡ refused r → x ≡ reportsSurveyed index clear o
-reports-refused index clear o h e = h ∙ sym (ap (reportsSurveyed index clear) e)
+pub refused-as : {B S : Type 0} (laid : Outcome B → S) (o : Outcome B) {x : S} {r : Refusal} → x ≡ laid (refused r) → o ≡ refused r → x ≡ laid o
+refused-as laid o h e = h ∙ sym (ap laid e)
 
 -- ---- the end of the run
 

@@ -12,6 +12,7 @@ use Rattle.answer.specs.declared.Refusal.{Refusal}
 use Rattle.walk.specs.Elements.{Elements, end, elementsBehind, elementsIn}
 use Rattle.measurement.specs.Lists.{Sort, listed, recordsIn, allClear, allInterpreted, nth}
 use Rattle.measurement.specs.Steps.{Stops, Onward}
+use Rattle.measurement.proofs.Conjunctions.{and-true, and-assoc, and-swap}
 
 -- ---- one record more
 
@@ -21,21 +22,6 @@ nth-snoc [] a zero = refl
 nth-snoc [] a (suc i) = simp (eqb·zero-suc i)
 nth-snoc (x ∷ l) a zero = simp (eqb·suc-zero (length l))
 nth-snoc (x ∷ l) a (suc i) = simp (eqb·suc-suc (length l) i) (nth-snoc l a i)
-
-and-true : (b : Bool) → (b && true) ≡ b
-and-true true = refl
-and-true false = refl
-
-and-assoc : (a b c : Bool) → (a && (b && c)) ≡ (a && b && c)
-and-assoc true b c = refl
-and-assoc false b c = refl
-
--- a record's bits and contents, behind those before it
-and-swap : (a l c x : Bool) → (a && l && (c && x)) ≡ (a && c && (l && x))
-and-swap true true c x = refl
-and-swap true false true x = refl
-and-swap true false false x = refl
-and-swap false l c x = refl
 
 pub interpreted-snoc : {A : Type 0} (s : Sort A) (l : List A) (a : A) → allInterpreted s (l ++ (a ∷ [])) ≡ (allInterpreted s l && s .interpreted a)
 unfolding allInterpreted

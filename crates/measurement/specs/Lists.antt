@@ -67,3 +67,8 @@ unfoldable pub nth : {A : Type 0} → ℕ → List A → Outcome A
 nth i [] = refused Refusal.Impossible
 nth zero (a ∷ xs) = accepted a
 nth (suc i) (a ∷ xs) = nth i xs
+
+-- each record's fields fit their types
+abbrev pub AllFit : {A : Type 0} → (A → Type 0) → List A → Type 0
+AllFit Fits [] = Unit {0}
+AllFit Fits (a ∷ xs) = Fits a × AllFit Fits xs

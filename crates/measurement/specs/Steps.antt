@@ -1,4 +1,4 @@
--- What stands at a place of a run says of the records from there on: the walk's own terms, which no public promise cites.
+-- What one step of the walk says of the records from a place on: the code's own terms, which no public promise cites.
 use mathlib.Core.Path.{_≡_}
 use mathlib.Core.Bool.{Bool, _&&_}
 use mathlib.Core.List.{List, [], _∷_, _++_}

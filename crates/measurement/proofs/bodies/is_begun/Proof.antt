@@ -1,6 +1,6 @@
 -- `bodies::is_begun` meets its contract: the tests, in their order.
 use borrow.Author.Tests.{le-ltb, lt-ltb, eq-eqb, ne-eqb}
-use Rattle.measurement.proofs.AppendLaws.{last-test}
+use Rattle.measurement.proofs.Conjunctions.{last-test}
 use borrow.Author.Needs.{needs}
 use Rattle.measurement.proofs.bodies.is_begun.Statement.{statement}
 use Rattle.measurement.proofs.bodies.is_begun.Tie as tie

@@ -1,5 +1,4 @@
--- `reports::survey` meets its contract. The loop's invariant: listing the rest behind the reports met so far is listing the whole.
--- The measure is what is left of the run.
+-- `reports::survey` meets its contract: listing the rest behind what was met is listing the whole.
 use mathlib.Core.Path.{refl}
 use mathlib.Core.List.{List, [], _∷_, _++_}
 use Prim.Native.Nat.{_-_}
@@ -9,8 +8,9 @@ use Rattle.element.specs.MeasurementReport.{reportLaid}
 use Rattle.element.specs.declared.measurement_report.Report.{Report}
 use Rattle.measurement.specs.Reports.{reportSort}
 use Rattle.measurement.specs.Steps.{Onward}
+use Rattle.measurement.specs.Surveys.{reportsSurveyed}
 use Rattle.measurement.proofs.StepCases.{report-step}
-use Rattle.measurement.proofs.SurveyLaws.{reports-refused, reports-read}
+use Rattle.measurement.proofs.SurveyLaws.{refused-as, reports-read}
 use Rattle.measurement.proofs.Walked.{Walked, start, stopped, further, no-record}
 use borrow.Author.Needs.{needs}
 use Rattle.measurement.proofs.reports.survey.Statement.{statement}
@@ -36,7 +36,7 @@ returns c =
     let a = c .before .before .before .before .before .before .before .before .before .before .before .args in
     let l = c .before .before .before .before .before .before .before .before .loop in
     let s = c .before .before .before .before .before .before .step-at in
-    reports-refused (a .index) _ _ (c .no-survey .ensures)
+    refused-as (reportsSurveyed (a .index) _) _ (c .no-survey .ensures)
     (stopped (l .inv .1) _ (report-step (a .run .now) (l .at) (s .result) (s .ensures) (c .before .before .answer .given .1)))
 
 add-count : tie.Need-add-count Inv-loop μ-loop
@@ -54,7 +54,7 @@ loop-again c =
 
 returns-2 : tie.Need-returns-2 Inv-loop μ-loop
 returns-2 c =
-    reports-refused (c .before .before .before .before .before .before .args .index) _ _ (c .no-survey2 .ensures)
+    refused-as (reportsSurveyed (c .before .before .before .before .before .before .args .index) _) _ (c .no-survey2 .ensures)
     (no-record (c .before .before .before .loop .inv .1) (c .before .before .loop-test .left) (c .before .if1 .taken))
 
 returns-3 : tie.Need-returns-3 Inv-loop μ-loop

@@ -1,5 +1,4 @@
--- `requests::survey` meets its contract. The loop's invariant: listing the rest behind the requests met so far is listing the
--- whole, and the marks are their tokens. The measure is what is left of the run.
+-- `requests::survey` meets its contract: listing the rest behind what was met is listing the whole, and the marks are its tokens.
 use mathlib.Core.Path.{sym, _∙_}
 use mathlib.Core.List.{List, [], _∷_, _++_}
 use Prim.Native.Nat.{_-_, _<_}
@@ -8,10 +7,10 @@ use lib.ListN.{length}
 use Rattle.element.specs.declared.measurement_request.Request.{Request}
 use Rattle.measurement.specs.Requests.{requestSort}
 use Rattle.measurement.specs.Steps.{Onward}
-use Rattle.measurement.specs.Surveys.{requestRead}
+use Rattle.measurement.specs.Surveys.{requestRead, requestsSurveyed}
 use Rattle.measurement.proofs.Marking.{Marked, none, one-more}
 use Rattle.measurement.proofs.StepCases.{request-step}
-use Rattle.measurement.proofs.SurveyLaws.{requests-refused, requests-read}
+use Rattle.measurement.proofs.SurveyLaws.{refused-as, requests-read}
 use Rattle.measurement.proofs.Walked.{Walked, start, stopped, repeated, further, no-record}
 use borrow.Author.Needs.{needs}
 use Rattle.measurement.proofs.requests.survey.Statement.{statement}
@@ -36,7 +35,7 @@ returns : tie.Need-returns Inv-loop μ-loop
 returns c =
     let a = c .before .before .before .before .before .before .before .before .args in
     let l = c .before .before .before .before .before .before .loop in
-    requests-refused (a .index) (a .token) _ _ (c .no-survey .ensures)
+    refused-as (requestsSurveyed (a .index) (a .token) _) _ (c .no-survey .ensures)
     (stopped (l .inv .1) _ (request-step (a .run .now) (l .at) (c .before .before .before .before .step-at .ensures) (c .before .before .refusal .given .1)))
 
 array-read-if1 : tie.Need-array-read-if1 Inv-loop μ-loop
@@ -46,7 +45,7 @@ returns-2 : tie.Need-returns-2 Inv-loop μ-loop
 returns-2 c =
     let a = c .before .before .before .before .before .before .before .before .before .before .args in
     let l = c .before .before .before .before .before .before .before .before .loop in
-    requests-refused (a .index) (a .token) _ _ (c .no-survey2 .ensures)
+    refused-as (requestsSurveyed (a .index) (a .token) _) _ (c .no-survey2 .ensures)
     (repeated (l .inv .1) _ _ _ (met (c .before .before)) (sym (l .inv .2 .at _ (search needs)) ∙ c .before .if1 .taken))
 
 array-write-marks : tie.Need-array-write-marks Inv-loop μ-loop
@@ -70,7 +69,7 @@ loop-again c =
 returns-3 : tie.Need-returns-3 Inv-loop μ-loop
 returns-3 c =
     let a = c .before .before .before .before .before .args in
-    requests-refused (a .index) (a .token) _ _ (c .no-survey3 .ensures)
+    refused-as (requestsSurveyed (a .index) (a .token) _) _ (c .no-survey3 .ensures)
     (no-record (c .before .before .before .loop .inv .1) (c .before .before .loop-test .left) (c .before .if2 .taken))
 
 array-read-hit : tie.Need-array-read-hit Inv-loop μ-loop

@@ -1,0 +1,25 @@
+-- `read_notice` meets its contract: what was heard, under the kind that it has.
+use mathlib.Core.Path.{_∙_}
+use Rattle.frame.proofs.Answers.{heard-refused, heard-accepted}
+use Rattle.frame.proofs.Handing.{notice-refused, probe-heard, beacon-heard}
+use borrow.Author.Needs.{needs}
+use Rattle.frame.proofs.read_notice.Statement.{statement}
+use Rattle.frame.proofs.read_notice.Tie as tie
+
+returns : tie.Need-returns
+returns c = c .alone .ensures ∙ notice-refused (c .before .before .before .before .before .before .before .before .args .probe) (c .before .before .before .before .before .before .before .before .args .interval) (c .before .before .before .before .before .before .before .before .args .body .now) (c .before .before .before .before .before .before .before .before .args .broadcast) _ (heard-refused _ _ _ (c .before .before .before .before .before .before .read .ensures) (c .before .before .answer .given .1))
+
+returns-2 : tie.Need-returns-2
+returns-2 c =
+    let p = heard-accepted _ _ (c .before .before .before .before .before .read .ensures) (c .before .enum-told .given .1) in
+    probe-heard (c .before .before .before .before .before .before .before .args .probe) (c .before .before .before .before .before .before .before .args .interval) (c .before .before .before .before .before .before .before .args .body .now) (c .before .before .before .before .before .before .before .args .broadcast) (c .if1 .taken) _ (p .0) (p .1) (p .2)
+
+returns-3 : tie.Need-returns-3
+returns-3 c =
+    let p = heard-accepted _ _ (c .before .before .before .before .before .read .ensures) (c .before .enum-told .given .1) in
+    beacon-heard (c .before .before .before .before .before .before .before .args .probe) (c .before .before .before .before .before .before .before .args .interval) (c .before .before .before .before .before .before .before .args .body .now) (c .before .before .before .before .before .before .before .args .broadcast) (c .if1 .left) _ (p .0) (p .1) (p .2)
+
+pub read-notice-spec : {M : Type 1} → statement M
+read-notice-spec =
+    tie.close
+    (tie.spec (λ c κs. search needs) (λ c. search needs) (λ c κs. search needs) (λ c. search needs) returns returns-2 returns-3)

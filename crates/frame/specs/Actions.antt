@@ -1,0 +1,84 @@
+-- What an action body means (01, "Octets": 0, action, token, elements for actions 0 (one or more 38), 1 (one or more 39), 2 (one 34)
+-- and 3 (one 35); action 4 has no token and one 37), and the octets of each.
+use mathlib.Core.Bool.{Bool, true, not, _&&_}
+use mathlib.Core.List.{List}
+use Prim.Native.Nat.{ℕ}
+use lib.Dec.{eqb}
+use lib.ListN.{drop}
+use Rattle.action.specs.Openings.{Opens, switching, with, opensWith}
+use Rattle.action.specs.Singles.{single, tpcRequestBody, tpcReportBody, switchBody}
+use Rattle.answer.specs.Checks.{Outcome, refused, accepted, pick, andThen}
+use Rattle.element.specs.ChannelSwitch.{switchMeans, switchMay}
+use Rattle.element.specs.MeasurementReport.{ReportFits}
+use Rattle.element.specs.MeasurementRequest.{RequestFits}
+use Rattle.element.specs.TpcReport.{tpcReportMeans, TpcReportFits}
+use Rattle.element.specs.TpcRequest.{tpcRequestMeans}
+use Rattle.element.specs.declared.channel_switch.ChannelSwitch.{ChannelSwitch}
+use Rattle.element.specs.declared.measurement_report.Report.{Report}
+use Rattle.element.specs.declared.measurement_request.Request.{Request}
+use Rattle.element.specs.declared.tpc_report.TpcReport.{TpcReport}
+use Rattle.measurement.specs.Bodies.{bodyOctets}
+use Rattle.measurement.specs.Lists.{AllFit, recordsIn, mayList, allInterpreted, allClear}
+use Rattle.measurement.specs.Reports.{reportSort}
+use Rattle.measurement.specs.Requests.{requestSort}
+use Rattle.octets.specs.Numbers.{octet}
+use Rattle.walk.specs.Elements.{elementsIn}
+
+-- the five bodies, with their tokens and records
+pub data Body : Type 0 where
+  requests : ℕ → List Request → Body
+  reports : ℕ → List Report → Body
+  tpcRequest : ℕ → Body
+  tpcReport : ℕ → TpcReport → Body
+  switch : ChannelSwitch → Body
+
+-- what follows the fixed fields
+abbrev pub behind : List ℕ → Opens → Outcome Body
+behind body switching = andThen (single 37 switchMeans (elementsIn (drop 2 body))) (λ s. accepted (switch s))
+behind body (with action token) =
+    pick (eqb action 0) (andThen (recordsIn requestSort (drop 3 body)) (λ rs. accepted (requests token rs)))
+    (pick (eqb action 1) (andThen (recordsIn reportSort (drop 3 body)) (λ rs. accepted (reports token rs)))
+    (pick (eqb action 2) (andThen (single 34 tpcRequestMeans (elementsIn (drop 3 body))) (λ u. accepted (tpcRequest token)))
+    (andThen (single 35 tpcReportMeans (elementsIn (drop 3 body))) (λ t. accepted (tpcReport token t)))))
+
+unfoldable pub actionMeans : List ℕ → Outcome Body
+actionMeans body = andThen (opensWith body) (behind body)
+
+-- ---- written
+
+unfoldable pub actionOctets : Body → List ℕ
+actionOctets (requests token rs) = bodyOctets requestSort 0 token rs
+actionOctets (reports token rs) = bodyOctets reportSort 1 token rs
+actionOctets (tpcRequest token) = tpcRequestBody token
+actionOctets (tpcReport token t) = tpcReportBody token t
+actionOctets (switch s) = switchBody s
+
+-- token 0 is forbidden in actions 0 and 2
+unfoldable pub actionMay : Body → Bool
+actionMay (requests token rs) = not (eqb token 0) && mayList requestSort rs
+actionMay (reports token rs) = mayList reportSort rs
+actionMay (tpcRequest token) = not (eqb token 0)
+actionMay (tpcReport token t) = true
+actionMay (switch s) = switchMay s
+
+unfoldable pub actionInterpreted : Body → Bool
+actionInterpreted (requests token rs) = allInterpreted requestSort rs
+actionInterpreted (reports token rs) = allInterpreted reportSort rs
+actionInterpreted (tpcRequest token) = true
+actionInterpreted (tpcReport token t) = true
+actionInterpreted (switch s) = true
+
+-- no reserved bit is set: only measurement elements have any
+unfoldable pub actionClear : List ℕ → Bool
+actionClear body =
+    pick (eqb (octet 1 body) 0) (allClear requestSort (elementsIn (drop 3 body)))
+    (pick (eqb (octet 1 body) 1) (allClear reportSort (elementsIn (drop 3 body))) true)
+
+-- ---- the fields fit their types
+
+unfoldable pub ActionFits : Body → Type 0
+ActionFits (requests token rs) = AllFit RequestFits rs
+ActionFits (reports token rs) = AllFit ReportFits rs
+ActionFits (tpcRequest token) = Unit {0}
+ActionFits (tpcReport token t) = TpcReportFits t
+ActionFits (switch s) = Unit {0}

@@ -1,0 +1,77 @@
+-- A frame as the code hands it out: counts in place of lists, Quiet elements in slots beside it. A refusal leaves one fixed value.
+use mathlib.Core.Bool.{Bool, true, false}
+use mathlib.Core.List.{List, []}
+use Prim.Native.Nat.{ℕ}
+use lib.Dec.{eqb}
+use lib.ListN.{length}
+use Rattle.action.specs.Openings.{Opens, switching, with}
+use Rattle.answer.specs.Checks.{Outcome, refused, accepted, andThen}
+use Rattle.answer.specs.declared.Refusal.{Refusal}
+use Rattle.beacon.specs.Beacons.{Told}
+use Rattle.beacon.specs.Laid.{slots}
+use Rattle.beacon.specs.declared.Notice.{Notice}
+use Rattle.element.specs.declared.quiet.Quiet.{Quiet}
+use Rattle.header.specs.declared.Subtype.{Subtype}
+use Rattle.frame.specs.Actions.{Body, requests, reports, tpcRequest, tpcReport, switch}
+use Rattle.frame.specs.Frames.{Kind, beacon, probeResponse, action, Sent}
+use Rattle.frame.specs.declared.Frame.{Frame}
+use Rattle.frame.specs.declared.Reading.{Reading}
+use Rattle.frame.specs.declared.Received.{Received}
+
+abbrev pub noticeOf : Told → Notice
+noticeOf t =
+    record {
+      timestamp = t .timestamp;
+      capability = t .capability;
+      power = t .said .power;
+      report = t .said .report;
+      switch = t .said .switch;
+    }
+
+-- the action frame of a body
+abbrev pub actionFrame : Body → Frame
+actionFrame (requests token rs) = Frame.MeasurementRequest token (length rs)
+actionFrame (reports token rs) = Frame.MeasurementReport token (length rs)
+actionFrame (tpcRequest token) = Frame.TpcRequest token
+actionFrame (tpcReport token t) = Frame.TpcReport token t
+actionFrame (switch s) = Frame.ChannelSwitch s
+
+-- the outcome that each case of the answer stands for
+abbrev pub frameTold : Reading → Outcome Frame
+frameTold (Reading.Refused r) = refused r
+frameTold (Reading.Is f) = accepted f
+
+-- a body's frame, or its refusal
+abbrev pub bodyFrame : Outcome Body → Outcome Frame
+bodyFrame o = andThen o (λ body. accepted (actionFrame body))
+
+abbrev pub received : Reading → Bool → List Quiet → Received
+received reading toAll qs = record { reading = reading; broadcast = toAll; quiets = slots qs; count = length qs }
+
+abbrev pub ofKind : Bool → Kind → Received
+ofKind toAll (beacon t) = received (Reading.Is (Frame.Beacon (noticeOf t))) toAll (t .said .quiets)
+ofKind toAll (probeResponse t) = received (Reading.Is (Frame.ProbeResponse (noticeOf t))) toAll (t .said .quiets)
+ofKind toAll (action body) = received (Reading.Is (actionFrame body)) toAll []
+
+abbrev pub frameLaid : Outcome Sent → Received
+frameLaid (refused r) = received (Reading.Refused r) false []
+frameLaid (accepted s) = ofKind (s .toAll) (s .kind)
+
+-- ---- the code's own terms, which no public promise cites
+
+abbrev pub noticeSubtype : Bool → Subtype
+noticeSubtype true = Subtype.ProbeResponse
+noticeSubtype false = Subtype.Beacon
+
+abbrev pub opensAs : ℕ → Outcome Opens → Bool
+opensAs wanted (refused r) = false
+opensAs wanted (accepted switching) = false
+opensAs wanted (accepted (with kind token)) = eqb kind wanted
+
+abbrev pub refusalOf : Reading → Refusal
+refusalOf (Reading.Refused r) = r
+refusalOf (Reading.Is f) = Refusal.Impossible
+
+abbrev pub noticeRefusal : Outcome Told → Refusal
+noticeRefusal (refused r) = r
+noticeRefusal (accepted t) = Refusal.Impossible

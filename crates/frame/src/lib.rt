@@ -1,0 +1,123 @@
+// Frames (document 01, "A frame that is read is one of seven kinds"): any octets at all come out as one of them, or as one refusal.
+mod bodies;
+mod index;
+
+pub use bodies::read_body;
+pub use index::report_at;
+pub use index::request_at;
+ghost use mathlib.Core.Path.{_≡_};
+ghost use mathlib.Core.List.{[]};
+ghost use Rattle.frame.specs.Frames.{kindOf, sent, frameMeans};
+ghost use Rattle.frame.specs.Laid.{frameTold, received, frameLaid, noticeSubtype};
+ghost use Rattle.header.specs.declared.Subtype.{Subtype};
+ghost use lib.ListN.{drop};
+use answer::Answer;
+use answer::Refusal;
+use beacon::Notice;
+use beacon::QUIETS;
+use element::channel_switch::ChannelSwitch;
+use element::quiet::Quiet;
+use element::tpc_report::TpcReport;
+use header::Header;
+use header::Subtype;
+
+// The seven kinds. Measurement frames say how many elements they have; each is given by its index.
+pub enum Frame {
+    Beacon(Notice),
+    ProbeResponse(Notice),
+    MeasurementRequest { token: u8, count: usize },
+    MeasurementReport { token: u8, count: usize },
+    TpcRequest { token: u8 },
+    TpcReport { token: u8, report: TpcReport },
+    ChannelSwitch(ChannelSwitch),
+}
+
+pub enum Reading {
+    Refused(Refusal),
+    Is(Frame),
+}
+
+// What was received: the frame, whether it was sent to all ones, and the Quiet elements of a beacon or a probe response beside it,
+// the first `count` slots in the order of the frame and the others blank. A refusal leaves everything else at one fixed value.
+pub struct Received {
+    pub reading: Reading,
+    pub broadcast: bool,
+    pub quiets: [Quiet; QUIETS],
+    pub count: usize,
+}
+
+// A reading with no Quiet element beside it.
+fn alone(reading: Reading, broadcast: bool) -> Received
+    ensures { λ r. ⌜ r ≡ received reading broadcast [] ⌝ }
+{
+    let quiet = Quiet {
+        count: 0,
+        period: 0,
+        duration: 0,
+        offset: 0,
+    };
+    let quiets = [quiet; QUIETS];
+    Received {
+        reading,
+        broadcast,
+        quiets,
+        count: 0,
+    }
+}
+
+// A beacon, where `probe` is false, or a probe response: their bodies are the same.
+fn read_notice(body: &[u8], interval: u16, probe: bool, broadcast: bool) -> Received
+    ensures { λ r. ⌜ r ≡ frameLaid (sent broadcast (kindOf interval (noticeSubtype probe) (now (body .entry)))) ⌝ }
+{
+    let heard = beacon::read(body, interval);
+    let answer = heard.answer;
+    let notice = heard.notice;
+    let quiets = heard.quiets;
+    match answer {
+        Answer::Refused(refusal) => alone(Reading::Refused(refusal), false),
+        Answer::Accepted => {
+            let frame = if probe {
+                Frame::ProbeResponse(notice)
+            } else {
+                Frame::Beacon(notice)
+            };
+            Received {
+                reading: Reading::Is(frame),
+                broadcast,
+                quiets,
+                count: heard.count,
+            }
+        }
+    }
+}
+
+// An action frame.
+fn read_action(body: &[u8], broadcast: bool) -> Received
+    ensures { λ r. ⌜ r ≡ frameLaid (sent broadcast (kindOf 0 Subtype.Action (now (body .entry)))) ⌝ }
+{
+    let reading = read_body(body);
+    match reading {
+        Reading::Refused(refusal) => alone(Reading::Refused(refusal), false),
+        Reading::Is(frame) => alone(Reading::Is(frame), broadcast),
+    }
+}
+
+// A frame that a station hears: `own` is its address, `ap` its AP's, `interval` its beacon interval.
+pub fn read(frame: &[u8], own: [u8; 6], ap: [u8; 6], interval: u16) -> Received
+    ensures { λ r. ⌜ r ≡ frameLaid (frameMeans own ap interval (now (frame .entry))) ⌝ }
+{
+    match header::read(frame, own, ap) {
+        Header::Refused(refusal) => alone(Reading::Refused(refusal), false),
+        Header::Is {
+            subtype,
+            to_all: broadcast,
+        } => {
+            let body = &frame[24..];
+            match subtype {
+                Subtype::Beacon => read_notice(body, interval, false, broadcast),
+                Subtype::ProbeResponse => read_notice(body, interval, true, broadcast),
+                Subtype::Action => read_action(body, broadcast),
+            }
+        }
+    }
+}
