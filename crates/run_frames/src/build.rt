@@ -86,17 +86,33 @@ pub fn cut(word: &[u8], length: usize) {
     }
 }
 
-// The same to all ones.
+// An action frame to all ones.
 pub fn to_all(word: &[u8], body: &[u8]) {
-    let mut buffer = [255u8; 64];
-    let head = header(208, 0, 1, 9, 9, 0);
-    octets::put(true, &head[..4], &mut buffer, 0);
-    octets::put(true, &head[10..], &mut buffer, 10);
-    octets::put(true, body, &mut buffer, 24);
-    say::text(word);
-    say::text(b":");
-    if body.len() <= 40 {
-        let length = 24 + body.len();
-        show::read(&buffer[..length]);
-    }
+    let head = [
+        208,
+        0,
+        0,
+        0,
+        255,
+        255,
+        255,
+        255,
+        255,
+        255,
+        2,
+        0,
+        0,
+        0,
+        0,
+        9,
+        2,
+        0,
+        0,
+        0,
+        0,
+        9,
+        0,
+        0,
+    ];
+    show_built(word, head, body, 0);
 }

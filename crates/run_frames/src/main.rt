@@ -9,6 +9,7 @@ fn headers() {
     build::cut(b"24 octets", 24);
     build::beacon(b"2336 octets", 100, &[], 2300);
     build::beacon(b"2337 octets", 100, &[], 2301);
+    build::cut(b"2400 octets", 2400);
     build::odd(b"plain", 208, 0, 1, 9, 9, 0);
     build::odd(b"version 1", 209, 0, 1, 9, 9, 0);
     build::odd(b"type 1", 212, 0, 1, 9, 9, 0);

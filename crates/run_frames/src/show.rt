@@ -109,7 +109,7 @@ pub fn read(frame: &[u8]) {
         Reading::Refused(refusal) => say::octet(refusal.number()),
         Reading::Is(f) => {
             say::number(0);
-            if received.to_all {
+            if received.broadcast {
                 say::text(b" to all");
             }
             kind(f);
@@ -120,11 +120,11 @@ pub fn read(frame: &[u8]) {
     say::text(b"\n");
 }
 
-// A beacon with this many Quiet elements, each with its place as the count.
-fn crowd(count: usize) {
+// A beacon (128) or a probe response (80) with this many Quiet elements, each with its place as the count.
+fn crowd(control: u8, count: usize) {
     let mut buffer = [0u8; 128];
     let head: [u8; 36] = [
-        128,
+        control,
         0,
         0,
         0,
@@ -162,27 +162,28 @@ fn crowd(count: usize) {
         1,
     ];
     octets::put(true, &head, &mut buffer, 0);
+    say::text(b"quiets:");
+    if 9 < count {
+        return;
+    }
     let mut i: usize = 0;
-    while i < 9 {
-        if i < count {
-            let quiet = Quiet {
-                count: (i % 256) as u8 + 1,
-                period: 0,
-                duration: 1,
-                offset: 0,
-            };
-            element::quiet::write(quiet, INTERVAL, &mut buffer, 36 + 8 * i);
-        }
+    while i < count {
+        let quiet = Quiet {
+            count: (i % 256) as u8 + 1,
+            period: 0,
+            duration: 1,
+            offset: 0,
+        };
+        element::quiet::write(quiet, INTERVAL, &mut buffer, 36 + 8 * i);
         i += 1;
     }
-    say::text(b"quiets:");
-    if count <= 9 {
-        let length = 36 + 8 * count;
-        read(&buffer[..length]);
-    }
+    let length = 36 + 8 * count;
+    read(&buffer[..length]);
 }
 
 pub fn eight_and_nine() {
-    crowd(8);
-    crowd(9);
+    crowd(128, 8);
+    crowd(128, 9);
+    crowd(80, 8);
+    crowd(80, 9);
 }
