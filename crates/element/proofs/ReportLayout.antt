@@ -1,15 +1,16 @@
 -- How the octets of a Measurement Report lie in the twenty-four that are built. Assumes nothing.
-use mathlib.Core.Path.{_≡_, refl, subst}
-use mathlib.Core.List.{List, _∷_, _++_}
+use mathlib.Core.Path.{_≡_, refl, ap, ap₂, subst, _∙_}
+use mathlib.Core.List.{List, [], _∷_, _++_}
 use Prim.Native.Nat.{ℕ, _+_, _≤_}
 use native.Mathlib.Omega.{arith}
 use lib.ListN.{length, take}
 use Rattle.octets.specs.Numbers.{octet, octetsFrom}
 use Rattle.octets.proofs.JoinSplit.{all-from}
-use Rattle.element.specs.MeasurementReport.{reportMode, reportOctets, reportSpan, reportLast, reportSize}
+use Rattle.element.specs.MeasurementReport.{reportMode, reportOctets, reportSpan, reportLast, reportSize, reportBuilt}
 use Rattle.element.specs.Span.{spanOctets}
 use Rattle.element.specs.declared.measurement_report.Matter.{Matter}
 use Rattle.element.specs.declared.measurement_report.Report.{Report}
+use Rattle.element.specs.declared.span.Span.{Span}
 
 abbrev pub made : ℕ → ℕ → List ℕ → Matter → Report
 made t k ds m = record { token = t; kind = k; matter = m; densities = ds }
@@ -50,3 +51,12 @@ module _ (t k : ℕ) (ds : List ℕ) (eight : length ds ≡ 8) where
       let same = all-from 8 ds eight in
       subst (λ (d : List ℕ). take (length (reportOctets (made t k d (Matter.Rpi s)))) (built (Matter.Rpi s)) ≡ reportOctets (made t k d (Matter.Rpi s))) same refl
   laid-out Matter.Uninterpreted = refl
+
+-- the octets as the code builds them, from the parts that it has
+pub built-of : (token kind : ℕ) (m : Matter) (ds : List ℕ) {size mode last : ℕ} {s : List ℕ} {sp : Span}
+    → size ≡ reportSize m → mode ≡ reportMode m → sp ≡ reportSpan m → s ≡ spanOctets sp → last ≡ reportLast m (octet 0 ds)
+    → (39 ∷ size ∷ token ∷ mode ∷ kind ∷ []) ++ octetsFrom 11 0 s ++ (last ∷ octetsFrom 7 1 ds) ≡ reportBuilt (made token kind ds m)
+built-of token kind m ds {size} {mode} {last} {s} {sp} a b c d e =
+    ap₂ (λ (x y : ℕ). (39 ∷ x ∷ token ∷ y ∷ kind ∷ []) ++ octetsFrom 11 0 s ++ (last ∷ octetsFrom 7 1 ds)) a b
+    ∙ ap₂ (λ (x : List ℕ) (y : ℕ). (39 ∷ reportSize m ∷ token ∷ reportMode m ∷ kind ∷ []) ++ x ++ (y ∷ octetsFrom 7 1 ds))
+    (ap (octetsFrom 11 0) (d ∙ ap spanOctets c)) e

@@ -160,7 +160,7 @@ ReportMatterFits Matter.Uninterpreted = Unit {0}
 abbrev pub ReportFits : Report → Type 0
 ReportFits r = ReportMatterFits (r .matter) × (length (r .densities) ≡ 8)
 
--- ---- the code's own terms, which no public promise cites: the span, the octet behind it and the length of what is written
+-- ---- the code's own terms: the span, the octet behind it and the length of what is written, and the octets that are built
 
 abbrev pub reportSpan : Matter → Span
 reportSpan m = byMatter m noSpan (λ s o. s) (λ s o. s) (λ s. s) noSpan
@@ -170,3 +170,9 @@ reportLast m d = byMatter m 0 (λ s o. o) (λ s o. o) (λ s. d) 0
 
 abbrev pub reportSize : Matter → ℕ
 reportSize m = byMatter m 3 (λ s o. 15) (λ s o. 15) (λ s. 22) 3
+
+-- the element's octets in front; behind those of a shorter report stands what it does not hold
+abbrev pub reportBuilt : Report → List ℕ
+reportBuilt r =
+    (39 ∷ reportSize (r .matter) ∷ r .token ∷ reportMode (r .matter) ∷ r .kind ∷ []) ++ spanOctets (reportSpan (r .matter))
+    ++ (reportLast (r .matter) (octet 0 (r .densities)) ∷ octetsFrom 7 1 (r .densities))

@@ -106,7 +106,7 @@ RequestMatterFits Matter.Uninterpreted = Unit {0}
 abbrev pub RequestFits : Request → Type 0
 RequestFits r = RequestMatterFits (r .matter)
 
--- ---- the code's own terms, which no public promise cites: the span and the length of what is written
+-- ---- the code's own terms: the span and the length of what is written, and the octets that are built
 
 abbrev pub requestSpan : Matter → Span
 requestSpan (Matter.Enable q p) = noSpan
@@ -117,3 +117,8 @@ abbrev pub requestSize : Matter → ℕ
 requestSize (Matter.Enable q p) = 3
 requestSize (Matter.Measure s) = 14
 requestSize Matter.Uninterpreted = 3
+
+-- the element's octets in front; behind those of an Enable element are zeros
+abbrev pub requestBuilt : Request → List ℕ
+requestBuilt r =
+    (38 ∷ requestSize (r .matter) ∷ r .token ∷ requestMode (r .matter) ∷ r .kind ∷ []) ++ spanOctets (requestSpan (r .matter))

@@ -3,7 +3,7 @@ ghost use mathlib.Core.Path.{_≡_};
 ghost use Prim.Native.Nat.{_≤_};
 ghost use lib.ListN.{length, take};
 ghost use Rattle.octets.specs.Writing.{Written};
-ghost use Rattle.element.specs.MeasurementReport.{reportFlags, reportMeasured, reportMatterIn, densitiesIn, reportIn, reportMisfits, reportForbids, reportMeans, noReport, reportLaid, reportMode, reportSpan, reportLast, reportSize, reportAgrees, reportMay, reportOctets, silent, reportInterpreted, mapClear, reportClear};
+ghost use Rattle.element.specs.MeasurementReport.{reportFlags, reportMeasured, reportMatterIn, densitiesIn, reportIn, reportMisfits, reportForbids, reportMeans, noReport, reportLaid, reportMode, reportSpan, reportLast, reportSize, reportAgrees, reportMay, reportOctets, reportBuilt, silent, reportInterpreted, mapClear, reportClear};
 use crate::span;
 use crate::span::Span;
 use answer::Answer;
@@ -350,7 +350,7 @@ pub fn may_write(report: Report) -> bool
 
 // The element's octets, and behind those of a shorter report some that are not written.
 pub fn to_octets(report: Report) -> [u8; 24]
-    ensures { λ r. ⌜ (length r ≡ 24) × (take (length (reportOctets report)) r ≡ reportOctets report) ⌝ }
+    ensures { λ r. ⌜ (length r ≡ 24) × (take (length (reportOctets report)) r ≡ reportOctets report) × (r ≡ reportBuilt report) ⌝ }
 {
     let matter = report.matter;
     let d = report.densities;

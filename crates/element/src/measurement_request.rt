@@ -3,7 +3,7 @@ ghost use mathlib.Core.Path.{_≡_};
 ghost use Prim.Native.Nat.{_≤_};
 ghost use lib.ListN.{length, take};
 ghost use Rattle.octets.specs.Writing.{Written};
-ghost use Rattle.element.specs.MeasurementRequest.{requestTold, requestMatterIn, requestIn, requestMisfits, requestForbids, requestMeans, requestMode, requestSpan, requestSize, requestAgrees, requestMay, requestOctets, requestInterpreted, requestClear};
+ghost use Rattle.element.specs.MeasurementRequest.{requestTold, requestMatterIn, requestIn, requestMisfits, requestForbids, requestMeans, requestMode, requestSpan, requestSize, requestAgrees, requestMay, requestOctets, requestBuilt, requestInterpreted, requestClear};
 use crate::span;
 use crate::span::Span;
 use answer::Refusal;
@@ -219,7 +219,7 @@ pub fn may_write(request: Request) -> bool
 
 // The element's octets, and behind those of an Enable element some that are not written.
 pub fn to_octets(request: Request) -> [u8; 16]
-    ensures { λ r. ⌜ (length r ≡ 16) × (take (length (requestOctets request)) r ≡ requestOctets request) ⌝ }
+    ensures { λ r. ⌜ (length r ≡ 16) × (take (length (requestOctets request)) r ≡ requestOctets request) × (r ≡ requestBuilt request) ⌝ }
 {
     let matter = request.matter;
     let size = size_of(matter);

@@ -1,6 +1,7 @@
 -- What stands at a place of a run, and what it says of the rest of the run: which octets are the contents, and where the next
 -- element begins.
 use mathlib.Core.List.{List}
+use mathlib.Core.Path.{_≡_}
 use Prim.Native.Nat.{ℕ, _+_, _-_, _≤_}
 use lib.ListN.{take, drop}
 use Rattle.walk.specs.Elements.{Elements, end, cutHeader, cutContents, more, elementsIn}
@@ -17,4 +18,4 @@ abbrev pub Within : ℕ → ℕ → Found → Type 0
 Within at size Found.End = size ≤ at
 Within at size Found.CutHeader = Unit {0}
 Within at size (Found.CutContents id) = Unit {0}
-Within at size (Found.Whole id start stop) = (at + 2 ≤ start) × (start ≤ stop) × (stop ≤ size)
+Within at size (Found.Whole id start stop) = (start ≡ at + 2) × (start ≤ stop) × (stop ≤ size)

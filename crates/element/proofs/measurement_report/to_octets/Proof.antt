@@ -1,7 +1,7 @@
 -- `measurement_report::to_octets` meets its contract: the octets lie in front.
 use mathlib.Core.Path.{_≡_, refl}
 use lib.ListN.{length}
-use Rattle.element.proofs.ReportLayout.{laid-out}
+use Rattle.element.proofs.ReportLayout.{laid-out, built-of}
 use borrow.Author.Needs.{needs}
 use Rattle.element.proofs.measurement_report.to_octets.Statement.{statement}
 use Rattle.element.proofs.measurement_report.to_octets.Tie as tie
@@ -13,6 +13,8 @@ returns c =
       refl,
       rw (c .last-of .ensures, c .before .to-octets .ensures, c .before .before .span-of .ensures, c .before .before .before .mode-of .ensures, c .before .before .before .before .size-of .ensures)
           (laid-out (r .token) (r .kind) (r .densities) eight (r .matter)),
+      built-of (r .token) (r .kind) (r .matter) (r .densities) (c .before .before .before .before .size-of .ensures)
+          (c .before .before .before .mode-of .ensures) (c .before .before .span-of .ensures) (c .before .to-octets .ensures) (c .last-of .ensures),
     )
 
 pub to-octets-spec : {M : Type 1} → statement M

@@ -6,7 +6,13 @@ use Rattle.element.proofs.measurement_request.to_octets.Statement.{stat
 use Rattle.element.proofs.measurement_request.to_octets.Tie as tie
 
 returns : tie.Need-returns
-returns c = (refl, rw (c .to-octets .ensures, c .before .span-of .ensures, c .before .before .mode-of .ensures, c .before .before .before .size-of .ensures) (laid-out (c .before .before .before .before .args .request .matter) (c .before .before .before .before .args .request .token) (c .before .before .before .before .args .request .kind)))
+returns c =
+    let r = c .before .before .before .before .args .request in (
+      refl,
+      rw (c .to-octets .ensures, c .before .span-of .ensures, c .before .before .mode-of .ensures, c .before .before .before .size-of .ensures)
+          (laid-out (r .matter) (r .token) (r .kind)),
+      rw (c .to-octets .ensures, c .before .span-of .ensures, c .before .before .mode-of .ensures, c .before .before .before .size-of .ensures),
+    )
 
 pub to-octets-spec : {M : Type 1} → statement M
 to-octets-spec =
