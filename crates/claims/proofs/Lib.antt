@@ -1,5 +1,10 @@
+pub mod Bodies
 pub mod Elements
 pub mod Numbers
 pub mod OneOutcomeElements
+pub mod OneOutcomeFrames
 pub mod OneOutcomeLeaves
+pub mod OneOutcomeWalk
+pub mod Refusals
 pub mod Same
+pub mod Witnesses

@@ -33,6 +33,18 @@ use Rattle.element.specs.declared.quiet.Reading as Quiet-reading
 use Rattle.element.specs.declared.tpc_report.Reading as Tpc-report-reading
 use Rattle.element.specs.declared.tpc_report.TpcReport.{TpcReport}
 use Rattle.element.specs.declared.tpc_request.Reading as Tpc-request-reading
+use Rattle.element.proofs.channel_switch.may_write as Switch-may-write
+use Rattle.element.proofs.measurement_request.is_clear as Request-is-clear
+use Rattle.element.proofs.measurement_request.is_interpreted as Request-is-interpreted
+use Rattle.element.proofs.measurement_request.may_write as Request-may-write
+use Rattle.element.proofs.measurement_request.octet_count as Request-octet-count
+use Rattle.element.proofs.measurement_request.to_octets as Request-to-octets
+use Rattle.element.proofs.measurement_report.is_clear as Report-is-clear
+use Rattle.element.proofs.measurement_report.is_interpreted as Report-is-interpreted
+use Rattle.element.proofs.measurement_report.may_write as Report-may-write
+use Rattle.element.proofs.measurement_report.octet_count as Report-octet-count
+use Rattle.element.proofs.measurement_report.to_octets as Report-to-octets
+use Rattle.element.proofs.measurement_report.refused as Report-refused
 use Rattle.claims.specs.Outcomes.{OneResult, OneOutcome}
 use Rattle.claims.proofs.Same.{once, told-once, written-once}
 
@@ -51,11 +63,11 @@ power-read κs a e f x y p q = told-once powerTold power-of power-told p q
 pub power-write : OneOutcome 1 Power-write.Kinds.ps Power-write.Kinds.r Power-write.Reads.Post (λ κs e. now (e .1 .0))
 power-write κs a e f x y p q = written-once p q
 
-tpc-request-of : Outcome (Unit {0}) → Tpc-request-reading.Reading
+pub tpc-request-of : Outcome (Unit {0}) → Tpc-request-reading.Reading
 tpc-request-of (refused r) = Tpc-request-reading.Reading.Refused r
 tpc-request-of (accepted u) = Tpc-request-reading.Reading.Is
 
-tpc-request-told : (x : Tpc-request-reading.Reading) → tpc-request-of (tpcRequestTold x) ≡ x
+pub tpc-request-told : (x : Tpc-request-reading.Reading) → tpc-request-of (tpcRequestTold x) ≡ x
 unfolding tpc-request-of
 tpc-request-told (Tpc-request-reading.Reading.Refused r) = refl
 tpc-request-told Tpc-request-reading.Reading.Is = refl
@@ -66,11 +78,11 @@ tpc-request-read κs a e f x y p q = told-once tpcRequestTold tpc-request-of tpc
 pub tpc-request-write : OneOutcome 1 Tpc-request-write.Kinds.ps Tpc-request-write.Kinds.r Tpc-request-write.Reads.Post (λ κs e. now (e .0))
 tpc-request-write κs a e f x y p q = written-once p q
 
-tpc-report-of : Outcome TpcReport → Tpc-report-reading.Reading
+pub tpc-report-of : Outcome TpcReport → Tpc-report-reading.Reading
 tpc-report-of (refused r) = Tpc-report-reading.Reading.Refused r
 tpc-report-of (accepted t) = Tpc-report-reading.Reading.Is t
 
-tpc-report-told : (x : Tpc-report-reading.Reading) → tpc-report-of (tpcReportTold x) ≡ x
+pub tpc-report-told : (x : Tpc-report-reading.Reading) → tpc-report-of (tpcReportTold x) ≡ x
 unfolding tpc-report-of
 tpc-report-told (Tpc-report-reading.Reading.Refused r) = refl
 tpc-report-told (Tpc-report-reading.Reading.Is t) = refl
@@ -81,11 +93,11 @@ tpc-report-read κs a e f x y p q = told-once tpcReportTold tpc-report-of tpc-re
 pub tpc-report-write : OneOutcome 1 Tpc-report-write.Kinds.ps Tpc-report-write.Kinds.r Tpc-report-write.Reads.Post (λ κs e. now (e .1 .0))
 tpc-report-write κs a e f x y p q = written-once p q
 
-switch-of : Outcome ChannelSwitch → Switch-reading.Reading
+pub switch-of : Outcome ChannelSwitch → Switch-reading.Reading
 switch-of (refused r) = Switch-reading.Reading.Refused r
 switch-of (accepted s) = Switch-reading.Reading.Is s
 
-switch-told : (x : Switch-reading.Reading) → switch-of (switchTold x) ≡ x
+pub switch-told : (x : Switch-reading.Reading) → switch-of (switchTold x) ≡ x
 unfolding switch-of
 switch-told (Switch-reading.Reading.Refused r) = refl
 switch-told (Switch-reading.Reading.Is s) = refl
@@ -111,11 +123,11 @@ quiet-read κs a e f x y p q = told-once quietTold quiet-of quiet-told p q
 pub quiet-write : OneOutcome 1 Quiet-write.Kinds.ps Quiet-write.Kinds.r Quiet-write.Reads.Post (λ κs e. now (e .1 .1 .0))
 quiet-write κs a e f x y p q = written-once p q
 
-request-of : Outcome Request → Request-reading.Reading
+pub request-of : Outcome Request → Request-reading.Reading
 request-of (refused r) = Request-reading.Reading.Refused r
 request-of (accepted r) = Request-reading.Reading.Is r
 
-request-told : (x : Request-reading.Reading) → request-of (requestTold x) ≡ x
+pub request-told : (x : Request-reading.Reading) → request-of (requestTold x) ≡ x
 unfolding request-of
 request-told (Request-reading.Reading.Refused r) = refl
 request-told (Request-reading.Reading.Is r) = refl
@@ -131,3 +143,41 @@ report-read κs a e f x y p q = once p q
 
 pub report-write : OneOutcome 1 Report-write.Kinds.ps Report-write.Kinds.r Report-write.Reads.Post (λ κs e. now (e .1 .0))
 report-write κs a e f x y p q = written-once p q
+
+-- ---- what the elements' other functions say
+
+pub switch-may-write : OneResult 0 Switch-may-write.Kinds.ps Switch-may-write.Kinds.r Switch-may-write.Reads.Post
+switch-may-write κs a e f x y p q = once p q
+
+pub request-is-clear : OneResult 1 Request-is-clear.Kinds.ps Request-is-clear.Kinds.r Request-is-clear.Reads.Post
+request-is-clear κs a e f x y p q = once p q
+
+pub request-is-interpreted : OneResult 0 Request-is-interpreted.Kinds.ps Request-is-interpreted.Kinds.r Request-is-interpreted.Reads.Post
+request-is-interpreted κs a e f x y p q = once p q
+
+pub request-may-write : OneResult 0 Request-may-write.Kinds.ps Request-may-write.Kinds.r Request-may-write.Reads.Post
+request-may-write κs a e f x y p q = once p q
+
+pub request-octet-count : OneResult 0 Request-octet-count.Kinds.ps Request-octet-count.Kinds.r Request-octet-count.Reads.Post
+request-octet-count κs a e f x y p q = once (p .0) (q .0)
+
+pub request-to-octets : OneResult 0 Request-to-octets.Kinds.ps Request-to-octets.Kinds.r Request-to-octets.Reads.Post
+request-to-octets κs a e f x y p q = once (p .2) (q .2)
+
+pub report-is-clear : OneResult 1 Report-is-clear.Kinds.ps Report-is-clear.Kinds.r Report-is-clear.Reads.Post
+report-is-clear κs a e f x y p q = once p q
+
+pub report-is-interpreted : OneResult 0 Report-is-interpreted.Kinds.ps Report-is-interpreted.Kinds.r Report-is-interpreted.Reads.Post
+report-is-interpreted κs a e f x y p q = once p q
+
+pub report-may-write : OneResult 0 Report-may-write.Kinds.ps Report-may-write.Kinds.r Report-may-write.Reads.Post
+report-may-write κs a e f x y p q = once p q
+
+pub report-octet-count : OneResult 0 Report-octet-count.Kinds.ps Report-octet-count.Kinds.r Report-octet-count.Reads.Post
+report-octet-count κs a e f x y p q = once (p .0) (q .0)
+
+pub report-to-octets : OneResult 0 Report-to-octets.Kinds.ps Report-to-octets.Kinds.r Report-to-octets.Reads.Post
+report-to-octets κs a e f x y p q = once (p .2) (q .2)
+
+pub report-refused : OneResult 0 Report-refused.Kinds.ps Report-refused.Kinds.r Report-refused.Reads.Post
+report-refused κs a e f x y p q = once p q

@@ -1,5 +1,9 @@
+pub mod ActionParts
+pub mod ActionTrip
 pub mod Answers
 pub mod Handing
 pub mod Indexing
 pub mod Openings
+pub mod SingleTrip
 pub mod Tails
+pub mod Witness

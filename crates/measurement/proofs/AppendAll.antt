@@ -158,6 +158,6 @@ module _ {A : Type 0} (s : Sort A) (Fits : A → Type 0) (t : Trip s Fits) (acti
         ≡ record { used = accepted (length (0 ∷ action ∷ token ∷ run)); octets = filled (0 ∷ action ∷ token ∷ run) buffer }
     append-back run xs o h i c room =
         let b = list-back s Fits t run xs o h i c in
-        append-all xs (list-fits s Fits t run xs o h i c) (b .0)
+        append-all xs (list-fits s Fits t run xs o h) (b .0)
         (subst (λ (r : List ℕ). length (0 ∷ action ∷ token ∷ r) ≤ length buffer) (sym (b .1)) room)
         ∙ ap (λ (r : List ℕ). holding (0 ∷ action ∷ token ∷ r) buffer) (b .1)

@@ -90,20 +90,41 @@ module _ {A : Type 0} (s : Sort A) (Fits : A → Type 0) (t : Trip s Fits) where
 
   -- ---- back
 
+  -- what follows an accepted value was accepted too
+  behind : {B C : Type 0} (o : Outcome B) (next : B → Outcome C) (c : C) → andThen o next ≡ accepted c
+      → (b : B) × (o ≡ accepted b) × (next b ≡ accepted c)
+  behind (refused r) next c e = absurd (let z : _≡_ {A = ℕ} 0 1 = cc in omega arith)
+  behind (accepted b) next c e = (b, refl, e)
+
+  -- what an accepted list says of the element in front
+  record Heads (id : ℕ) (x : List ℕ) (es : Elements) (before l : List A) : Type 0 where
+    own : id ≡ s .id
+    one : A
+    says : s .means x ≡ accepted one
+    new : s .repeats one before ≡ false
+    on : listed s es (before ++ (one ∷ [])) ≡ accepted l
+
+  heads : (id : ℕ) (x : List ℕ) (es : Elements) (before l : List A) → listed s (more id x es) before ≡ accepted l → Heads id x es before l
+  unfolding listed
+  heads id x es before l h =
+      let p = behind _ _ _ h in
+      let q = behind (s .means x) _ _ (p .2) in
+      let r = behind _ _ _ (q .2) in
+      record {
+        own = eqb-true id (s .id) (not-false (eqb id (s .id)) (passed _ _ _ (p .1) .0));
+        one = q .0;
+        says = q .1;
+        new = passed _ _ _ (r .1) .0;
+        on = r .2;
+      }
+
   -- the records of a run behind those before it, which make up the list
   record Rest (run : List ℕ) (before l : List A) : Type 0 where
     tail : List A
     whole : l ≡ before ++ tail
     octets : allOctets s tail ≡ run
     may : mayAll s before tail ≡ true
-    fit : AllFit Fits tail
     some : ltb 0 (length l) ≡ true
-
-  -- what follows an accepted value was accepted too
-  behind : {B C : Type 0} (o : Outcome B) (next : B → Outcome C) (c : C) → andThen o next ≡ accepted c
-      → (b : B) × (o ≡ accepted b) × (next b ≡ accepted c)
-  behind (refused r) next c e = absurd (let z : _≡_ {A = ℕ} 0 1 = cc in omega arith)
-  behind (accepted b) next c e = (b, refl, e)
 
   -- a record among others is interpreted, where all are
   known-one : (before : List A) (a : A) (l : List A) → allInterpreted s (before ++ (a ∷ []) ++ l) ≡ true → s .interpreted a ≡ true
@@ -122,34 +143,28 @@ module _ {A : Type 0} (s : Sort A) (Fits : A → Type 0) (t : Trip s Fits) where
         whole = sym (append-nil before ∙ k);
         octets = sym (empty run e);
         may = refl;
-        fit = tt;
         some = lt-ltb 0 (length l) (omega (arith, ap length k, eqb-false (length before) 0 (p .0)));
       }
   back cutHeader run before l e o i c h = absurd (let z : _≡_ {A = ℕ} 0 1 = cc in omega arith)
   back (cutContents id) run before l e o i c h = clash (passed _ _ _ (passed _ _ _ h .1) .0)
   back (more id x es) run before l e o i c h =
-      let p = behind _ _ _ h in
-      let own = eqb-true id (s .id) (not-false (eqb id (s .id)) (passed _ _ _ (p .1) .0)) in
-      let q = behind (s .means x) _ _ (p .2) in
-      let a = q .0 in
-      let r = behind _ _ _ (q .2) in
-      let new = passed _ _ _ (r .1) .0 in
+      let g = heads id x es before l h in
+      let a = g .one in
       let y = split run id x es e in
       let clear = both (s .clear x) (allClear s es) c in
       let octets = subst Octets (y .octets) o in
       let inner = octets-front x (y .rest) (λ j. octets (suc (suc j))) in
       let outer = octets-behind x (y .rest) (λ j. octets (suc (suc j))) in
-      let z = back es (y .rest) (before ++ (a ∷ [])) l (y .behind) outer i (clear .1) (r .2) in
-      let b = t .trip .back x a inner (q .1) (known-one before a (z .tail) (ap (allInterpreted s) (sym (z .whole)) ∙ i)) (clear .0) in
+      let z = back es (y .rest) (before ++ (a ∷ [])) l (y .behind) outer i (clear .1) (g .on) in
+      let b = t .trip .back x a inner (g .says) (known-one before a (z .tail) (ap (allInterpreted s) (sym (z .whole)) ∙ i)) (clear .0) in
       record {
         tail = a ∷ z .tail;
         whole = z .whole ∙ append-snoc before a (z .tail);
         octets =
             ap (λ (os : List ℕ). os ++ allOctets s (z .tail)) (t .laid a ∙ ap (element (s .id)) (b .1))
             ∙ ap (λ (os : List ℕ). element (s .id) x ++ os) (z .octets)
-            ∙ ap (λ (k : ℕ). element k x ++ y .rest) (sym own) ∙ sym (y .octets);
-        may = may-first before a (z .tail) (b .0) new (z .may);
-        fit = (t .trip .fits x a inner (q .1), z .fit);
+            ∙ ap (λ (k : ℕ). element k x ++ y .rest) (sym (g .own)) ∙ sym (y .octets);
+        may = may-first before a (z .tail) (b .0) (g .new) (z .may);
         some = z .some;
       }
 
@@ -163,5 +178,82 @@ module _ {A : Type 0} (s : Sort A) (Fits : A → Type 0) (t : Trip s Fits) where
     unfolding mayList
     list-back = (simp (rest .some) (ap (mayAll s []) (rest .whole) ∙ rest .may), ap (allOctets s) (rest .whole) ∙ rest .octets)
 
-    pub list-fits : AllFit Fits xs
-    list-fits = subst (AllFit Fits) (sym (rest .whole)) (rest .fit)
+  -- ---- exact, and fits
+
+  -- the records of a run stand behind those before it, and fit
+  record Ends (run : List ℕ) (before l : List A) : Type 0 where
+    tail : List A
+    whole : l ≡ before ++ tail
+    fit : Octets run → AllFit Fits tail
+
+  ends : (es : Elements) (run : List ℕ) (before l : List A) → elementsIn run ≡ es → listed s es before ≡ accepted l → Ends run before l
+  unfolding listed
+  ends end run before l e h =
+      record { tail = []; whole = sym (append-nil before ∙ kept _ (passed _ _ _ h .1)); fit = λ o. tt }
+  ends cutHeader run before l e h = absurd (let z : _≡_ {A = ℕ} 0 1 = cc in omega arith)
+  ends (cutContents id) run before l e h = clash (passed _ _ _ (passed _ _ _ h .1) .0)
+  ends (more id x es) run before l e h =
+      let g = heads id x es before l h in
+      let a = g .one in
+      let y = split run id x es e in
+      let z = ends es (y .rest) (before ++ (a ∷ [])) l (y .behind) (g .on) in
+      record {
+        tail = a ∷ z .tail;
+        whole = z .whole ∙ append-snoc before a (z .tail);
+        fit =
+            λ o.
+            let octets : Octets (element id x ++ y .rest) = subst Octets (y .octets) o in (
+              t .trip .fits x a (octets-front x (y .rest) (λ j. octets (suc (suc j)))) (g .says),
+              z .fit (octets-behind x (y .rest) (λ j. octets (suc (suc j)))),
+            );
+      }
+
+  pub list-fits : (run : List ℕ) (xs : List A) → Octets run → recordsIn s run ≡ accepted xs → AllFit Fits xs
+  unfolding recordsIn
+  list-fits run xs o h =
+      let z = ends (elementsIn run) run [] xs refl h in
+      subst (AllFit Fits) (sym (z .whole)) (z .fit o)
+
+  -- lists that are the same go on with the same record
+  same : (before : List A) (a b : A) (xs ys : List A) → before ++ (a ∷ xs) ≡ before ++ (b ∷ ys) → a ≡ b
+  same [] a b xs ys e = cc
+  same (x ∷ before) a b xs ys e = same before a b xs ys (cc)
+
+  -- the element in front says the record that the list goes on with
+  leads : (x run : List ℕ) (before xs : List A) (a : A) → listed s (more (s .id) x (elementsIn run)) before ≡ accepted (before ++ (a ∷ xs))
+      → (s .means x ≡ accepted a) × (s .repeats a before ≡ false) × (listed s (elementsIn run) (before ++ (a ∷ [])) ≡ accepted (before ++ (a ∷ xs)))
+  leads x run before xs a h =
+      let g = heads (s .id) x (elementsIn run) before (before ++ (a ∷ xs)) h in
+      let b = g .one in
+      let z = ends (elementsIn run) run (before ++ (b ∷ [])) (before ++ (a ∷ xs)) refl (g .on) in
+      let e : b ≡ a = sym (same before a b xs (z .tail) (z .whole ∙ append-snoc before b (z .tail))) in (
+        g .says ∙ ap accepted e,
+        subst (λ (y : A). s .repeats y before ≡ false) e (g .new),
+        subst (λ (y : A). listed s (elementsIn run) (before ++ (y ∷ [])) ≡ accepted (before ++ (a ∷ xs))) e (g .on),
+      )
+
+  exact : (xs before : List A) → AllFit Fits xs → allInterpreted s xs ≡ true
+      → listed s (elementsIn (allOctets s xs)) before ≡ accepted (before ++ xs) → mayAll s before xs ≡ true
+  unfolding mayAll allInterpreted
+  exact [] before f i h = refl
+  exact (a ∷ xs) before f i h =
+      let p = leads (t .contents a) (allOctets s xs) before xs a (ap (λ (es : Elements). listed s es before) (sym (written a xs)) ∙ h) in
+      let k = both (s .interpreted a) (allInterpreted s xs) i in
+      may-first before a xs (t .trip .exact a (f .0) (p .0) (k .0)) (p .1)
+      (exact xs (before ++ (a ∷ [])) (f .1) (k .1) (p .2 ∙ ap accepted (sym (append-snoc before a xs))))
+
+  -- an accepted list has one record or more
+  some : (xs : List A) → listed s (elementsIn (allOctets s xs)) [] ≡ accepted xs → ltb 0 (length xs) ≡ true
+  unfolding listed allOctets
+  some [] h =
+      let g : listed s end [] ≡ accepted [] = ap (λ (es : Elements). listed s es []) (sym none) ∙ h in
+      clash (passed _ _ _ g .0)
+  some (a ∷ xs) h = lt-ltb 0 (length (a ∷ xs)) (omega arith)
+
+  list-exact : (xs : List A) → AllFit Fits xs → recordsIn s (allOctets s xs) ≡ accepted xs → allInterpreted s xs ≡ true → mayList s xs ≡ true
+  unfolding recordsIn mayList
+  list-exact xs f h i = simp (some xs h, exact xs [] f i h)
+
+  -- demand 2 for a run
+  pub list-trip : RoundTrip (recordsIn s) (allOctets s) (mayList s) (AllFit Fits) (allInterpreted s) (λ run. allClear s (elementsIn run))
+  list-trip = record { there = list-there; back = list-back; exact = list-exact; fits = list-fits }

@@ -1,0 +1,118 @@
+-- Each promise of the frame layer leaves one outcome: the walk, headers, beacons, action bodies, measurement bodies and frames.
+-- Assumes nothing.
+use mathlib.Core.Path.{_≡_, refl, sym, ap, _∙_}
+use mathlib.Core.List.{List}
+use Prim.Native.Nat.{ℕ}
+use denote.Ref.{now}
+use Rattle.action.proofs.«open» as Open
+use Rattle.action.proofs.read_channel_switch as Read-channel-switch
+use Rattle.action.proofs.read_tpc_report as Read-tpc-report
+use Rattle.action.proofs.read_tpc_request as Read-tpc-request
+use Rattle.action.proofs.write_channel_switch as Write-channel-switch
+use Rattle.action.proofs.write_tpc_report as Write-tpc-report
+use Rattle.action.proofs.write_tpc_request as Write-tpc-request
+use Rattle.action.specs.Openings.{Opens, switching, with, openingTold}
+use Rattle.action.specs.declared.opening.Opening.{Opening}
+use Rattle.answer.specs.Checks.{Outcome, refused, accepted}
+use Rattle.beacon.proofs.read as Beacon-read
+use Rattle.element.specs.ChannelSwitch.{switchTold}
+use Rattle.element.specs.MeasurementRequest.{requestTold}
+use Rattle.element.specs.TpcReport.{tpcReportTold}
+use Rattle.element.specs.TpcRequest.{tpcRequestTold}
+use Rattle.frame.proofs.read as Frame-read
+use Rattle.frame.proofs.read_body as Read-body
+use Rattle.frame.proofs.report_at as Report-at
+use Rattle.frame.proofs.request_at as Request-at
+use Rattle.frame.specs.Laid.{frameTold}
+use Rattle.frame.specs.declared.Frame.{Frame}
+use Rattle.frame.specs.declared.Reading.{Reading}
+use Rattle.header.proofs.read as Header-read
+use Rattle.header.specs.Headers.{Head, told}
+use Rattle.header.specs.declared.Header.{Header}
+use Rattle.measurement.proofs.reports.append as Reports-append
+use Rattle.measurement.proofs.reports.survey as Reports-survey
+use Rattle.measurement.proofs.requests.append as Requests-append
+use Rattle.measurement.proofs.requests.survey as Requests-survey
+use Rattle.claims.specs.Outcomes.{OneResult, OneOutcome}
+use Rattle.claims.proofs.OneOutcomeElements.{switch-of, switch-told, request-of, request-told, tpc-report-of, tpc-report-told, tpc-request-of, tpc-request-told}
+use Rattle.claims.proofs.Same.{once, told-once, written-once}
+
+header-of : Outcome Head → Header
+header-of (refused r) = Header.Refused r
+header-of (accepted h) = Header.Is (h .subtype) (h .toAll)
+
+header-told : (x : Header) → header-of (told x) ≡ x
+unfolding header-of
+header-told (Header.Refused r) = refl
+header-told (Header.Is s a) = refl
+
+pub header-read : OneResult 1 Header-read.Kinds.ps Header-read.Kinds.r Header-read.Reads.Post
+header-read κs a e f x y p q = told-once told header-of header-told p q
+
+pub beacon-read : OneResult 1 Beacon-read.Kinds.ps Beacon-read.Kinds.r Beacon-read.Reads.Post
+beacon-read κs a e f x y p q = once p q
+
+opening-of : Outcome Opens → Opening
+opening-of (refused r) = Opening.Refused r
+opening-of (accepted switching) = Opening.Switch
+opening-of (accepted (with k t)) = Opening.Token k t
+
+opening-told : (x : Opening) → opening-of (openingTold x) ≡ x
+unfolding opening-of
+opening-told (Opening.Refused r) = refl
+opening-told Opening.Switch = refl
+opening-told (Opening.Token k t) = refl
+
+pub body-opening : OneResult 1 Open.Kinds.ps Open.Kinds.r Open.Reads.Post
+body-opening κs a e f x y p q = told-once openingTold opening-of opening-told p q
+
+pub read-tpc-request : OneResult 1 Read-tpc-request.Kinds.ps Read-tpc-request.Kinds.r Read-tpc-request.Reads.Post
+read-tpc-request κs a e f x y p q = told-once tpcRequestTold tpc-request-of tpc-request-told p q
+
+pub read-tpc-report : OneResult 1 Read-tpc-report.Kinds.ps Read-tpc-report.Kinds.r Read-tpc-report.Reads.Post
+read-tpc-report κs a e f x y p q = told-once tpcReportTold tpc-report-of tpc-report-told p q
+
+pub read-channel-switch : OneResult 1 Read-channel-switch.Kinds.ps Read-channel-switch.Kinds.r Read-channel-switch.Reads.Post
+read-channel-switch κs a e f x y p q = told-once switchTold switch-of switch-told p q
+
+pub write-tpc-request : OneOutcome 1 Write-tpc-request.Kinds.ps Write-tpc-request.Kinds.r Write-tpc-request.Reads.Post (λ κs e. now (e .1 .0))
+write-tpc-request κs a e f x y p q = written-once p q
+
+pub write-tpc-report : OneOutcome 1 Write-tpc-report.Kinds.ps Write-tpc-report.Kinds.r Write-tpc-report.Reads.Post (λ κs e. now (e .1 .1 .0))
+write-tpc-report κs a e f x y p q = written-once p q
+
+pub write-channel-switch : OneOutcome 1 Write-channel-switch.Kinds.ps Write-channel-switch.Kinds.r Write-channel-switch.Reads.Post (λ κs e. now (e .1 .0))
+write-channel-switch κs a e f x y p q = written-once p q
+
+pub requests-survey : OneResult 1 Requests-survey.Kinds.ps Requests-survey.Kinds.r Requests-survey.Reads.Post
+requests-survey κs a e f x y p q = once p q
+
+pub reports-survey : OneResult 1 Reports-survey.Kinds.ps Reports-survey.Kinds.r Reports-survey.Reads.Post
+reports-survey κs a e f x y p q = once p q
+
+pub requests-append : OneOutcome 1 Requests-append.Kinds.ps Requests-append.Kinds.r Requests-append.Reads.Post (λ κs e. now (e .0))
+requests-append κs a e f x y p q = written-once p q
+
+pub reports-append : OneOutcome 1 Reports-append.Kinds.ps Reports-append.Kinds.r Reports-append.Reads.Post (λ κs e. now (e .0))
+reports-append κs a e f x y p q = written-once p q
+
+reading-of : Outcome Frame → Reading
+reading-of (refused r) = Reading.Refused r
+reading-of (accepted f) = Reading.Is f
+
+reading-told : (x : Reading) → reading-of (frameTold x) ≡ x
+unfolding reading-of
+reading-told (Reading.Refused r) = refl
+reading-told (Reading.Is f) = refl
+
+pub read-body : OneResult 1 Read-body.Kinds.ps Read-body.Kinds.r Read-body.Reads.Post
+read-body κs a e f x y p q = told-once frameTold reading-of reading-told p q
+
+pub frame-read : OneResult 1 Frame-read.Kinds.ps Frame-read.Kinds.r Frame-read.Reads.Post
+frame-read κs a e f x y p q = once p q
+
+pub request-at : OneResult 1 Request-at.Kinds.ps Request-at.Kinds.r Request-at.Reads.Post
+request-at κs a e f x y p q = told-once requestTold request-of request-told p q
+
+pub report-at : OneResult 1 Report-at.Kinds.ps Report-at.Kinds.r Report-at.Reads.Post
+report-at κs a e f x y p q = once p q

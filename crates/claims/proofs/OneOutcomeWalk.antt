@@ -1,0 +1,46 @@
+-- The promise of the element walk leaves one outcome: what follows a place says what stands there, and where. Assumes nothing.
+use mathlib.Core.Path.{_≡_, refl, sym, ap, _∙_}
+use mathlib.Core.List.{List}
+use Prim.Native.Nat.{ℕ, _+_, _-_, _≤_}
+use native.Mathlib.Omega.{arith}
+use denote.Ref.{now}
+use lib.ListN.{length, take, drop, length-drop}
+use lib.Seq.{length-take-le}
+use Rattle.walk.proofs.element_at as Element-at
+use Rattle.walk.specs.Elements.{Elements, end, cutHeader, cutContents, more, elementsIn}
+use Rattle.walk.specs.Found.{follow, Within}
+use Rattle.walk.specs.declared.Found.{Found}
+use Rattle.claims.specs.Outcomes.{OneResult}
+
+-- contents that lie in the run are as long as the places say
+long : (run : List ℕ) (start stop : ℕ) → start ≤ stop → stop ≤ length run → length (take (stop - start) (drop start run)) ≡ stop - start
+long run start stop a b = length-take-le (stop - start) (drop start run) (simp length-drop (omega arith))
+
+whole : (run : List ℕ) (id id' start start' stop stop' : ℕ) → id ≡ id' → start ≡ start' → stop ≡ stop' → Found.Whole id start stop ≡ Found.Whole id' start' stop'
+whole run id id' start start' stop stop' a b c = cc
+
+same-place : (run : List ℕ) (at : ℕ) (x y : Found) → Within at (length run) x → Within at (length run) y → follow run x ≡ follow run y → x ≡ y
+same-place run at Found.End Found.End w v e = refl
+same-place run at Found.End Found.CutHeader w v e = absurd (let z : _≡_ {A = ℕ} 0 1 = cc in omega arith)
+same-place run at Found.End (Found.CutContents i) w v e = absurd (let z : _≡_ {A = ℕ} 0 1 = cc in omega arith)
+same-place run at Found.End (Found.Whole i s t) w v e = absurd (let z : _≡_ {A = ℕ} 0 1 = cc in omega arith)
+same-place run at Found.CutHeader Found.End w v e = absurd (let z : _≡_ {A = ℕ} 0 1 = cc in omega arith)
+same-place run at Found.CutHeader Found.CutHeader w v e = refl
+same-place run at Found.CutHeader (Found.CutContents i) w v e = absurd (let z : _≡_ {A = ℕ} 0 1 = cc in omega arith)
+same-place run at Found.CutHeader (Found.Whole i s t) w v e = absurd (let z : _≡_ {A = ℕ} 0 1 = cc in omega arith)
+same-place run at (Found.CutContents j) Found.End w v e = absurd (let z : _≡_ {A = ℕ} 0 1 = cc in omega arith)
+same-place run at (Found.CutContents j) Found.CutHeader w v e = absurd (let z : _≡_ {A = ℕ} 0 1 = cc in omega arith)
+same-place run at (Found.CutContents j) (Found.CutContents i) w v e = let z : j ≡ i = cc in ap Found.CutContents z
+same-place run at (Found.CutContents j) (Found.Whole i s t) w v e = absurd (let z : _≡_ {A = ℕ} 0 1 = cc in omega arith)
+same-place run at (Found.Whole j a b) Found.End w v e = absurd (let z : _≡_ {A = ℕ} 0 1 = cc in omega arith)
+same-place run at (Found.Whole j a b) Found.CutHeader w v e = absurd (let z : _≡_ {A = ℕ} 0 1 = cc in omega arith)
+same-place run at (Found.Whole j a b) (Found.CutContents i) w v e = absurd (let z : _≡_ {A = ℕ} 0 1 = cc in omega arith)
+same-place run at (Found.Whole j a b) (Found.Whole i s t) w v e =
+    let k : j ≡ i = cc in
+    let c : take (b - a) (drop a run) ≡ take (t - s) (drop s run) = cc in
+    let n : b - a ≡ t - s = sym (long run a b (w .1) (w .2)) ∙ ap length c ∙ long run s t (v .1) (v .2) in
+    let p : a ≡ s = w .0 ∙ sym (v .0) in
+    whole run j i a s b t k p (omega (arith, w .1, v .1))
+
+pub element-at : OneResult 1 Element-at.Kinds.ps Element-at.Kinds.r Element-at.Reads.Post
+element-at κs a e f x y p q = same-place (now (a .0)) (a .1 .0) x y (p .1) (q .1) (sym (p .0) ∙ q .0)

@@ -1,0 +1,101 @@
+-- Demand 2 for a body of one element, from that for the element. Assumes nothing.
+use mathlib.Core.Path.{_≡_, refl, sym, ap, subst, _∙_}
+use mathlib.Core.Bool.{Bool, true}
+use mathlib.Core.List.{List, [], _∷_, _++_, append-nil}
+use Prim.Native.Nat.{ℕ, suc}
+use borrow.Author.Tests.{eq-eqb, eqb-true, not-false}
+use lib.Dec.{eqb}
+use lib.ListN.{length}
+use Rattle.action.specs.Singles.{Sole, sole, alone, single}
+use Rattle.answer.specs.Checks.{Outcome, refused, accepted, checked, andThen}
+use Rattle.answer.proofs.Judged.{never, passed, kept, stands}
+use Rattle.element.specs.Elements.{element, RoundTrip}
+use Rattle.measurement.proofs.RunLaws.{front, none, split, empty}
+use Rattle.octets.specs.Numbers.{Octets}
+use Rattle.walk.specs.Elements.{Elements, end, cutHeader, cutContents, more, elementsIn}
+
+-- what follows an accepted value was accepted too
+pub followed : {A B : Type 0} (o : Outcome A) (next : A → Outcome B) (b : B) → andThen o next ≡ accepted b
+    → (a : A) × (o ≡ accepted a) × (next a ≡ accepted b)
+followed (refused r) next b e = absurd (never e)
+followed (accepted a) next b e = (a, refl, e)
+
+module _ {A : Type 0} (id : ℕ) (means : List ℕ → Outcome A) where
+  -- one element, of this ID, with these contents, and nothing behind it
+  record One (es : Elements) (a : A) : Type 0 where
+    contents : List ℕ
+    only : es ≡ more id contents end
+    says : means contents ≡ accepted a
+
+  last : (es : Elements) (x a : A) → alone es x ≡ accepted a → (es ≡ end) × (x ≡ a)
+  last end x a e = (refl, cc)
+  last cutHeader x a e = absurd (never e)
+  last (cutContents i) x a e = absurd (never e)
+  last (more i c es) x a e = absurd (never e)
+
+  opened : (es : Elements) (s : Sole) → sole id es ≡ accepted s → es ≡ more id (s .contents) (s .rest)
+  unfolding sole
+  opened end s e = absurd (never e)
+  opened cutHeader s e = absurd (never e)
+  opened (cutContents i) s e = absurd (never (stands _ (passed _ _ _ e .1)))
+  opened (more i c es) s e =
+      let p = passed _ _ _ e in
+      let k : record { contents = c; rest = es } ≡ s = kept _ (p .1) in
+      ap (λ (n : ℕ). more n c es) (eqb-true i id (not-false (eqb i id) (p .0))) ∙ ap (λ (x : Sole). more id (x .contents) (x .rest)) k
+
+  one : (es : Elements) (a : A) → single id means es ≡ accepted a → One es a
+  unfolding single
+  one es a e =
+      let p = followed (sole id es) _ a e in
+      let s = p .0 in
+      let q = followed (means (s .contents)) (alone (s .rest)) a (p .2) in
+      let r = last (s .rest) (q .0) a (q .2) in
+      record {
+        contents = s .contents;
+        only = opened es s (p .1) ∙ ap (more id (s .contents)) (r .0);
+        says = q .1 ∙ ap accepted (r .1);
+      }
+
+  reads : (c : List ℕ) (a : A) → means c ≡ accepted a → single id means (more id c end) ≡ accepted a
+  unfolding single sole checked
+  reads c a e = simp (eq-eqb id id refl, e)
+
+  module _ (contents : A → List ℕ) (may : A → Bool) (Fits : A → Type 0) (t : RoundTrip means contents may Fits (λ a. true) (λ c. true)) where
+    -- the elements of what is written
+    written : (c : List ℕ) → elementsIn (element id c) ≡ more id c end
+    written c =
+        ap (λ (os : List ℕ). elementsIn (id ∷ length c ∷ os)) (sym (append-nil c)) ∙ front id c [] ∙ ap (more id c) none
+
+    -- the octets of a run of one element
+    laid : (run c : List ℕ) → elementsIn run ≡ more id c end → run ≡ element id c
+    laid run c e =
+        let y = split run id c end e in
+        y .octets ∙ ap (λ (os : List ℕ). element id c ++ os) (empty (y .rest) (y .behind)) ∙ append-nil (element id c)
+
+    inner : (run c : List ℕ) → Octets run → run ≡ element id c → Octets c
+    inner run c o e = let w : Octets (element id c) = subst Octets e o in λ j. w (suc (suc j))
+
+    there : (a : A) → Fits a → may a ≡ true → single id means (elementsIn (element id (contents a))) ≡ accepted a
+    there a f m = ap (single id means) (written (contents a)) ∙ reads (contents a) a (t .there a f m)
+
+    back : (run : List ℕ) (a : A) → Octets run → single id means (elementsIn run) ≡ accepted a → (may a ≡ true) × (element id (contents a) ≡ run)
+    back run a o e =
+        let p = one (elementsIn run) a e in
+        let l = laid run (p .contents) (p .only) in
+        let b = t .back (p .contents) a (inner run (p .contents) o l) (p .says) refl refl in
+        (b .0, ap (element id) (b .1) ∙ sym l)
+
+    exact : (a : A) → Fits a → single id means (elementsIn (element id (contents a))) ≡ accepted a → may a ≡ true
+    exact a f e =
+        let p = one (elementsIn (element id (contents a))) a e in
+        let g : more id (contents a) end ≡ more id (p .contents) end = sym (written (contents a)) ∙ p .only in
+        let same : contents a ≡ p .contents = cc in
+        t .exact a f (ap means same ∙ p .says) refl
+
+    fits : (run : List ℕ) (a : A) → Octets run → single id means (elementsIn run) ≡ accepted a → Fits a
+    fits run a o e =
+        let p = one (elementsIn run) a e in
+        t .fits (p .contents) a (inner run (p .contents) o (laid run (p .contents) (p .only))) (p .says)
+
+    pub single-trip : RoundTrip (λ run. single id means (elementsIn run)) (λ a. element id (contents a)) may Fits (λ a. true) (λ run. true)
+    single-trip = record { there = there; back = λ run a o e i k. back run a o e; exact = λ a f e i. exact a f e; fits = fits }

@@ -1,0 +1,176 @@
+-- What the definitions say of single frames: one of each kind is accepted, and records are not mixed up. Assumes nothing.
+use mathlib.Core.Path.{_≡_, refl, sym, ap, _∙_}
+use mathlib.Core.Bool.{true, false}
+use mathlib.Core.List.{List, [], _∷_, _++_}
+use Prim.Native.Nat.{ℕ}
+use lib.IntN.{pos, negsuc}
+use lib.ListN.{replicate}
+use Rattle.action.specs.Openings.{opensWith}
+use Rattle.action.specs.Singles.{sole, single}
+use Rattle.answer.specs.Checks.{Outcome, refused, accepted, checked}
+use Rattle.answer.specs.declared.Refusal.{Refusal}
+use Rattle.beacon.specs.Beacons.{Said, Told, nothing, takes, says, beaconMeans}
+use Rattle.beacon.specs.declared.MaybePower.{MaybePower}
+use Rattle.beacon.specs.declared.MaybeReport.{MaybeReport}
+use Rattle.beacon.specs.declared.MaybeSwitch.{MaybeSwitch}
+use Rattle.element.specs.ChannelSwitch.{switchMeans}
+use Rattle.element.specs.Elements.{fixed}
+use Rattle.element.specs.MeasurementReport.{reportMeans, noDensities}
+use Rattle.element.specs.MeasurementRequest.{requestMeans}
+use Rattle.element.specs.Quiet.{quietMeans}
+use Rattle.element.specs.TpcReport.{tpcReportMeans}
+use Rattle.element.specs.TpcRequest.{tpcRequestMeans}
+use Rattle.element.specs.declared.channel_switch.ChannelSwitch.{ChannelSwitch}
+use Rattle.element.specs.declared.measurement_report.Matter as Reports
+use Rattle.element.specs.declared.measurement_report.Report.{Report}
+use Rattle.element.specs.declared.measurement_request.Matter as Requests
+use Rattle.element.specs.declared.measurement_request.Request.{Request}
+use Rattle.element.specs.declared.quiet.Quiet.{Quiet}
+use Rattle.header.specs.Headers.{foreignHeader, foreignAddress, toAll, headerMeans}
+use Rattle.measurement.specs.Lists.{listed, recordsIn, nth}
+use Rattle.measurement.specs.Requests.{used}
+use Rattle.walk.specs.Elements.{elementsBehind, elementsIn}
+use Rattle.frame.specs.Actions.{requests, reports, tpcRequest, tpcReport, switch, actionMeans}
+use Rattle.frame.specs.Frames.{Kind, beacon, probeResponse, action, Sent, frameMeans, requestIn, reportIn, elementOf}
+
+abbrev own : List ℕ
+own = 2 ∷ 0 ∷ 0 ∷ 0 ∷ 0 ∷ 1 ∷ []
+
+abbrev master : List ℕ
+master = 2 ∷ 0 ∷ 0 ∷ 0 ∷ 0 ∷ 9 ∷ []
+
+-- a frame from the AP, by octet 0, destination and body, and what it means at interval 100
+abbrev frame : ℕ → List ℕ → List ℕ → List ℕ
+frame first to body = (first ∷ 0 ∷ 0 ∷ 0 ∷ []) ++ to ++ master ++ master ++ (0 ∷ 0 ∷ body)
+
+abbrev heard : List ℕ → Outcome Sent
+heard f = frameMeans own master 100 f
+
+-- Beacon, Probe Response, Action
+abbrev beaconFrame : List ℕ → List ℕ
+beaconFrame elements = frame 128 own (replicate 8 0 ++ (100 ∷ 0 ∷ 1 ∷ 0 ∷ elements))
+
+abbrev probeFrame : List ℕ → List ℕ
+probeFrame elements = frame 80 own (replicate 8 0 ++ (100 ∷ 0 ∷ 1 ∷ 0 ∷ elements))
+
+abbrev actionFrame : List ℕ → List ℕ
+actionFrame body = frame 208 own body
+
+abbrev to-own : Kind → Outcome Sent
+to-own k = accepted (record { toAll = false; kind = k })
+
+abbrev told : Said → Told
+told said = record { timestamp = 0; capability = 1; said = said }
+
+-- ---- the seven kinds
+
+pub a-beacon : heard (beaconFrame []) ≡ to-own (beacon (told nothing))
+unfolding frameMeans headerMeans foreignHeader foreignAddress toAll checked beaconMeans says elementsIn elementsBehind
+a-beacon = refl
+
+pub a-probe-response : heard (probeFrame []) ≡ to-own (probeResponse (told nothing))
+unfolding frameMeans headerMeans foreignHeader foreignAddress toAll checked beaconMeans says elementsIn elementsBehind
+a-probe-response = refl
+
+-- a request to enable, by its token, as octets and as a record
+abbrev asked : ℕ → List ℕ
+asked token = 38 ∷ 3 ∷ token ∷ 6 ∷ 0 ∷ []
+
+abbrev asks : ℕ → Request
+asks token = record { token = token; kind = 0; matter = Requests.Matter.Enable true false }
+
+pub a-measurement-request : heard (actionFrame (0 ∷ 0 ∷ 7 ∷ asked 1)) ≡ to-own (action (requests 7 (asks 1 ∷ [])))
+unfolding frameMeans headerMeans foreignHeader foreignAddress toAll checked actionMeans opensWith recordsIn listed elementsIn elementsBehind requestMeans used
+a-measurement-request = refl
+
+-- a report of "incapable"
+abbrev unable : ℕ → List ℕ
+unable token = 39 ∷ 3 ∷ token ∷ 2 ∷ 1 ∷ []
+
+abbrev says-unable : ℕ → Report
+says-unable token = record { token = token; kind = 1; matter = Reports.Matter.Incapable; densities = noDensities }
+
+pub a-measurement-report : heard (actionFrame (0 ∷ 1 ∷ 7 ∷ unable 1)) ≡ to-own (action (reports 7 (says-unable 1 ∷ [])))
+unfolding frameMeans headerMeans foreignHeader foreignAddress toAll checked actionMeans opensWith recordsIn listed elementsIn elementsBehind reportMeans
+a-measurement-report = refl
+
+pub a-tpc-request : heard (actionFrame (0 ∷ 2 ∷ 7 ∷ 34 ∷ 0 ∷ [])) ≡ to-own (action (tpcRequest 7))
+unfolding frameMeans headerMeans foreignHeader foreignAddress toAll checked actionMeans opensWith single sole elementsIn elementsBehind tpcRequestMeans fixed
+a-tpc-request = refl
+
+-- 20 dBm, and a margin of −1 dB
+pub a-tpc-report : heard (actionFrame (0 ∷ 3 ∷ 0 ∷ 35 ∷ 2 ∷ 20 ∷ 255 ∷ []))
+    ≡ to-own (action (tpcReport 0 (record { power = pos 20; margin = negsuc 0 })))
+unfolding frameMeans headerMeans foreignHeader foreignAddress toAll checked actionMeans opensWith single sole elementsIn elementsBehind tpcReportMeans fixed
+a-tpc-report = refl
+
+-- a switch to channel 44, by its count
+abbrev switched : ℕ → List ℕ
+switched count = actionFrame (0 ∷ 4 ∷ 37 ∷ 3 ∷ 1 ∷ 44 ∷ count ∷ [])
+
+abbrev to-switch : ℕ → ChannelSwitch
+to-switch count = record { mode = 1; channel = 44; count = count }
+
+pub a-switch : (count : ℕ) → heard (switched count) ≡ to-own (action (switch (to-switch count)))
+unfolding frameMeans headerMeans foreignHeader foreignAddress toAll checked actionMeans opensWith single sole elementsIn elementsBehind switchMeans fixed
+a-switch count = refl
+
+-- ---- told apart
+
+-- frames that differ in the count are read as different records
+pub count-counts : (m n : ℕ) → heard (switched m) ≡ heard (switched n) → m ≡ n
+count-counts m n e =
+    let g = sym (a-switch m) ∙ e ∙ a-switch n in
+    let h : _≡_ {A = Sent} (record { toAll = false; kind = action (switch (to-switch m)) }) (record { toAll = false; kind = action (switch (to-switch n)) }) = cc in
+    let k = ap (λ (s : Sent). s .kind) h in
+    let r : to-switch m ≡ to-switch n = cc in
+    ap (λ (s : ChannelSwitch). s .count) r
+
+-- one element, two, or three
+pub two-requests : heard (actionFrame ((0 ∷ 0 ∷ 7 ∷ []) ++ asked 5 ++ asked 1)) ≡ to-own (action (requests 7 (asks 5 ∷ asks 1 ∷ [])))
+unfolding frameMeans headerMeans foreignHeader foreignAddress toAll checked actionMeans opensWith recordsIn listed elementsIn elementsBehind requestMeans used
+two-requests = refl
+
+pub three-requests : heard (actionFrame ((0 ∷ 0 ∷ 7 ∷ []) ++ asked 5 ++ asked 1 ++ asked 3))
+    ≡ to-own (action (requests 7 (asks 5 ∷ asks 1 ∷ asks 3 ∷ [])))
+unfolding frameMeans headerMeans foreignHeader foreignAddress toAll checked actionMeans opensWith recordsIn listed elementsIn elementsBehind requestMeans used
+three-requests = refl
+
+-- by index: the last, one past it, and one that is no report
+module _ (i : ℕ) where
+  of-three : elementOf requestIn i (heard (actionFrame ((0 ∷ 0 ∷ 7 ∷ []) ++ asked 5 ++ asked 1 ++ asked 3)))
+      ≡ nth i (asks 5 ∷ asks 1 ∷ asks 3 ∷ [])
+  unfolding elementOf
+  of-three = simp three-requests
+
+pub third-request : elementOf requestIn 2 (heard (actionFrame ((0 ∷ 0 ∷ 7 ∷ []) ++ asked 5 ++ asked 1 ++ asked 3))) ≡ accepted (asks 3)
+third-request = of-three 2 ∙ unfold nth in refl
+
+pub no-fourth : elementOf requestIn 3 (heard (actionFrame ((0 ∷ 0 ∷ 7 ∷ []) ++ asked 5 ++ asked 1 ++ asked 3))) ≡ refused Refusal.Impossible
+no-fourth = of-three 3 ∙ unfold nth in refl
+
+pub no-report : elementOf reportIn 0 (heard (actionFrame ((0 ∷ 0 ∷ 7 ∷ []) ++ asked 5 ++ asked 1))) ≡ refused Refusal.Impossible
+unfolding elementOf
+no-report = simp two-requests
+
+-- a token used twice
+pub used-twice : heard (actionFrame ((0 ∷ 0 ∷ 7 ∷ []) ++ asked 5 ++ asked 5)) ≡ refused Refusal.Repeated
+unfolding frameMeans headerMeans foreignHeader foreignAddress toAll checked actionMeans opensWith recordsIn listed elementsIn elementsBehind requestMeans used
+used-twice = refl
+
+-- two Quiet elements of a beacon: both are kept, in their order
+abbrev quietly : ℕ → List ℕ
+quietly count = 40 ∷ 6 ∷ count ∷ 0 ∷ 10 ∷ 0 ∷ 20 ∷ 0 ∷ []
+
+abbrev is-quiet : ℕ → Quiet
+is-quiet count = record { count = count; period = 0; duration = 10; offset = 20 }
+
+pub two-quiets : heard (beaconFrame (quietly 3 ++ quietly 5))
+    ≡ to-own (beacon (told (record { power = MaybePower.Absent; report = MaybeReport.Absent; switch = MaybeSwitch.Absent; quiets = is-quiet 3 ∷ is-quiet 5 ∷ [] })))
+unfolding frameMeans headerMeans foreignHeader foreignAddress toAll checked beaconMeans says takes elementsIn elementsBehind quietMeans fixed
+two-quiets = refl
+
+-- the same frame to all ones is told from one to the station
+pub to-all : heard (frame 208 (replicate 6 255) (0 ∷ 2 ∷ 7 ∷ 34 ∷ 0 ∷ [])) ≡ accepted (record { toAll = true; kind = action (tpcRequest 7) })
+unfolding frameMeans headerMeans foreignHeader foreignAddress toAll checked actionMeans opensWith single sole elementsIn elementsBehind tpcRequestMeans fixed
+to-all = refl
