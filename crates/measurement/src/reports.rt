@@ -18,7 +18,6 @@ use crate::bodies;
 use answer::Answer;
 use answer::Refusal;
 use element::measurement_report;
-use element::measurement_report::Matter;
 use element::measurement_report::Reading;
 use element::measurement_report::Report;
 use octets::Wrote;
@@ -46,27 +45,12 @@ struct Step {
     clear: bool,
 }
 
-// A refusal, with a blank report beside it.
-fn no_report(refusal: Refusal) -> Reading
-    ensures { λ r. ⌜ r ≡ reportLaid (refused refusal) ⌝ }
-{
-    let densities = [0u8; 8];
-    let report = Report {
-        token: 0,
-        kind: 0,
-        matter: Matter::Uninterpreted,
-        densities,
-    };
-    let answer = Answer::Refused(refusal);
-    Reading { answer, report }
-}
-
 // The refusal of a survey, with everything else at one fixed value.
 fn no_survey(refusal: Refusal) -> Surveyed
     ensures { λ r. ⌜ r ≡ reportsSurveyed 0 true (refused refusal) ⌝ }
 {
     let answer = Answer::Refused(refusal);
-    let held = no_report(Refusal::Impossible);
+    let held = measurement_report::refused(Refusal::Impossible);
     Surveyed {
         answer,
         count: 0,
@@ -79,7 +63,7 @@ fn no_survey(refusal: Refusal) -> Surveyed
 fn no_step(refusal: Refusal) -> Step
     ensures { λ r. ⌜ r ≡ record { reading = reportLaid (refused refusal); next = 0; clear = false } ⌝ }
 {
-    let reading = no_report(refusal);
+    let reading = measurement_report::refused(refusal);
     Step {
         reading,
         next: 0,
@@ -149,7 +133,7 @@ pub fn survey(run: &[u8], index: usize) -> Surveyed
 {
     let mut count: usize = 0;
     let mut at: usize = 0;
-    let mut held = no_report(Refusal::Impossible);
+    let mut held = measurement_report::refused(Refusal::Impossible);
     let mut plain = true;
     while at < run.len() {
         let step = step_at(run, at);

@@ -4,7 +4,7 @@ use Rattle.measurement.proofs.reports.no_step.Statement.{statement}
 use Rattle.measurement.proofs.reports.no_step.Tie as tie
 
 returns : tie.Need-returns
-returns c = simp (c .no-report .ensures)
+returns c = simp (c .refused .ensures)
 
 pub no-step-spec : {M : Type 1} → statement M
 no-step-spec = tie.close (tie.spec (λ c κs. search needs) returns)

@@ -4,7 +4,7 @@ use Rattle.measurement.proofs.reports.no_survey.Statement.{statement}
 use Rattle.measurement.proofs.reports.no_survey.Tie as tie
 
 returns : tie.Need-returns
-returns c = simp (c .no-report .ensures)
+returns c = simp (c .refused .ensures)
 
 pub no-survey-spec : {M : Type 1} → statement M
 no-survey-spec = tie.close (tie.spec (λ c κs. search needs) returns)

@@ -29,7 +29,7 @@ met : (c : tie.After-enum-told Inv-loop μ-loop)
 met c = report-step (c .before .before .before .before .before .before .before .before .before .args .run .now) (c .before .before .before .before .before .before .loop .at) (c .before .before .before .before .step-at .result) (c .before .before .before .before .step-at .ensures) (c .enum-told .given .1)
 
 loop-holds : tie.Need-loop-holds Inv-loop μ-loop
-loop-holds c = ([], rw (c .no-report .ensures) (start reportSort reportLaid (c .before .before .args .run .now) (c .before .before .args .index)))
+loop-holds c = ([], rw (c .refused .ensures) (start reportSort reportLaid (c .before .before .args .run .now) (c .before .before .args .index)))
 
 returns : tie.Need-returns Inv-loop μ-loop
 returns c =
