@@ -7,4 +7,5 @@ pub mod OneOutcomeLeaves
 pub mod OneOutcomeWalk
 pub mod Refusals
 pub mod Same
+pub mod Schedules
 pub mod Witnesses

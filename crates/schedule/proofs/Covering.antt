@@ -1,0 +1,140 @@
+-- Which units a schedule covers: the test says what the runs say, and where the first covered unit lies. Assumes nothing.
+use mathlib.Core.Bool.{Bool, true, false, not, _&&_}
+use mathlib.Core.Logic.{_⊎_, inl, inr, ⊎-elim}
+use mathlib.Core.Path.{_≡_, refl, sym, ap, _∙_}
+use Prim.Native.Nat.{ℕ, zero, suc, _+_, _-_, _*_, _/_, _%_, _<_, _≤_}
+use native.Mathlib.Nat.{mod-zero, mod-lt, mod-eq-of-lt, mod-self, mod-add-mod, div-add-mod', add-mul-mod-self-right, mod-le, zero-mod, div-zero, div-mul-le-self, le-refl, sub-self}
+use native.Mathlib.Omega.{arith}
+use borrow.Author.Tests.{lt-ltb, le-ltb, ltb-true, ltb-false}
+use lib.Dec.{ltb}
+use Rattle.answer.proofs.Booleans.{clash}
+use Rattle.schedule.specs.declared.Schedule.{Schedule}
+use Rattle.schedule.specs.Schedules.{Run, Covers, covered}
+use Rattle.schedule.specs.Units.{someUnit}
+use Rattle.schedule.proofs.FirstUnit.{either, some-none, some-one, first}
+
+zero-or-more : (n : ℕ) → (n ≡ 0) ⊎ (0 < n)
+zero-or-more zero = inl refl
+zero-or-more (suc n) = inr (omega arith)
+
+-- ---- one unit
+
+module _ (s : Schedule) where
+  pub before-start : (u : ℕ) → u < s .start → covered s u ≡ false
+  unfolding covered
+  before-start u h = simp (lt-ltb _ _ h)
+
+  pub from-start : (u : ℕ) → s .start ≤ u → covered s u ≡ ltb ((u - s .start) % s .period) (s .duration)
+  unfolding covered
+  from-start u h = simp (le-ltb _ _ h)
+
+  from-start-once : (u : ℕ) → s .start ≤ u → s .period ≡ 0 → covered s u ≡ ltb (u - s .start) (s .duration)
+  from-start-once u h e =
+      from-start u h ∙ ap (λ (n : ℕ). ltb n (s .duration)) (ap (λ (p : ℕ). (u - s .start) % p) e ∙ mod-zero (u - s .start))
+
+  -- the unit is at the start or after it, or before it
+  sides : (u : ℕ) {A : Type 0} → (u < s .start → A) → (s .start ≤ u → A) → A
+  sides u before after = ⊎-elim (λ (y : ltb u (s .start) ≡ true). before (ltb-true _ _ y)) (λ (n : ltb u (s .start) ≡ false). after (ltb-false u (s .start) n)) (either (ltb u (s .start)))
+
+  never : (u : ℕ) → s .duration ≡ 0 → covered s u ≡ false
+  never u e =
+      sides u (before-start u) (λ h. from-start u h ∙ le-ltb ((u - s .start) % s .period) (s .duration) (omega arith))
+
+  at-start : 0 < s .duration → covered s (s .start) ≡ true
+  at-start h =
+      from-start (s .start) (le-refl _) ∙ lt-ltb ((s .start - s .start) % s .period) (s .duration) (simp (sub-self, zero-mod) h)
+
+  -- n units past u, short of the next run, the run is n units older
+  within-run : (u n : ℕ) → s .start ≤ u → (u - s .start) % s .period + n < s .period → (u + n - s .start) % s .period ≡ (u - s .start) % s .period + n
+  within-run u n h b =
+      ap (λ (x : ℕ). x % s .period) (let e : u + n - s .start ≡ u - s .start + n = omega arith in e)
+      ∙ sym (mod-add-mod (u - s .start) (s .period) n) ∙ mod-eq-of-lt b
+
+  -- how many units past u the next run begins
+  abbrev pub toNext : ℕ → ℕ
+  toNext u = s .period - (u - s .start) % s .period
+
+  next-run : (u : ℕ) → s .start ≤ u → 0 < s .period → (u + toNext u - s .start) % s .period ≡ 0
+  next-run u h b =
+      ap (λ (x : ℕ). x % s .period) (let e : u + toNext u - s .start ≡ u - s .start + toNext u = omega arith in e)
+      ∙ sym (mod-add-mod (u - s .start) (s .period) (toNext u))
+      ∙ ap (λ (x : ℕ). x % s .period) (let e : (u - s .start) % s .period + toNext u ≡ s .period = omega (arith, mod-lt (u - s .start) b) in e)
+      ∙ mod-self (s .period)
+
+-- ---- some unit from a on and before b: a law for each way out of `covers_some`
+
+module _ (s : Schedule) (a b : ℕ) where
+  pub some-never : s .duration ≡ 0 → false ≡ someUnit (covered s) a (b - a)
+  some-never e = sym (some-none (covered s) a (b - a) (λ u l h. never s u e))
+
+  pub some-to-come : (s .duration ≡ 0 → ⊥) → a < s .start → ltb (s .start) b ≡ someUnit (covered s) a (b - a)
+  some-to-come d h = first (covered s) a b (s .start) (omega arith) (λ u l k. before-start s u k) (at-start s (omega arith))
+
+  some-here : a < b → covered s a ≡ true → true ≡ someUnit (covered s) a (b - a)
+  some-here h e = sym (some-one (covered s) a (b - a) a (le-refl a) (omega arith) e)
+
+  pub some-once : a < b → s .start ≤ a → s .period ≡ 0 → ltb (a - s .start) (s .duration) ≡ someUnit (covered s) a (b - a)
+  some-once h st e = ⊎-elim running over (either (ltb (a - s .start) (s .duration)))
+    where
+      running : ltb (a - s .start) (s .duration) ≡ true → ltb (a - s .start) (s .duration) ≡ someUnit (covered s) a (b - a)
+      running y = y ∙ some-here h (from-start-once s a st e ∙ y)
+
+      over : ltb (a - s .start) (s .duration) ≡ false → ltb (a - s .start) (s .duration) ≡ someUnit (covered s) a (b - a)
+      over n =
+          n ∙ sym
+          (some-none (covered s) a (b - a)
+          (λ u l k. from-start-once s u (omega arith) e ∙ le-ltb (u - s .start) (s .duration) (omega (arith, ltb-false (a - s .start) (s .duration) n))))
+
+  pub some-running : a < b → s .start ≤ a → (a - s .start) % s .period < s .duration → true ≡ someUnit (covered s) a (b - a)
+  some-running h st k = some-here h (from-start s a st ∙ lt-ltb _ _ k)
+
+  pub some-next : (s .duration ≡ 0 → ⊥) → a < b → s .start ≤ a → (s .period ≡ 0 → ⊥) → s .duration ≤ (a - s .start) % s .period
+      → ltb (toNext s a) (b - a) ≡ someUnit (covered s) a (b - a)
+  some-next d h st pp k = moved ∙ first (covered s) a b (a + toNext s a) (omega arith) between begins
+    where
+      moved : ltb (toNext s a) (b - a) ≡ ltb (a + toNext s a) b
+      moved = ⊎-elim
+          (λ (y : ltb (toNext s a) (b - a) ≡ true). y ∙ sym (lt-ltb (a + toNext s a) b (omega (arith, ltb-true (toNext s a) (b - a) y))))
+          (λ (n : ltb (toNext s a) (b - a) ≡ false). n ∙ sym (le-ltb (a + toNext s a) b (omega (arith, ltb-false (toNext s a) (b - a) n))))
+          (either (ltb (toNext s a) (b - a)))
+
+      begins : covered s (a + toNext s a) ≡ true
+      begins =
+          from-start s (a + toNext s a) (omega arith)
+          ∙ lt-ltb ((a + toNext s a - s .start) % s .period) (s .duration) (omega (arith, next-run s a st (omega arith)))
+
+      between : (u : ℕ) → a ≤ u → u < a + toNext s a → covered s u ≡ false
+      between u l m =
+          from-start s u (omega arith)
+          ∙ le-ltb ((u - s .start) % s .period) (s .duration)
+          (omega (arith, ap (λ (n : ℕ). (n - s .start) % s .period) (let e : a + (u - a) ≡ u = omega arith in e), within-run s a (u - a) st (omega arith)))
+
+-- ---- the test and the runs
+
+module _ (s : Schedule) (u : ℕ) where
+  pub covered-covers : covered s u ≡ true → Covers s u
+  covered-covers e = (
+    (u - s .start) / s .period,
+    record {
+      repeats =
+          ⊎-elim (λ (z : s .period ≡ 0). inl (ap (λ (p : ℕ). (u - s .start) / p) z ∙ div-zero (u - s .start))) (λ (z : 0 < s .period). inr z) (zero-or-more (s .period));
+      begun = omega (arith, div-mul-le-self (u - s .start) (s .period), started);
+      not-over = omega (arith, div-add-mod' (u - s .start) (s .period), short, started);
+    },
+  )
+    where
+      started : s .start ≤ u
+      started = sides s u (λ h. clash (sym e ∙ before-start s u h)) (λ h. h)
+
+      short : (u - s .start) % s .period < s .duration
+      short = ltb-true ((u - s .start) % s .period) (s .duration) (sym (from-start s u started) ∙ e)
+
+  pub covers-covered : Covers s u → covered s u ≡ true
+  covers-covered (j, run) =
+      from-start s u (omega (arith, run .begun))
+      ∙ lt-ltb ((u - s .start) % s .period) (s .duration) (omega (arith, same, mod-le (u - (s .start + j * s .period)) (s .period), run .begun, run .not-over))
+    where
+      same : (u - s .start) % s .period ≡ (u - (s .start + j * s .period)) % s .period
+      same =
+          ap (λ (n : ℕ). n % s .period) (let q : u - s .start ≡ u - (s .start + j * s .period) + j * s .period = omega (arith, run .begun) in q)
+          ∙ add-mul-mod-self-right (u - (s .start + j * s .period)) j (s .period)

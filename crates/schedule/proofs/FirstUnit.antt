@@ -1,0 +1,59 @@
+-- Some unit of several passes exactly if the first that passes is one of them. Assumes nothing.
+use mathlib.Core.Bool.{Bool, true, false, _||_}
+use mathlib.Core.Logic.{_⊎_, inl, inr, ⊎-elim}
+use mathlib.Core.Path.{_≡_, refl, sym, ap, _∙_}
+use Prim.Native.Nat.{ℕ, zero, suc, _+_, _-_, _<_, _≤_}
+use native.Mathlib.Nat.{le-refl, eq-or-lt-of-le}
+use native.Mathlib.Omega.{arith}
+use borrow.Author.Tests.{ltb-true, ltb-false}
+use lib.Dec.{ltb}
+use Rattle.answer.proofs.Booleans.{clash, or-go, or-stop}
+use Rattle.schedule.specs.Units.{someUnit}
+
+-- a test goes one way or the other
+pub either : (t : Bool) → (t ≡ true) ⊎ (t ≡ false)
+either true = inl refl
+either false = inr refl
+
+module _ (test : ℕ → Bool) where
+  pub some-none : (a n : ℕ) → ((u : ℕ) → a ≤ u → u < a + n → test u ≡ false) → someUnit test a n ≡ false
+  unfolding someUnit
+  some-none a zero h = refl
+  some-none a (suc n) h =
+      or-go (test a) (h a (le-refl a) (omega arith)) ∙ some-none (suc a) n (λ u lo hi. h u (omega arith) (omega arith))
+
+  -- the one that passes stands at a, or among the units after it
+  one-more : (a n u : ℕ) → a ≤ u → test u ≡ true → (suc a ≤ u → someUnit test (suc a) n ≡ true) → someUnit test a (suc n) ≡ true
+  unfolding someUnit
+  one-more a n u lo e rest =
+      ⊎-elim (λ (y : test a ≡ true). or-stop (test a) _ y) (λ (x : test a ≡ false). or-go (test a) x ∙ rest (later x)) (either (test a))
+    where
+      later : test a ≡ false → suc a ≤ u
+      later x = ⊎-elim (λ (q : a ≡ u). clash (sym e ∙ ap test (sym q) ∙ x)) (λ q. q) (eq-or-lt-of-le lo)
+
+  pub some-one : (a n u : ℕ) → a ≤ u → u < a + n → test u ≡ true → someUnit test a n ≡ true
+  some-one a zero u lo hi e = absurd (omega arith)
+  some-one a (suc n) u lo hi e = one-more a n u lo e (λ h. some-one (suc a) n u h (omega arith) e)
+
+  -- the unit that passes
+  pub found : (a n : ℕ) → someUnit test a n ≡ true → (u : ℕ) × (a ≤ u) × (u < a + n) × (test u ≡ true)
+  unfolding someUnit
+  found a zero e = clash (sym e)
+  found a (suc n) e =
+      ⊎-elim
+      (λ (y : test a ≡ true). (a, le-refl a, omega arith, y))
+      (λ (x : test a ≡ false). let w = found (suc a) n (sym (or-go (test a) x) ∙ e) in (w .0, omega (arith, w .1), omega (arith, w .2), w .3))
+      (either (test a))
+
+  -- m is the first unit from a on that passes
+  pub first : (a b m : ℕ) → a ≤ m → ((u : ℕ) → a ≤ u → u < m → test u ≡ false) → test m ≡ true → ltb m b ≡ someUnit test a (b - a)
+  first a b m lo none e = ⊎-elim among past (either (ltb m b))
+    where
+      among : ltb m b ≡ true → ltb m b ≡ someUnit test a (b - a)
+      among y = y ∙ sym (some-one a (b - a) m lo (omega (arith, ltb-true m b y)) e)
+
+      past : ltb m b ≡ false → ltb m b ≡ someUnit test a (b - a)
+      past x = x ∙ sym (some-none a (b - a) (λ u l h. none u l (omega (arith, ltb-false m b x))))
+
+  pub no-units : (a b : ℕ) → b ≤ a → false ≡ someUnit test a (b - a)
+  no-units a b h = sym (some-none a (b - a) (λ u l k. absurd (omega arith)))

@@ -1,0 +1,31 @@
+-- A quiet schedule (01, "The station"): "A Quiet element starts at S = (k + count) times B + offset and covers S to S + duration − 1;
+-- with period p > 0 again at S + j times p times B for every j ≥ 1."
+use mathlib.Core.Bool.{Bool, not, _&&_}
+use mathlib.Core.Logic.{_⊎_}
+use mathlib.Core.Path.{_≡_}
+use Prim.Native.Nat.{ℕ, _+_, _-_, _*_, _%_, _<_, _≤_}
+use lib.Dec.{ltb}
+use Rattle.element.specs.declared.quiet.Quiet.{Quiet}
+use Rattle.schedule.specs.declared.Schedule.{Schedule}
+
+-- the schedule of the element, k whole beacon intervals of b units having passed
+abbrev pub setBy : Quiet → ℕ → ℕ → Schedule
+setBy q k b = record { start = (k + q .count) * b + q .offset; period = q .period * b; duration = q .duration }
+
+-- what a slot holds that is not in use
+abbrev pub none : Schedule
+none = record { start = 0; period = 0; duration = 0 }
+
+-- the unit u lies in run number j: run 0, or with a period any later one
+pub record Run (s : Schedule) (u j : ℕ) : Type 0 where
+  pub repeats : (j ≡ 0) ⊎ (0 < s .period)
+  pub begun : s .start + j * s .period ≤ u
+  pub not-over : u < s .start + j * s .period + s .duration
+
+-- the schedule covers the unit: it lies in some run
+abbrev pub Covers : Schedule → ℕ → Type 0
+Covers s u = (j : ℕ) × Run s u j
+
+-- the same as a test, by how far the unit lies past the start of the latest run (x % 0 is x); `Covering` proves them the same
+unfoldable pub covered : Schedule → ℕ → Bool
+covered s u = not (ltb u (s .start)) && ltb ((u - s .start) % s .period) (s .duration)

@@ -1,0 +1,60 @@
+// A quiet schedule (document 01, "The station"; 802.11h 7.3.2.23 and 11.6.2).
+ghost use mathlib.Core.Path.{_≡_};
+ghost use Prim.Native.Nat.{_-_};
+ghost use Rattle.schedule.specs.Schedules.{setBy, covered};
+ghost use Rattle.schedule.specs.Units.{someUnit};
+use element::quiet::Quiet;
+
+// It covers `duration` TU from `start` on, and with a period over 0 again every `period` TU.
+pub struct Schedule {
+    pub start: u64,
+    pub period: u64,
+    pub duration: u64,
+}
+
+impl Schedule {
+    // What a slot holds that is not in use.
+    pub const NONE: Schedule = Schedule {
+        start: 0,
+        period: 0,
+        duration: 0,
+    };
+
+    // The schedule that a Quiet element sets when so many whole beacon intervals have passed.
+    // Every factor has a narrow type, so nothing wraps.
+    pub fn set_by(quiet: Quiet, passed: u32, interval: u16) -> Schedule
+        ensures { λ r. ⌜ r ≡ setBy quiet passed interval ⌝ }
+    {
+        let tbtt = ((passed as u64) + (quiet.count as u64)) * (interval as u64);
+        Schedule {
+            start: tbtt + (quiet.offset as u64),
+            period: (quiet.period as u64) * (interval as u64),
+            duration: quiet.duration as u64,
+        }
+    }
+
+    // Whether some unit from `from` on and before `to` is covered. The first covered unit from `from` on is looked up, not
+    // looked for, so this costs the same for one unit and for all of them.
+    pub fn covers_some(self, from: u64, to: u64) -> bool
+        ensures { λ r. ⌜ r ≡ someUnit (covered self) from (to - from) ⌝ }
+    {
+        if to <= from {
+            return false;
+        }
+        if self.duration == 0 {
+            return false;
+        }
+        if from < self.start {
+            return self.start < to;
+        }
+        let into = from - self.start;
+        if self.period == 0 {
+            return into < self.duration;
+        }
+        let past = into % self.period;
+        if past < self.duration {
+            return true;
+        }
+        self.period - past < to - from
+    }
+}
