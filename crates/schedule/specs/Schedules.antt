@@ -12,10 +12,6 @@ use Rattle.schedule.specs.declared.Schedule.{Schedule}
 abbrev pub setBy : Quiet → ℕ → ℕ → Schedule
 setBy q k b = record { start = (k + q .count) * b + q .offset; period = q .period * b; duration = q .duration }
 
--- what a slot holds that is not in use
-abbrev pub none : Schedule
-none = record { start = 0; period = 0; duration = 0 }
-
 -- the unit u lies in run number j: run 0, or with a period any later one
 pub record Run (s : Schedule) (u j : ℕ) : Type 0 where
   pub repeats : (j ≡ 0) ⊎ (0 < s .period)

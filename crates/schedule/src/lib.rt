@@ -13,13 +13,6 @@ pub struct Schedule {
 }
 
 impl Schedule {
-    // What a slot holds that is not in use.
-    pub const NONE: Schedule = Schedule {
-        start: 0,
-        period: 0,
-        duration: 0,
-    };
-
     // The schedule that a Quiet element sets when so many whole beacon intervals have passed.
     // Every factor has a narrow type, so nothing wraps.
     pub fn set_by(quiet: Quiet, passed: u32, interval: u16) -> Schedule
