@@ -8,4 +8,5 @@ pub mod OneOutcomeWalk
 pub mod Refusals
 pub mod Same
 pub mod Schedules
+pub mod Stations
 pub mod Witnesses

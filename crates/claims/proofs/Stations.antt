@@ -1,0 +1,46 @@
+-- The station's calls: each promise leaves one outcome, and a refused call leaves the station as it was. Assumes nothing.
+use mathlib.Core.Path.{_≡_, refl}
+use Prim.Native.Nat.{ℕ}
+use native.Mathlib.Omega.{arith}
+use Rattle.answer.specs.Checks.{Outcome, refused, accepted}
+use Rattle.answer.specs.declared.Answer.{Answer}
+use Rattle.answer.specs.declared.Refusal.{Refusal}
+use Rattle.station.proofs.Station.advance as Advance
+use Rattle.station.proofs.Station.ask as Ask
+use Rattle.station.proofs.Station.start as Start
+use Rattle.station.proofs.asking.Permission.number as Permission-number
+use Rattle.station.proofs.pending.Pending.comes_before as Comes-before
+use Rattle.station.proofs.pending.Pending.silences as Silences
+use Rattle.station.proofs.pending.Pending.up_to as Up-to
+use Rattle.station.specs.Clock.{stepped, advanceMeans, advanceOf}
+use Rattle.station.specs.declared.Station.{Station}
+use Rattle.claims.specs.Outcomes.{OneResult}
+use Rattle.claims.proofs.Same.{once}
+
+pub start : OneResult 0 Start.Kinds.ps Start.Kinds.r Start.Reads.Post
+start κs a e f x y p q = once (p .0) (q .0)
+
+pub advance : OneResult 0 Advance.Kinds.ps Advance.Kinds.r Advance.Reads.Post
+advance κs a e f x y p q = once (p .0) (q .0)
+
+pub ask : OneResult 0 Ask.Kinds.ps Ask.Kinds.r Ask.Reads.Post
+ask κs a e f x y p q = once p q
+
+pub permission-number : OneResult 0 Permission-number.Kinds.ps Permission-number.Kinds.r Permission-number.Reads.Post
+permission-number κs a e f x y p q = once p q
+
+pub pending-silences : OneResult 0 Silences.Kinds.ps Silences.Kinds.r Silences.Reads.Post
+pending-silences κs a e f x y p q = once p q
+
+pub pending-up-to : OneResult 0 Up-to.Kinds.ps Up-to.Kinds.r Up-to.Reads.Post
+pending-up-to κs a e f x y p q = once p q
+
+pub pending-comes-before : OneResult 0 Comes-before.Kinds.ps Comes-before.Kinds.r Comes-before.Reads.Post
+pending-comes-before κs a e f x y p q = once p q
+
+refused-same : (s : Station) (o : Outcome Station) (r : Refusal) → stepped s o .answer ≡ Answer.Refused r → stepped s o .station ≡ s
+refused-same s (refused r) _ e = refl
+refused-same s (accepted next) r e = absurd (let z : _≡_ {A = ℕ} 0 1 = cc in omega arith)
+
+pub refused-advance : (s : Station) (n : ℕ) (r : Refusal) → advanceOf s n .answer ≡ Answer.Refused r → advanceOf s n .station ≡ s
+refused-advance s n r e = refused-same s (advanceMeans s n) r e

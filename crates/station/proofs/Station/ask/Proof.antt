@@ -1,0 +1,100 @@
+-- `Station::ask` meets its contract: each way out is a way through the list of cases.
+-- Assumes nothing.
+use mathlib.Core.Bool.{false}
+use mathlib.Core.List.{[], _∷_}
+use mathlib.Core.Path.{_≡_, sym, ap, _∙_}
+use Prim.Native.Nat.{_+_}
+use borrow.Author.Needs.{needs}
+use borrow.Author.Tests.{eq-eqb, ne-eqb, lt-ltb, le-ltb}
+use Rattle.station.specs.Asking.{quietIn, _gives_, firstOf, permissionOf}
+use Rattle.station.specs.Stations.{inUse}
+use Rattle.station.specs.Waiting.{silences, upTo, comesBefore}
+use Rattle.station.specs.declared.asking.Permission.{Permission}
+use Rattle.station.proofs.Answers.{past, stop, done}
+use Rattle.station.proofs.Station.ask.Statement.{statement}
+use Rattle.station.proofs.Station.ask.Tie as tie
+
+no-silence : (c : tie.Else3) → silences (c .before .before .before .before .before .args .self .pending) ≡ false
+no-silence c = sym (c .before .silences .ensures) ∙ c .if3 .left
+
+not-now : (c : tie.Else4) → let s = c .before .before .before .before .before .before .before .args .self in quietIn (inUse s) (s .clock) (s .clock + 1) ≡ false
+not-now c = sym (c .before .quiet-between .ensures) ∙ c .if4 .left
+
+-- what the second look finds, with the end that `up_to` gives
+later : (c : tie.After-quiet-between2)
+    → let a = c .before .before .before .before .before .before .before .before .before .args in
+    c .quiet-between2 .result ≡ quietIn (inUse (a .self)) (a .self .clock + 1) (upTo (a .self .pending) (a .self .clock + a .units))
+later c =
+    let s = c .before .before .before .before .before .before .before .before .before .args .self in
+    c .quiet-between2 .ensures ∙ ap (quietIn (inUse s) (s .clock + 1)) (c .before .up-to .ensures)
+
+returns : tie.Need-returns
+unfolding permissionOf
+returns c = stop _ _ (eq-eqb _ _ (c .if1 .taken))
+
+returns-2 : tie.Need-returns-2
+unfolding permissionOf
+returns-2 c = past _ _ (ne-eqb _ _ (c .before .if1 .left)) (stop _ _ (lt-ltb _ _ (c .if2 .taken)))
+
+returns-3 : tie.Need-returns-3
+unfolding permissionOf
+returns-3 c =
+    past _ _ (ne-eqb _ _ (c .before .before .before .before .if1 .left))
+    (past _ _ (le-ltb _ _ (c .before .before .before .if2 .left))
+    (stop _ _ (sym (c .before .silences .ensures) ∙ c .if3 .taken)))
+
+returns-4 : tie.Need-returns-4
+unfolding permissionOf
+returns-4 c =
+    past _ _ (ne-eqb _ _ (c .before .before .before .before .before .before .if1 .left))
+    (past _ _ (le-ltb _ _ (c .before .before .before .before .before .if2 .left))
+    (past _ _ (no-silence (c .before .before))
+    (stop _ _ (sym (c .before .quiet-between .ensures) ∙ c .if4 .taken))))
+
+returns-5 : tie.Need-returns-5
+unfolding permissionOf
+returns-5 c =
+    past _ _ (ne-eqb _ _ (c .before .before .before .before .before .before .before .before .before .if1 .left))
+    (past _ _ (le-ltb _ _ (c .before .before .before .before .before .before .before .before .if2 .left))
+    (past _ _ (no-silence (c .before .before .before .before .before))
+    (past _ _ (not-now (c .before .before .before))
+    (stop _ _ (sym (later (c .before)) ∙ c .if5 .taken)))))
+
+-- past all cases but the last
+last-case : (c : tie.Else5) {p : Permission}
+    → let a = c .before .before .before .before .before .before .before .before .before .before .args in
+    p ≡ firstOf (comesBefore (a .self .pending) (a .self .clock + a .units) gives Permission.SwitchBefore ∷ []) → p ≡ permissionOf (a .self) (a .units)
+unfolding permissionOf
+last-case c e =
+    past _ _ (ne-eqb _ _ (c .before .before .before .before .before .before .before .before .before .if1 .left))
+    (past _ _ (le-ltb _ _ (c .before .before .before .before .before .before .before .before .if2 .left))
+    (past _ _ (no-silence (c .before .before .before .before .before))
+    (past _ _ (not-now (c .before .before .before))
+    (past _ _ (sym (later (c .before)) ∙ c .if5 .left) e))))
+
+returns-6 : tie.Need-returns-6
+returns-6 c = last-case (c .before .before) (stop _ _ (sym (c .before .comes-before .ensures) ∙ c .if6 .taken))
+
+returns-7 : tie.Need-returns-7
+returns-7 c = last-case (c .before .before) (past _ _ (sym (c .before .comes-before .ensures) ∙ c .if6 .left) done)
+
+pub ask-spec : {M : Type 1} → statement M
+ask-spec =
+    tie.close
+    (tie.spec
+    returns
+    returns-2
+    (λ c. search needs)
+    (λ c. search needs)
+    (λ c κs. search needs)
+    returns-3
+    (λ c. search needs)
+    (λ c κs. search needs)
+    returns-4
+    (λ c. search needs)
+    (λ c κs. search needs)
+    (λ c κs. search needs)
+    returns-5
+    (λ c κs. search needs)
+    returns-6
+    returns-7)

@@ -1,0 +1,6 @@
+pub mod Asking
+pub mod Clock
+pub mod Starting
+pub mod Stations
+pub mod Validity
+pub mod Waiting
