@@ -1,4 +1,5 @@
--- The station's calls: each promise leaves one outcome, and a refused call leaves the station as it was. Assumes nothing.
+-- The station's calls: each promise leaves one outcome, a refused advance leaves the station as it was,
+-- and a refused start gives none that a call may be handed. Assumes nothing.
 use mathlib.Core.Path.{_≡_, refl}
 use Prim.Native.Nat.{ℕ}
 use native.Mathlib.Omega.{arith}
@@ -13,6 +14,8 @@ use Rattle.station.proofs.pending.Pending.comes_before as Comes-before
 use Rattle.station.proofs.pending.Pending.silences as Silences
 use Rattle.station.proofs.pending.Pending.up_to as Up-to
 use Rattle.station.specs.Clock.{stepped, advanceMeans, advanceOf}
+use Rattle.station.specs.Starting.{blank}
+use Rattle.station.specs.Validity.{Valid}
 use Rattle.station.specs.declared.Station.{Station}
 use Rattle.claims.specs.Outcomes.{OneResult}
 use Rattle.claims.proofs.Same.{once}
@@ -44,3 +47,7 @@ refused-same s (accepted next) r e = absurd (let z : _≡_ {A = ℕ} 0 1 = cc in
 
 pub refused-advance : (s : Station) (n : ℕ) (r : Refusal) → advanceOf s n .answer ≡ Answer.Refused r → advanceOf s n .station ≡ s
 refused-advance s n r e = refused-same s (advanceMeans s n) r e
+
+-- no call may be handed what stands behind a refused start
+pub refused-start-invalid : Valid blank → ⊥
+refused-start-invalid v = omega (arith, v .interval-positive)
