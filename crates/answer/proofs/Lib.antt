@@ -1,3 +1,4 @@
 pub mod Booleans
 pub mod Judged
 pub mod SumLaws
+pub mod Yielding

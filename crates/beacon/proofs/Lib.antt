@@ -1,3 +1,4 @@
+pub mod Allowing
 pub mod Saying
 pub mod Slots
 pub mod Steps

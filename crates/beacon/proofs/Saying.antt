@@ -1,4 +1,4 @@
--- Laws of what elements say: by their IDs, how many Quiet elements they leave, and what a body says behind its fixed fields.
+-- Laws of what elements say: by their IDs, and what a body says behind its fixed fields.
 -- Assumes nothing.
 use mathlib.Core.Path.{_≡_, refl, sym, ap, subst, _∙_}
 use mathlib.Core.Bool.{Bool, true, false}
@@ -44,38 +44,6 @@ module _ (b id : ℕ) (c : List ℕ) (said : Said) where
   pub takes-other : (id ≡ 32 → ⊥) → (id ≡ 35 → ⊥) → (id ≡ 37 → ⊥) → (id ≡ 40 → ⊥) → accepted said ≡ takes b id c said
   unfolding takes
   takes-other p r s q = simp (ne-eqb id 32 p, ne-eqb id 35 r, ne-eqb id 37 s, ne-eqb id 40 q)
-
--- ---- no element brings more Quiet elements than a frame may have
-
-Few : Outcome Said → Type 0
-Few o = (next : Said) → o ≡ accepted next → length (next .quiets) ≤ quietLimit
-
-few-then : {A : Type 0} (o : Outcome A) (f : A → Outcome Said) → ((a : A) → Few (f a)) → Few (andThen o f)
-unfolding Few
-few-then (refused r) f h next e = absurd (never e)
-few-then (accepted a) f h next e = h a next e
-
-few-judged : (t : Bool) (r : Refusal) (said : Said) → (t ≡ false → length (said .quiets) ≤ quietLimit) → Few (judged (t ⇒ r ∷ []) said)
-unfolding Few
-few-judged t r said h next e =
-    let p = passed _ _ _ e in
-    subst (λ (s : Said). length (s .quiets) ≤ quietLimit) (kept said (p .1)) (h (p .0))
-
-few-pick : (t : Bool) (o p : Outcome Said) → Few o → Few p → Few (pick t o p)
-few-pick true o p h k = h
-few-pick false o p h k = k
-
-pub few-takes : (b id : ℕ) (c : List ℕ) (said next : Said) → length (said .quiets) ≤ quietLimit → takes b id c said ≡ accepted next
-    → length (next .quiets) ≤ quietLimit
-unfolding takes Few
-few-takes b id c said next h =
-    few-pick (eqb id 32) _ _ (few-then (powerMeans c) (addPower said) (λ p. few-judged _ _ _ (λ w. h)))
-    (few-pick (eqb id 35) _ _ (few-then (tpcReportMeans c) (addReport said) (λ p. few-judged _ _ _ (λ w. h)))
-    (few-pick (eqb id 37) _ _ (few-then (switchMeans c) (addSwitch said) (λ p. few-judged _ _ _ (λ w. h)))
-    (few-pick (eqb id 40) _ _
-    (few-then (quietMeans b c) (addQuiet said) (λ q. few-judged _ _ _ (λ w. rw one-more (omega (arith, leb-false quietLimit (length (said .quiets)) w)))))
-    (λ n e. subst (λ (s : Said). length (s .quiets) ≤ quietLimit) (let same : said ≡ n = cc in same) h))))
-    next
 
 -- ---- all elements
 

@@ -4,15 +4,18 @@ use mathlib.Core.List.{List}
 use Prim.Native.Nat.{ℕ, _≤_}
 use native.Mathlib.Omega.{arith}
 use lib.ListN.{length, drop}
+use Rattle.answer.proofs.Yielding.{Yields}
 use Rattle.answer.specs.Checks.{Outcome, refused, accepted}
 use Rattle.answer.specs.declared.Answer.{Answer}
 use Rattle.answer.specs.declared.Refusal.{Refusal}
 use Rattle.octets.specs.Numbers.{number}
 use Rattle.walk.specs.Elements.{Elements, end, cutHeader, cutContents, more, elementsIn}
-use Rattle.beacon.specs.Beacons.{Said, quietLimit, takes, says, beaconMeans}
+use Rattle.beacon.specs.Allowed.{Allowed}
+use Rattle.beacon.specs.Beacons.{Said, takes, says, beaconMeans}
 use Rattle.beacon.specs.Laid.{settled, laid}
 use Rattle.beacon.specs.declared.Heard.{Heard}
-use Rattle.beacon.proofs.Saying.{few-takes, says-more, heardOf}
+use Rattle.beacon.proofs.Allowing.{allowed-takes}
+use Rattle.beacon.proofs.Saying.{says-more, heardOf}
 
 -- ---- what the answer tells of the outcome
 
@@ -33,12 +36,12 @@ module _ (t c : ℕ) where
 
 -- ---- the walk
 
--- what was heard is what the elements before a place say, with few enough Quiet elements among them, and what those from there on add
+-- what was heard is what the elements before a place say, all of it allowed, and what those from there on add
 -- to it is what the body says
 pub record Walked (b : ℕ) (body : List ℕ) (at : ℕ) (heard : Heard) : Type 0 where
   pub said : Said
   pub held : heard ≡ heardOf body (accepted said)
-  pub few : length (said .quiets) ≤ quietLimit
+  pub allowed : Allowed b said
   pub rest : heardOf body (says b (elementsIn (drop at body)) said) ≡ laid (beaconMeans b body)
 
 module _ (b : ℕ) (body : List ℕ) (at : ℕ) (heard : Heard) (w : Walked b body at heard) where
@@ -65,11 +68,12 @@ module _ (b : ℕ) (body : List ℕ) (at : ℕ) (heard : Heard) (w : Walked b bo
         took ∙ ap (heardOf body) o ∙ from-here e (says-more b id c (elementsIn (drop stop body)) (w .said) o)
 
     pub at-next : next .answer ≡ Answer.Accepted → Walked b body stop next
+    unfolding Yields
     at-next a =
         let o = said-told (number 8 0 body) (number 2 10 body) (takes b id c (w .said)) took a in
         record {
           said = o .0;
           held = took ∙ ap (heardOf body) (o .1);
-          few = few-takes b id c (w .said) (o .0) (w .few) (o .1);
+          allowed = allowed-takes b id c (w .said) (w .allowed) (o .0) (o .1);
           rest = from-here e (says-more b id c (elementsIn (drop stop body)) (w .said) (o .1));
         }

@@ -1,5 +1,6 @@
--- The station's calls: each promise leaves one outcome, a refused advance leaves the station as it was,
+-- The station's calls: each promise leaves one outcome, a refused frame or advance leaves the station as it was,
 -- and a refused start gives none that a call may be handed. Assumes nothing.
+use mathlib.Core.List.{List}
 use mathlib.Core.Path.{_≡_, refl}
 use Prim.Native.Nat.{ℕ}
 use native.Mathlib.Omega.{arith}
@@ -9,12 +10,14 @@ use Rattle.answer.specs.declared.Refusal.{Refusal}
 use Rattle.station.proofs.Station.advance as Advance
 use Rattle.station.proofs.Station.ask as Ask
 use Rattle.station.proofs.Station.start as Start
+use Rattle.station.proofs.Station.take as Take
 use Rattle.station.proofs.asking.Permission.number as Permission-number
 use Rattle.station.proofs.pending.Pending.comes_before as Comes-before
 use Rattle.station.proofs.pending.Pending.silences as Silences
 use Rattle.station.proofs.pending.Pending.up_to as Up-to
 use Rattle.station.specs.Clock.{stepped, advanceMeans, advanceOf}
 use Rattle.station.specs.Starting.{blank}
+use Rattle.station.specs.Taking.{takeMeans, takeOf}
 use Rattle.station.specs.Validity.{Valid}
 use Rattle.station.specs.declared.Station.{Station}
 use Rattle.claims.specs.Outcomes.{OneResult}
@@ -22,6 +25,9 @@ use Rattle.claims.proofs.Same.{once}
 
 pub start : OneResult 0 Start.Kinds.ps Start.Kinds.r Start.Reads.Post
 start κs a e f x y p q = once (p .0) (q .0)
+
+pub take : OneResult 1 Take.Kinds.ps Take.Kinds.r Take.Reads.Post
+take κs a e f x y p q = once (p .0) (q .0)
 
 pub advance : OneResult 0 Advance.Kinds.ps Advance.Kinds.r Advance.Reads.Post
 advance κs a e f x y p q = once (p .0) (q .0)
@@ -47,6 +53,9 @@ refused-same s (accepted next) r e = absurd (let z : _≡_ {A = ℕ} 0 1 = cc in
 
 pub refused-advance : (s : Station) (n : ℕ) (r : Refusal) → advanceOf s n .answer ≡ Answer.Refused r → advanceOf s n .station ≡ s
 refused-advance s n r e = refused-same s (advanceMeans s n) r e
+
+pub refused-take : (s : Station) (f : List ℕ) (r : Refusal) → takeOf s f .answer ≡ Answer.Refused r → takeOf s f .station ≡ s
+refused-take s f r e = refused-same s (takeMeans s f) r e
 
 -- no call may be handed what stands behind a refused start
 pub refused-start-invalid : Valid blank → ⊥

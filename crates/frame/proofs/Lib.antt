@@ -1,5 +1,6 @@
 pub mod ActionParts
 pub mod ActionTrip
+pub mod Allowing
 pub mod Answers
 pub mod Handing
 pub mod Indexing

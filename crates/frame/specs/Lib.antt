@@ -1,3 +1,4 @@
 pub mod Actions
+pub mod Allowed
 pub mod Frames
 pub mod Laid

@@ -1,3 +1,5 @@
 pub mod Answers
+pub mod Hearing
 pub mod InUse
 pub mod Keeping
+pub mod Slotting

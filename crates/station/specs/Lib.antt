@@ -1,6 +1,8 @@
 pub mod Asking
 pub mod Clock
+pub mod Handing
 pub mod Starting
 pub mod Stations
+pub mod Taking
 pub mod Validity
 pub mod Waiting

@@ -10,7 +10,7 @@ use Rattle.answer.specs.declared.Refusal.{Refusal}
 use Rattle.channel.specs.Centres.{highest}
 use Rattle.octets.specs.Numbers.{bit, octet}
 use Rattle.station.specs.Stations.{fresh}
-use Rattle.station.specs.declared.Started.{Started}
+use Rattle.station.specs.declared.starting.Started.{Started}
 use Rattle.station.specs.declared.Station.{Station}
 
 -- what stands behind a refusal; its interval is 0, so it is not valid

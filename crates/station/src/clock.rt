@@ -1,12 +1,11 @@
 // The clock (document 01, "The station"): it advances, and reaches a pending switch on the way.
 ghost use mathlib.Core.Path.{_≡_};
-ghost use Rattle.station.specs.Clock.{switched, reachOf, advanceOf};
+ghost use Rattle.station.specs.Clock.{reachOf, advanceOf};
 ghost use Rattle.station.specs.Validity.{Valid};
 use crate::Pending;
 use crate::Station;
 use answer::Answer;
 use answer::Refusal;
-use beacon::MaybePower;
 
 // The answer, and the station after the call: the same as before where the call was refused.
 pub struct Stepped {
@@ -15,20 +14,6 @@ pub struct Stepped {
 }
 
 impl Station {
-    // On another channel nothing of the old one holds: schedules, constraint and pending switch are gone.
-    fn switched(self, channel: u8) -> Station
-        ensures { λ r. ⌜ r ≡ switched self channel ⌝ }
-    {
-        Station {
-            channel,
-            power: MaybePower::Absent,
-            pending: Pending::Nothing,
-            schedules: [Station::NO_SCHEDULE; Station::SCHEDULE_LIMIT],
-            count: 0,
-            ..self
-        }
-    }
-
     // The clock goes to a moment.
     fn reach(self, moment: u32) -> Station
         ensures { λ r. ⌜ r ≡ reachOf self moment ⌝ }

@@ -12,6 +12,7 @@ use Rattle.walk.specs.Found.{follow, Within}
 use Rattle.walk.specs.declared.Found.{Found}
 use Rattle.beacon.specs.Beacons.{nothing}
 use Rattle.beacon.specs.Laid.{blank, laid}
+use Rattle.beacon.proofs.Allowing.{nothing-allowed}
 use Rattle.beacon.proofs.Saying.{short-body, other-interval, body-says}
 use Rattle.beacon.proofs.Steps.{Walked, at-end, at-cut-header, at-cut-contents, at-refused, at-next}
 use Rattle.beacon.proofs.read.Statement.{statement}
@@ -40,7 +41,7 @@ loop-holds c =
     record {
       said = nothing;
       held = c .silence .ensures ∙ ap₂ (blank Answer.Accepted) (c .before .before .number64 .ensures) (c .before .number162 .ensures);
-      few = omega arith;
+      allowed = nothing-allowed (a .interval);
       rest =
           body-says (a .interval) (now (a .body)) _
           (c .before .before .before .before .before .if1 .left)
@@ -97,7 +98,7 @@ returns-6 c =
     let w = c .before .before .before .before .before .before .before .before .loop .inv in
     at-refused (a .interval) (now (a .body)) _ _ w _ _ (c .before .before .before .before .before .id .given .0 .1 .1 .0)
     (goes-on (c .before .before .before .before)) _
-    (c .before .before .take .ensures _ _ (w .said) (w .few) (w .held)) _ (c .enum-told4 .given .1)
+    (c .before .before .take .ensures _ _ (w .said) (w .allowed .few) (w .held)) _ (c .enum-told4 .given .1)
 
 loop-less : tie.Need-loop-less Inv-loop μ-loop
 loop-less c = let w = inside (c .before .before .before .before) in omega arith
@@ -108,7 +109,7 @@ loop-again c =
     let w = c .before .before .before .before .before .before .before .before .loop .inv in
     at-next (a .interval) (now (a .body)) _ _ w _ _ (c .before .before .before .before .before .id .given .0 .1 .1 .0)
     (goes-on (c .before .before .before .before)) _
-    (c .before .before .take .ensures _ _ (w .said) (w .few) (w .held)) (c .enum-told5 .given .1)
+    (c .before .before .take .ensures _ _ (w .said) (w .allowed .few) (w .held)) (c .enum-told5 .given .1)
 
 pub read-spec : {M : Type 1} → statement M
 read-spec =

@@ -1,0 +1,38 @@
+-- What holds of every value that an outcome accepts. Assumes nothing.
+use mathlib.Core.Path.{_≡_, refl, subst}
+use mathlib.Core.Bool.{Bool, true, false}
+use mathlib.Core.List.{List, [], _∷_}
+use Rattle.answer.specs.declared.Refusal.{Refusal}
+use Rattle.answer.specs.Checks.{Outcome, refused, accepted, Check, _⇒_, pick, checked, judged, andThen}
+use Rattle.answer.proofs.Judged.{never, passed, stands}
+
+-- whatever is accepted has the property
+unfoldable pub Yields : {A : Type 0} → (A → Type 0) → Outcome A → Type 0
+Yields {A} P o = (a : A) → o ≡ accepted a → P a
+
+module _ {A : Type 0} (P : A → Type 0) where
+  pub of-refusal : (r : Refusal) → Yields P (refused r)
+  unfolding Yields
+  of-refusal r a e = absurd (never e)
+
+  pub of-value : {a : A} → P a → Yields P (accepted a)
+  unfolding Yields
+  of-value {a} p b e = subst P (let same : a ≡ b = cc in same) p
+
+  pub either-way : (t : Bool) (o p : Outcome A) → Yields P o → Yields P p → Yields P (pick t o p)
+  either-way true o p h k = h
+  either-way false o p h k = k
+
+  -- behind a check that did not fail
+  pub behind-check : (c : Check) (cs : List Check) (o : Outcome A) → (c .fails ≡ false → Yields P (checked cs o)) → Yields P (checked (c ∷ cs) o)
+  unfolding Yields
+  behind-check c cs o h a e = let p = passed c cs o e in h (p .0) a (p .1)
+
+  pub behind-all : (o : Outcome A) → Yields P o → Yields P (checked [] o)
+  unfolding Yields
+  behind-all o h a e = h a (stands o e)
+
+  -- behind another outcome that was accepted
+  pub behind-value : {B : Type 0} (o : Outcome B) (f : B → Outcome A) → ((b : B) → o ≡ accepted b → Yields P (f b)) → Yields P (andThen o f)
+  behind-value (refused r) f h = of-refusal r
+  behind-value (accepted b) f h = h b refl

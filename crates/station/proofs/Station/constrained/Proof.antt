@@ -1,0 +1,14 @@
+-- `Station::constrained` meets its contract, case by case.
+-- Assumes nothing.
+use mathlib.Core.Path.{sym, ap, _∙_}
+use borrow.Author.Needs.{needs}
+use Rattle.beacon.specs.declared.MaybePower.{MaybePower}
+use Rattle.station.specs.Taking.{constrained}
+use Rattle.station.proofs.Station.constrained.Statement.{statement}
+use Rattle.station.proofs.Station.constrained.Tie as tie
+
+returns-2 : tie.Need-returns-2
+returns-2 c = rw (c .before .before .before .enum-told2 .given .1)
+
+pub constrained-spec : {M : Type 1} → statement M
+constrained-spec = tie.close (tie.spec (λ c. search needs) (λ c. search needs) (λ c. search needs) returns-2)

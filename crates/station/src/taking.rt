@@ -1,0 +1,144 @@
+// Taking a frame (document 01, "The station"; 802.11h 11.6.2 and 11.6.7).
+ghost use mathlib.Core.Path.{_≡_};
+ghost use Prim.Native.Nat.{_≤_};
+ghost use lib.ListN.{take};
+ghost use Rattle.beacon.specs.Beacons.{quietLimit};
+ghost use Rattle.station.specs.Handing.{noticed, heardAs};
+ghost use Rattle.station.specs.Taking.{passed, rescheduled, constrained, announced, takeOf};
+ghost use Rattle.station.specs.Validity.{Valid};
+use crate::Pending;
+use crate::Station;
+use crate::Stepped;
+use answer::Answer;
+use beacon::MaybePower;
+use beacon::MaybeSwitch;
+use beacon::Notice;
+use beacon::QUIETS;
+use element::channel_switch::ChannelSwitch;
+use element::quiet::Quiet;
+use frame::Frame;
+use frame::Reading;
+use schedule::Schedule;
+
+impl Station {
+    // How many whole beacon intervals have passed.
+    fn passed(self) -> u32
+        requires { ⌜ 1 ≤ self .interval ⌝ }
+        ensures { λ r. ⌜ r ≡ passed self ⌝ }
+    {
+        self.clock / (self.interval as u32)
+    }
+
+    // The schedules of the first `count` Quiet elements take the place of all there were.
+    fn rescheduled(self, quiets: [Quiet; QUIETS], count: usize) -> Station
+        requires { ⌜ 1 ≤ self .interval ⌝ }
+        requires { ⌜ count ≤ quietLimit ⌝ }
+        ensures { λ r. ⌜ r ≡ rescheduled self (take count quiets) ⌝ }
+    {
+        let interval = self.interval;
+        let passed = self.passed();
+        let mut schedules = [Station::NO_SCHEDULE; Station::SCHEDULE_LIMIT];
+        let mut i = 0;
+        while i < count {
+            let quiet = quiets[i];
+            let schedule = Schedule::set_by(quiet, passed, interval);
+            schedules[i] = schedule;
+            i += 1;
+        }
+        Station {
+            schedules,
+            count,
+            ..self
+        }
+    }
+
+    // A Power Constraint, if there is one, takes the place of the latest.
+    fn constrained(self, power: MaybePower) -> Station
+        ensures { λ r. ⌜ r ≡ constrained self power ⌝ }
+    {
+        match power {
+            MaybePower::Absent => self,
+            MaybePower::Is(_) => Station { power, ..self },
+        }
+    }
+
+    // An announcement takes the place of any that is pending. Its count is one of TBTTs, not of intervals from now; a count of 0
+    // is the switch itself.
+    fn announced(self, switch: ChannelSwitch) -> Station
+        requires { ⌜ 1 ≤ self .interval ⌝ }
+        ensures { λ r. ⌜ r ≡ announced self switch ⌝ }
+    {
+        if switch.count == 0 {
+            return self.switched(switch.channel);
+        }
+        let passed = self.passed();
+        let at = ((passed as u64) + (switch.count as u64)) * (self.interval as u64);
+        let pending = Pending::Switch {
+            at,
+            mode: switch.mode,
+            channel: switch.channel,
+        };
+        Station { pending, ..self }
+    }
+
+    // A beacon or a probe response: its schedules, then its constraint, then its announcement.
+    fn noticed(self, notice: Notice, quiets: [Quiet; QUIETS], count: usize) -> Station
+        requires { ⌜ 1 ≤ self .interval ⌝ }
+        requires { ⌜ count ≤ quietLimit ⌝ }
+        ensures { λ r. ⌜ r ≡ noticed self notice (take count quiets) ⌝ }
+    {
+        let power = notice.power;
+        let switch = notice.switch;
+        let next = self.rescheduled(quiets, count).constrained(power);
+        match switch {
+            MaybeSwitch::Absent => next,
+            MaybeSwitch::Is(announcement) => next.announced(announcement),
+        }
+    }
+
+    // What an accepted frame changes: action frames but the announcement change nothing.
+    fn heard(self, frame: Frame, quiets: [Quiet; QUIETS], count: usize) -> Station
+        requires { ⌜ 1 ≤ self .interval ⌝ }
+        requires { ⌜ count ≤ quietLimit ⌝ }
+        ensures { λ r. ⌜ r ≡ heardAs self frame (take count quiets) ⌝ }
+    {
+        match frame {
+            Frame::Beacon(notice) => self.noticed(notice, quiets, count),
+            Frame::ProbeResponse(notice) => self.noticed(notice, quiets, count),
+            Frame::ChannelSwitch(switch) => self.announced(switch),
+            Frame::MeasurementRequest { token: _, count: _ } => self,
+            Frame::MeasurementReport { token: _, count: _ } => self,
+            Frame::TpcRequest { token: _ } => self,
+            Frame::TpcReport {
+                token: _,
+                report: _,
+            } => self,
+        }
+    }
+
+    pub fn take(self, frame: &[u8]) -> Stepped
+        requires { ⌜ Valid self ⌝ }
+        ensures { λ r. ⌜ r ≡ takeOf self (now (frame .entry)) ⌝ }
+        ensures kept { λ r. ⌜ Valid (r .station) ⌝ }
+    {
+        let own = self.own;
+        let ap = self.ap;
+        let received = frame::read(frame, own, ap, self.interval);
+        let reading = received.reading;
+        let quiets = received.quiets;
+        match reading {
+            Reading::Refused(refusal) => {
+                let answer = Answer::Refused(refusal);
+                Stepped {
+                    answer,
+                    station: self,
+                }
+            }
+            Reading::Is(accepted) => {
+                let station = self.heard(accepted, quiets, received.count);
+                let answer = Answer::Accepted;
+                Stepped { answer, station }
+            }
+        }
+    }
+}
