@@ -1,1 +1,6 @@
+pub mod Histories
+pub mod OpenUnits
 pub mod Outcomes
+pub mod Records
+pub mod Standing
+pub mod Tbtts

@@ -1,0 +1,188 @@
+-- Each answer to a question, by the history (00, demand 3; 01, "The station"). Assumes nothing.
+use mathlib.Core.Bool.{Bool, true, false}
+use mathlib.Core.List.{List, [], _∷_}
+use mathlib.Core.Logic.{_⊎_, inl, inr, ⊎-elim, _↔_}
+use mathlib.Core.Path.{_≡_, refl, sym, ap, _∙_, subst}
+use Prim.Native.Nat.{ℕ, _+_, _<_, _≤_}
+use native.Mathlib.Nat.{le-refl, eq-or-lt-of-le}
+use native.Mathlib.Omega.{arith}
+use borrow.Author.Tests.{lt-ltb, le-ltb, ltb-true, ltb-false, eq-eqb, ne-eqb, eqb-true, eqb-false}
+use lib.Dec.{ltb, eqb}
+use Rattle.answer.proofs.Booleans.{clash}
+use Rattle.answer.specs.Checks.{pick}
+use Rattle.element.specs.declared.channel_switch.ChannelSwitch.{ChannelSwitch}
+use Rattle.schedule.proofs.FirstUnit.{either}
+use Rattle.station.specs.Asking.{permissionNumber, Case, firstOf, quietIn, permissionOf}
+use Rattle.station.specs.Stations.{inUse}
+use Rattle.station.specs.Waiting.{silences, upTo, comesBefore}
+use Rattle.station.specs.declared.Station.{Station}
+use Rattle.station.specs.declared.asking.Permission.{Permission}
+use Rattle.station.specs.declared.pending.Pending.{Pending}
+use Rattle.claims.specs.Histories.{Settings, History, clockAfter}
+use Rattle.claims.specs.OpenUnits.{QuietUnit, Open, AllOpen, Waits, QuietLater, SwitchWithin, RightLength, Applies}
+use Rattle.claims.specs.Records.{Agrees}
+use Rattle.claims.specs.Standing.{Awaits, PendingIs}
+use Rattle.claims.proofs.OneSaying.{announced-one, pending-one}
+use Rattle.claims.proofs.QuietUnits.{quiet-unit, unit-quiet}
+
+-- a test that says whether something holds
+record Tells-whether (t : Bool) (P : Type 0) : Type 0 where
+  pub holds : t ≡ true → P
+  pub shows : P → t ≡ true
+
+module _ {t : Bool} {P : Type 0} (x : Tells-whether t P) where
+  fails : t ≡ false → P → ⊥
+  fails e p = clash (sym (x .shows p) ∙ e)
+
+  denies : (P → ⊥) → t ≡ false
+  denies f = ⊎-elim (λ (y : t ≡ true). absurd (f (x .holds y))) (λ (n : t ≡ false). n) (either t)
+
+module _ (s : Settings) (pos : 1 ≤ s .interval) (h : History) (r : Station) (a : Agrees s h r) where
+  -- ---- the pending switch
+
+  pending-of : (at : ℕ) (w : ChannelSwitch) → Awaits s h at w → r .pending ≡ Pending.Switch at (w .mode) (w .channel)
+  pending-of at w x = pending-one s pos h (r .pending) (Pending.Switch at (w .mode) (w .channel)) (a .pending-told) (w, x, refl, refl)
+
+  waits : Tells-whether (silences (r .pending)) (Waits s h)
+  waits = record { holds = λ e. by-pending (r .pending) (a .pending-told) e; shows = λ x. ap silences (pending-of (x .0) (x .1) (x .2)) ∙ eq-eqb (x .1 .mode) 1 (x .3) }
+    where
+      by-pending : (p : Pending) → PendingIs s h p → silences p ≡ true → Waits s h
+      by-pending Pending.Nothing y e = clash (sym e)
+      by-pending (Pending.Switch at mode channel) (w, y, m, c) e = (at, w, y, m ∙ eqb-true mode 1 e)
+
+  within : (n : ℕ) → Tells-whether (comesBefore (r .pending) (r .clock + n)) (SwitchWithin s h n)
+  within n =
+      record {
+        holds = λ e. by-pending (r .pending) (a .pending-told) e;
+        shows = λ x. ap (λ (p : Pending). comesBefore p (r .clock + n)) (pending-of (x .0) (x .1) (x .2)) ∙ lt-ltb (x .0) (r .clock + n) (omega (arith, x .3, a .same-clock));
+      }
+    where
+      by-pending : (p : Pending) → PendingIs s h p → comesBefore p (r .clock + n) ≡ true → SwitchWithin s h n
+      by-pending Pending.Nothing y e = clash (sym e)
+      by-pending (Pending.Switch at mode channel) (w, y, m, c) e = (at, w, y, omega (arith, ltb-true at (r .clock + n) e, a .same-clock))
+
+  -- ---- the quiet units
+
+  quiet-now : Tells-whether (quietIn (inUse r) (r .clock) (r .clock + 1)) (QuietUnit s h (clockAfter h))
+  quiet-now =
+      record {
+        holds = λ e.
+            let w = quiet-unit s pos h (inUse r) (r .clock) (r .clock + 1) (a .schedules-told) e in
+            subst (QuietUnit s h) (let now : w .0 ≡ clockAfter h = omega (arith, w .1, w .2, a .same-clock) in now) (w .3);
+        shows = λ q. unit-quiet s pos h (inUse r) (r .clock) (r .clock + 1) (clockAfter h) (a .schedules-told) (omega (arith, a .same-clock)) (omega (arith, a .same-clock)) q;
+      }
+
+  -- before the end, and before the pending switch, if any
+  abbrev Before : Pending → ℕ → ℕ → Type 0
+  Before p e u = (u < e) × ((at : ℕ) (w : ChannelSwitch) → Awaits s h at w → u < at)
+
+  up-to : (p : Pending) (e u : ℕ) → PendingIs s h p → u < upTo p e → Before p e u
+  up-to Pending.Nothing e u y lt = (lt, λ at w x. absurd (y at w x))
+  up-to (Pending.Switch m mode channel) e u y lt =
+      ⊎-elim
+      (λ (z : ltb m e ≡ true). let k : u < m = simp z at lt in (omega (arith, ltb-true m e z), λ at w x. omega (arith, same at w x)))
+      (λ (z : ltb m e ≡ false). let k : u < e = simp z at lt in (k, λ at w x. omega (arith, same at w x, ltb-false m e z)))
+      (either (ltb m e))
+    where
+      same : (at : ℕ) (w : ChannelSwitch) → Awaits s h at w → m ≡ at
+      same at w x = ap (λ (z : ℕ × ChannelSwitch). z .0) (announced-one s pos h (m, y .0) (at, w) (y .1 .0) (x .0))
+
+  up-to-back : (p : Pending) (e u : ℕ) → PendingIs s h p → Before p e u → u < upTo p e
+  up-to-back Pending.Nothing e u y b = b .0
+  up-to-back (Pending.Switch m mode channel) e u y b =
+      ⊎-elim
+      (λ (z : ltb m e ≡ true). simp z (b .1 m (y .0) (y .1)))
+      (λ (z : ltb m e ≡ false). simp z (b .0))
+      (either (ltb m e))
+
+  quiet-later : (n : ℕ) → Tells-whether (quietIn (inUse r) (r .clock + 1) (upTo (r .pending) (r .clock + n))) (QuietLater s h n)
+  quiet-later n =
+      record {
+        holds = λ e.
+            let w = quiet-unit s pos h (inUse r) (r .clock + 1) (upTo (r .pending) (r .clock + n)) (a .schedules-told) e in
+            let b = up-to (r .pending) (r .clock + n) (w .0) (a .pending-told) (w .2) in
+            (w .0, omega (arith, w .1, a .same-clock), omega (arith, b .0, a .same-clock), b .1, w .3);
+        shows = λ x.
+            unit-quiet s pos h (inUse r) (r .clock + 1) (upTo (r .pending) (r .clock + n)) (x .0) (a .schedules-told)
+            (omega (arith, x .1, a .same-clock))
+            (up-to-back (r .pending) (r .clock + n) (x .0) (a .pending-told) (omega (arith, x .2, a .same-clock), x .3))
+            (x .4);
+      }
+
+  -- ---- the answers
+
+  module _ (n : ℕ) where
+    all-open : (Waits s h → ⊥) → (QuietUnit s h (clockAfter h) → ⊥) → (QuietLater s h n → ⊥) → (SwitchWithin s h n → ⊥) → AllOpen s h n
+    all-open no-wait not-now not-later not-within u lo hi =
+        record {
+          before-switch = before;
+          no-wait = λ at w x m k. no-wait (at, w, x, m);
+          not-quiet = λ q. ⊎-elim
+              (λ (e : clockAfter h ≡ u). not-now (subst (QuietUnit s h) (sym e) q))
+              (λ (k : clockAfter h < u). not-later (u, k, hi, before, q))
+              (eq-or-lt-of-le lo);
+        }
+      where
+        before : (at : ℕ) (w : ChannelSwitch) → Awaits s h at w → u < at
+        before at w x =
+            ⊎-elim
+            (λ (y : ltb at (clockAfter h + n) ≡ true). absurd (not-within (at, w, x, ltb-true at (clockAfter h + n) y)))
+            (λ (k : ltb at (clockAfter h + n) ≡ false). omega (arith, ltb-false at (clockAfter h + n) k))
+            (either (ltb at (clockAfter h + n)))
+
+    -- the first that applies is the answer
+    answer-applies : Applies s h n (permissionOf r n)
+    unfolding permissionOf firstOf
+    answer-applies =
+        ⊎-elim (λ (y : eqb n 0 ≡ true). simp y (inl (eqb-true n 0 y)))
+        (λ (n0 : eqb n 0 ≡ false). ⊎-elim (λ (y : ltb 65535 n ≡ true). simp (n0, y) (inr (ltb-true 65535 n y)))
+        (λ (n1 : ltb 65535 n ≡ false).
+        let right : (1 ≤ n) × (n ≤ 65535) = (omega (arith, eqb-false n 0 n0), ltb-false 65535 n n1) in
+        ⊎-elim (λ (y : silences (r .pending) ≡ true). simp (n0, n1, y) (right, waits .holds y))
+        (λ (n2 : silences (r .pending) ≡ false). ⊎-elim
+        (λ (y : quietIn (inUse r) (r .clock) (r .clock + 1) ≡ true). simp (n0, n1, n2, y) (right, fails waits n2, quiet-now .holds y))
+        (λ (n3 : quietIn (inUse r) (r .clock) (r .clock + 1) ≡ false). ⊎-elim
+        (λ (y : quietIn (inUse r) (r .clock + 1) (upTo (r .pending) (r .clock + n)) ≡ true).
+        simp (n0, n1, n2, n3, y) (right, fails waits n2, fails quiet-now n3, quiet-later n .holds y))
+        (λ (n4 : quietIn (inUse r) (r .clock + 1) (upTo (r .pending) (r .clock + n)) ≡ false). ⊎-elim
+        (λ (y : comesBefore (r .pending) (r .clock + n) ≡ true).
+        simp (n0, n1, n2, n3, n4, y) (right, fails waits n2, fails quiet-now n3, fails (quiet-later n) n4, within n .holds y))
+        (λ (n5 : comesBefore (r .pending) (r .clock + n) ≡ false).
+        simp (n0, n1, n2, n3, n4, n5) (right, all-open (fails waits n2) (fails quiet-now n3) (fails (quiet-later n) n4) (fails (within n) n5)))
+        (either (comesBefore (r .pending) (r .clock + n))))
+        (either (quietIn (inUse r) (r .clock + 1) (upTo (r .pending) (r .clock + n)))))
+        (either (quietIn (inUse r) (r .clock) (r .clock + 1))))
+        (either (silences (r .pending))))
+        (either (ltb 65535 n)))
+        (either (eqb n 0))
+
+    -- where every unit is open, nothing else applies
+    open-no-wait : 1 ≤ n → AllOpen s h n → Waits s h → ⊥
+    open-no-wait more open-all (at, w, x, m) = open-all (clockAfter h) (le-refl _) (omega arith) .no-wait at w x m (x .1)
+
+    open-not-later : AllOpen s h n → QuietLater s h n → ⊥
+    open-not-later open-all (u, lo, hi, before, q) = open-all u (omega arith) hi .not-quiet q
+
+    open-not-within : AllOpen s h n → SwitchWithin s h n → ⊥
+    open-not-within open-all (at, w, x, lt) = let less : at < at = open-all at (omega (arith, x .1)) lt .before-switch at w x in omega arith
+
+    -- where one applies, it is the answer
+    applies-answer : (p : Permission) → Applies s h n p → permissionOf r n ≡ p
+    unfolding permissionOf firstOf
+    applies-answer Permission.WrongLength (inl e) = simp (eq-eqb n 0 e)
+    applies-answer Permission.WrongLength (inr e) = simp (ne-eqb n 0 (λ z. omega arith), lt-ltb 65535 n e)
+    applies-answer Permission.SwitchSilences ((lo, hi), w) = simp (ne-eqb n 0 (λ z. omega arith), le-ltb 65535 n hi, waits .shows w)
+    applies-answer Permission.QuietNow ((lo, hi), w, q) =
+        simp (ne-eqb n 0 (λ z. omega arith), le-ltb 65535 n hi, denies waits w, quiet-now .shows q)
+    applies-answer Permission.QuietLater ((lo, hi), w, q, l) =
+        simp (ne-eqb n 0 (λ z. omega arith), le-ltb 65535 n hi, denies waits w, denies quiet-now q, quiet-later n .shows l)
+    applies-answer Permission.SwitchBefore ((lo, hi), w, q, l, b) =
+        simp (ne-eqb n 0 (λ z. omega arith), le-ltb 65535 n hi, denies waits w, denies quiet-now q, denies (quiet-later n) l, within n .shows b)
+    applies-answer Permission.Granted ((lo, hi), o) =
+        simp
+        (ne-eqb n 0 (λ z. omega arith), le-ltb 65535 n hi, denies waits (open-no-wait lo o),
+        denies quiet-now (λ q. o (clockAfter h) (le-refl _) (omega arith) .not-quiet q), denies (quiet-later n) (open-not-later o), denies (within n) (open-not-within o))
+
+    -- each answer is given exactly where the history says so
+    pub answered : (p : Permission) → (permissionOf r n ≡ p) ↔ Applies s h n p
+    answered p = (λ e. subst (Applies s h n) e answer-applies, applies-answer p)

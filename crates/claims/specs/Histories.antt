@@ -1,0 +1,94 @@
+-- The history of one station (00, demand 3): the calls that it was given after an accepted start, refused ones among them, and what
+-- can be read off them. Nothing here names a station or a step of one.
+use mathlib.Core.Bool.{Bool, _||_}
+use mathlib.Core.List.{List, [], _∷_}
+use mathlib.Core.Logic.{_⊎_}
+use mathlib.Core.Path.{_≡_}
+use Prim.Native.Nat.{ℕ, _+_}
+use lib.Dec.{ltb}
+use Rattle.answer.specs.Checks.{accepted, pick}
+use Rattle.beacon.specs.Beacons.{Said}
+use Rattle.beacon.specs.declared.MaybePower.{MaybePower}
+use Rattle.beacon.specs.declared.MaybeSwitch.{MaybeSwitch}
+use Rattle.element.specs.declared.channel_switch.ChannelSwitch.{ChannelSwitch}
+use Rattle.element.specs.declared.power_constraint.PowerConstraint.{PowerConstraint}
+use Rattle.frame.specs.Actions.{Body, requests, reports, tpcRequest, tpcReport, switch}
+use Rattle.frame.specs.Frames.{Kind, beacon, probeResponse, action, frameMeans}
+
+-- what the station was started with
+pub record Settings : Type 0 where
+  pub own : List ℕ
+  pub ap : List ℕ
+  pub interval : ℕ
+  pub channel : ℕ
+
+-- a call as it was made: the octets of a frame, an advance by so many TU, a question to send for so many TU
+pub data Call : Type 0 where
+  frame : List ℕ → Call
+  advance : ℕ → Call
+  ask : ℕ → Call
+
+-- the calls so far, the latest first
+abbrev pub History : Type 0
+History = List Call
+
+-- ---- the clock
+
+-- "clock would pass its limit, or the advance is over 65,535": such an advance is refused
+abbrev pub tooFar : ℕ → ℕ → Bool
+tooFar t n = ltb 65535 n || ltb 4294967295 (t + n)
+
+-- "The clock counts TU from 0 at start"
+unfoldable pub clockAfter : History → ℕ
+clockAfter [] = 0
+clockAfter (frame f ∷ h) = clockAfter h
+clockAfter (advance n ∷ h) = pick (tooFar (clockAfter h) n) (clockAfter h) (clockAfter h + n)
+clockAfter (ask n ∷ h) = clockAfter h
+
+-- ---- accepted frames
+
+-- the call was a frame that was accepted, and it was of this kind
+abbrev pub Hears : Settings → Call → Kind → Type 0
+Hears s (frame f) k = (toAll : Bool) × (frameMeans (s .own) (s .ap) (s .interval) f ≡ accepted (record { toAll = toAll; kind = k }))
+Hears s (advance n) k = ⊥
+Hears s (ask n) k = ⊥
+
+-- a beacon or a probe response says this
+abbrev pub Says : Kind → Said → Type 0
+Says (beacon t) said = t .said ≡ said
+Says (probeResponse t) said = t .said ≡ said
+Says (action body) said = ⊥
+
+-- an announcement stands in a beacon, in a probe response, or in an action frame of its own
+abbrev pub announcementIn : Kind → MaybeSwitch
+announcementIn (beacon t) = t .said .switch
+announcementIn (probeResponse t) = t .said .switch
+announcementIn (action (requests token rs)) = MaybeSwitch.Absent
+announcementIn (action (reports token rs)) = MaybeSwitch.Absent
+announcementIn (action (tpcRequest token)) = MaybeSwitch.Absent
+announcementIn (action (tpcReport token t)) = MaybeSwitch.Absent
+announcementIn (action (switch w)) = MaybeSwitch.Is w
+
+-- the call was an accepted beacon or probe response
+abbrev pub Tells : Settings → Call → Said → Type 0
+Tells s c said = (k : Kind) × Hears s c k × Says k said
+
+-- the call was an accepted announcement
+abbrev pub Announces : Settings → Call → ChannelSwitch → Type 0
+Announces s c w = (k : Kind) × Hears s c k × (announcementIn k ≡ MaybeSwitch.Is w)
+
+-- the call was an accepted beacon or probe response with a Power Constraint
+abbrev pub Constrains : Settings → Call → PowerConstraint → Type 0
+Constrains s c p = (said : Said) × Tells s c said × (said .power ≡ MaybePower.Is p)
+
+-- ---- the latest of some calls
+
+-- one of the calls is such that Q, with the calls before it, and every later one such that P
+unfoldable pub Latest : (P Q : Call → History → Type 0) → History → Type 0
+Latest P Q [] = ⊥
+Latest P Q (c ∷ h) = Q c h ⊎ (P c h × Latest P Q h)
+
+-- every call is such that P
+unfoldable pub Throughout : (P : Call → History → Type 0) → History → Type 0
+Throughout P [] = Unit {0}
+Throughout P (c ∷ h) = P c h × Throughout P h

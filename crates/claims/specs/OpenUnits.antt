@@ -1,0 +1,70 @@
+-- Which units are open, by the history, read unit by unit (00, demand 3), and the answers to a question (01, "The station": "First that
+-- applies: 5 n is 0 or over 65,535; 1 a mode-1 switch is pending; 2 t is quiet; 3 some covered unit after t and before the pending
+-- switch, if any, is quiet; 4 the switch lies before t + n; 0 granted").
+use mathlib.Core.List.{List, List·Memᴰ}
+use mathlib.Core.Logic.{_⊎_}
+use mathlib.Core.Path.{_≡_}
+use Prim.Native.Nat.{ℕ, _+_, _*_, _<_, _≤_}
+use Rattle.beacon.specs.Beacons.{Said}
+use Rattle.element.specs.declared.channel_switch.ChannelSwitch.{ChannelSwitch}
+use Rattle.element.specs.declared.quiet.Quiet.{Quiet}
+use Rattle.station.specs.declared.asking.Permission.{Permission}
+use Rattle.claims.specs.Histories.{Settings, History, clockAfter}
+use Rattle.claims.specs.Standing.{Awaits, Counts}
+use Rattle.claims.specs.Tbtts.{CountedTo}
+
+-- a Quiet element that was accepted at t covers the unit u: in its first run, which is at the TBTT it counts to, or, where it has a
+-- period, in one that comes so many times that number of TBTTs later
+pub record CoversUnit (b t : ℕ) (q : Quiet) (u : ℕ) : Type 0 where
+  pub later : ℕ
+  pub may-repeat : (later ≡ 0) ⊎ (0 < q .period)
+  pub tbtt : ℕ
+  pub counted : CountedTo b t (q .count + later * q .period) tbtt
+  pub begun : tbtt + q .offset ≤ u
+  pub not-over : u < tbtt + q .offset + q .duration
+
+module _ (s : Settings) (h : History) where
+  -- the unit lies in a quiet interval set by the latest accepted beacon or probe response since the last switch
+  abbrev pub QuietUnit : ℕ → Type 0
+  QuietUnit u =
+      (said : Said) × (t : ℕ) × (q : Quiet) × Counts s h said t × List·Memᴰ q (said .quiets) × CoversUnit (s .interval) t q u
+
+  -- the unit lies before any pending switch, outside the wait of a mode-1 announcement that is still the latest, and outside every
+  -- such quiet interval
+  pub record Open (u : ℕ) : Type 0 where
+    pub before-switch : (at : ℕ) (w : ChannelSwitch) → Awaits s h at w → u < at
+    pub no-wait : (at : ℕ) (w : ChannelSwitch) → Awaits s h at w → w .mode ≡ 1 → u < at → ⊥
+    pub not-quiet : QuietUnit u → ⊥
+
+  -- each unit that sending for n TU would cover is open
+  abbrev pub AllOpen : ℕ → Type 0
+  AllOpen n = (u : ℕ) → clockAfter h ≤ u → u < clockAfter h + n → Open u
+
+  -- ---- what applies
+
+  -- a mode-1 switch is pending
+  abbrev pub Waits : Type 0
+  Waits = (at : ℕ) × (w : ChannelSwitch) × Awaits s h at w × (w .mode ≡ 1)
+
+  -- some covered unit after t and before the pending switch, if any, is quiet
+  abbrev pub QuietLater : ℕ → Type 0
+  QuietLater n =
+      (u : ℕ) × (clockAfter h < u) × (u < clockAfter h + n) × ((at : ℕ) (w : ChannelSwitch) → Awaits s h at w → u < at) × QuietUnit u
+
+  -- the switch lies before t + n
+  abbrev pub SwitchWithin : ℕ → Type 0
+  SwitchWithin n = (at : ℕ) × (w : ChannelSwitch) × Awaits s h at w × (at < clockAfter h + n)
+
+  -- ---- the answers: each one exactly where it is the first that applies
+
+  abbrev pub RightLength : ℕ → Type 0
+  RightLength n = (1 ≤ n) × (n ≤ 65535)
+
+  abbrev pub Applies : ℕ → Permission → Type 0
+  Applies n Permission.WrongLength = (n ≡ 0) ⊎ (65535 < n)
+  Applies n Permission.SwitchSilences = RightLength n × Waits
+  Applies n Permission.QuietNow = RightLength n × (Waits → ⊥) × QuietUnit (clockAfter h)
+  Applies n Permission.QuietLater = RightLength n × (Waits → ⊥) × (QuietUnit (clockAfter h) → ⊥) × QuietLater n
+  Applies n Permission.SwitchBefore =
+      RightLength n × (Waits → ⊥) × (QuietUnit (clockAfter h) → ⊥) × (QuietLater n → ⊥) × SwitchWithin n
+  Applies n Permission.Granted = RightLength n × AllOpen n

@@ -1,0 +1,97 @@
+-- What stands after a history (01, "The station": "In the history, a switch happened where an announcement's moment was reached with no
+-- later announcement accepted first. The schedules that count are those of the latest accepted beacon or probe response, unless a
+-- switch came after it; a count of 0 in that same frame comes after it.").
+use mathlib.Core.List.{List, [], _∷_}
+use mathlib.Core.Logic.{_⊎_}
+use mathlib.Core.Path.{_≡_}
+use Prim.Native.Nat.{ℕ, _+_, _*_, _<_, _≤_}
+use Rattle.beacon.specs.Beacons.{Said}
+use Rattle.beacon.specs.declared.MaybePower.{MaybePower}
+use Rattle.element.specs.declared.channel_switch.ChannelSwitch.{ChannelSwitch}
+use Rattle.element.specs.declared.power_constraint.PowerConstraint.{PowerConstraint}
+use Rattle.element.specs.declared.quiet.Quiet.{Quiet}
+use Rattle.schedule.specs.declared.Schedule.{Schedule}
+use Rattle.station.specs.declared.pending.Pending.{Pending}
+use Rattle.claims.specs.Histories.{Settings, Call, History, clockAfter, Tells, Announces, Constrains, Latest, Throughout}
+use Rattle.claims.specs.Tbtts.{CountedTo}
+
+module _ (s : Settings) where
+  -- ---- announcements and switches
+
+  abbrev pub NoAnnouncement : Call → History → Type 0
+  NoAnnouncement c h = (w : ChannelSwitch) → Announces s c w → ⊥
+
+  -- the latest announcement is w, for the moment `at`: so many TBTTs after it was accepted, and with a count of 0 at once
+  abbrev pub LastAnnounced : History → ℕ → ChannelSwitch → Type 0
+  LastAnnounced h at w =
+      Latest
+      NoAnnouncement
+      (λ c g. Announces s c w × CountedTo (s .interval) (clockAfter g) (w .count) at)
+      h
+
+  -- its moment is still to come
+  abbrev pub Awaits : History → ℕ → ChannelSwitch → Type 0
+  Awaits h at w = LastAnnounced h at w × (clockAfter h < at)
+
+  -- the call, made after h, brings a switch: by a count of 0, or since the clock reaches the moment that was awaited
+  pub data Switches (c : Call) (h : History) (w : ChannelSwitch) : Type 0 where
+    at-once : Announces s c w → w .count ≡ 0 → Switches c h w
+    reached : (at : ℕ) → Awaits h at w → at ≤ clockAfter (c ∷ h) → Switches c h w
+
+  abbrev pub NoSwitch : Call → History → Type 0
+  NoSwitch c h = (w : ChannelSwitch) → Switches c h w → ⊥
+
+  -- ---- the latest beacon or probe response
+
+  -- it said this and was accepted at t, and no switch came with it or after it
+  abbrev pub Counts : History → Said → ℕ → Type 0
+  Counts h said t =
+      Latest
+      (λ c g. ((x : Said) → Tells s c x → ⊥) × NoSwitch c g)
+      (λ c g. Tells s c said × (t ≡ clockAfter g) × NoSwitch c g)
+      h
+
+  -- ---- each field of the record, as the history has it
+
+  -- the latest switch gave the channel; before any switch it is that of the start
+  abbrev pub ChannelIs : History → ℕ → Type 0
+  ChannelIs h n =
+      (Throughout NoSwitch h × (n ≡ s .channel))
+      ⊎ Latest NoSwitch (λ c g. (w : ChannelSwitch) × Switches c g w × (n ≡ w .channel)) h
+
+  -- the latest Power Constraint, and no switch with it or after it
+  abbrev pub LastConstrained : History → PowerConstraint → Type 0
+  LastConstrained h p =
+      Latest
+      (λ c g. ((x : PowerConstraint) → Constrains s c x → ⊥) × NoSwitch c g)
+      (λ c g. Constrains s c p × NoSwitch c g)
+      h
+
+  abbrev pub PowerIs : History → MaybePower → Type 0
+  PowerIs h MaybePower.Absent = (p : PowerConstraint) → LastConstrained h p → ⊥
+  PowerIs h (MaybePower.Is p) = LastConstrained h p
+
+  abbrev pub PendingIs : History → Pending → Type 0
+  PendingIs h Pending.Nothing = (at : ℕ) (w : ChannelSwitch) → Awaits h at w → ⊥
+  PendingIs h (Pending.Switch at mode channel) =
+      (w : ChannelSwitch) × Awaits h at w × (w .mode ≡ mode) × (w .channel ≡ channel)
+
+  -- a Quiet element that was accepted at t starts so far past the TBTT that it counts to, and runs again every so many TBTTs
+  pub record Sets (t : ℕ) (q : Quiet) (x : Schedule) : Type 0 where
+    pub tbtt : ℕ
+    pub counted : CountedTo (s .interval) t (q .count) tbtt
+    pub starts : x .start ≡ tbtt + q .offset
+    pub repeats : x .period ≡ q .period * s .interval
+    pub lasts : x .duration ≡ q .duration
+
+  -- one schedule for each element, in their order
+  abbrev pub SetsEach : ℕ → List Quiet → List Schedule → Type 0
+  SetsEach t [] [] = Unit {0}
+  SetsEach t [] (x ∷ xs) = ⊥
+  SetsEach t (q ∷ qs) [] = ⊥
+  SetsEach t (q ∷ qs) (x ∷ xs) = Sets t q x × SetsEach t qs xs
+
+  abbrev pub SchedulesAre : History → List Schedule → Type 0
+  SchedulesAre h xs =
+      (((said : Said) (t : ℕ) → Counts h said t → ⊥) × (xs ≡ []))
+      ⊎ ((said : Said) × (t : ℕ) × Counts h said t × SetsEach t (said .quiets) xs)
