@@ -179,9 +179,14 @@ module _ (s : Settings) (pos : 1 ≤ s .interval) (h : History) (r : Station) (a
     applies-answer Permission.SwitchBefore ((lo, hi), w, q, l, b) =
         simp (ne-eqb n 0 (λ z. omega arith), le-ltb 65535 n hi, denies waits w, denies quiet-now q, denies (quiet-later n) l, within n .shows b)
     applies-answer Permission.Granted ((lo, hi), o) =
-        simp
-        (ne-eqb n 0 (λ z. omega arith), le-ltb 65535 n hi, denies waits (open-no-wait lo o),
-        denies quiet-now (λ q. o (clockAfter h) (le-refl _) (omega arith) .not-quiet q), denies (quiet-later n) (open-not-later o), denies (within n) (open-not-within o))
+        simp (
+          ne-eqb n 0 (λ z. omega arith),
+          le-ltb 65535 n hi,
+          denies waits (open-no-wait lo o),
+          denies quiet-now (λ q. o (clockAfter h) (le-refl _) (omega arith) .not-quiet q),
+          denies (quiet-later n) (open-not-later o),
+          denies (within n) (open-not-within o),
+        )
 
     -- each answer is given exactly where the history says so
     pub answered : (p : Permission) → (permissionOf r n ≡ p) ↔ Applies s h n p

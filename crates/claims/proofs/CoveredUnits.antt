@@ -31,9 +31,13 @@ module _ (s : Settings) (pos : 1 ≤ s .interval) (t : ℕ) (q : Quiet) (x : Sch
 
   run-start : (j : ℕ) → x .start + j * x .period ≡ at j + q .offset
   run-start j =
-      omega
-      (arith, set .starts, ap (λ (n : ℕ). j * n) (set .repeats), counted-at (s .interval) pos t (q .count) (set .tbtt) more (set .counted),
-      later-tbtt (t / s .interval) (q .count) j (q .period) (s .interval))
+      omega (
+        arith,
+        set .starts,
+        ap (λ (n : ℕ). j * n) (set .repeats),
+        counted-at (s .interval) pos t (q .count) (set .tbtt) more (set .counted),
+        later-tbtt (t / s .interval) (q .count) j (q .period) (s .interval),
+      )
 
   pub covers-unit : Covers x u → CoversUnit (s .interval) t q u
   covers-unit (j, run) =

@@ -3,12 +3,15 @@ pub mod Asked
 pub mod Bodies
 pub mod CountingTbtts
 pub mod CoveredUnits
+pub mod Demand3
 pub mod Elements
+pub mod MomentsHold
 pub mod Numbers
 pub mod OneOutcomeElements
 pub mod OneOutcomeFrames
 pub mod OneOutcomeLeaves
 pub mod OneOutcomeWalk
+pub mod OneRecord
 pub mod OneSaying
 pub mod Others
 pub mod Pendings
@@ -16,5 +19,6 @@ pub mod QuietUnits
 pub mod Refusals
 pub mod Same
 pub mod Schedules
+pub mod StationWitnesses
 pub mod Stations
 pub mod Witnesses

@@ -83,8 +83,8 @@ module _ (s : Settings) (pos : 1 ≤ s .interval) where
       one (at, w) (at', v) c g (a, m) (b, n) =
           let same : w ≡ v = announces-one s c w v a b in
           let moment : at ≡ at' =
-              one-moment (s .interval) pos (clockAfter g) (w .count) at at' m
-              (subst (λ (z : ChannelSwitch). CountedTo (s .interval) (clockAfter g) (z .count) at') (sym same) n) in
+          one-moment (s .interval) pos (clockAfter g) (w .count) at at' m
+          (subst (λ (z : ChannelSwitch). CountedTo (s .interval) (clockAfter g) (z .count) at') (sym same) n) in
           cc
 
   -- a frame leaves the clock where it is

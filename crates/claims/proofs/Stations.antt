@@ -1,9 +1,12 @@
 -- The station's calls: each promise leaves one outcome, a refused frame or advance leaves the station as it was,
 -- and a refused start gives none that a call may be handed. Assumes nothing.
-use mathlib.Core.List.{List}
-use mathlib.Core.Path.{_≡_, refl}
+use mathlib.Core.Path.{_≡_, refl, sym, ap, _∙_}
 use Prim.Native.Nat.{ℕ}
 use native.Mathlib.Omega.{arith}
+use borrow.Fn.Kinds.{Dens, endedOf}
+use contract.Lifetimes.{Lfts}
+use denote.Ref.{now}
+use denote.Triple.Clauses.{AtExit}
 use Rattle.answer.specs.Checks.{Outcome, refused, accepted}
 use Rattle.answer.specs.declared.Answer.{Answer}
 use Rattle.answer.specs.declared.Refusal.{Refusal}
@@ -15,11 +18,12 @@ use Rattle.station.proofs.asking.Permission.number as Permission-number
 use Rattle.station.proofs.pending.Pending.comes_before as Comes-before
 use Rattle.station.proofs.pending.Pending.silences as Silences
 use Rattle.station.proofs.pending.Pending.up_to as Up-to
-use Rattle.station.specs.Clock.{stepped, advanceMeans, advanceOf}
+use Rattle.station.specs.Clock.{stepped, advanceMeans}
 use Rattle.station.specs.Starting.{blank}
-use Rattle.station.specs.Taking.{takeMeans, takeOf}
+use Rattle.station.specs.Taking.{takeMeans}
 use Rattle.station.specs.Validity.{Valid}
 use Rattle.station.specs.declared.Station.{Station}
+use Rattle.station.specs.declared.clock.Stepped.{Stepped}
 use Rattle.claims.specs.Outcomes.{OneResult}
 use Rattle.claims.proofs.Same.{once}
 
@@ -47,15 +51,23 @@ pending-up-to κs a e f x y p q = once p q
 pub pending-comes-before : OneResult 0 Comes-before.Kinds.ps Comes-before.Kinds.r Comes-before.Reads.Post
 pending-comes-before κs a e f x y p q = once p q
 
+-- ---- demand 1: of the code's own results, a refused frame or advance leaves the station as it was
+
 refused-same : (s : Station) (o : Outcome Station) (r : Refusal) → stepped s o .answer ≡ Answer.Refused r → stepped s o .station ≡ s
 refused-same s (refused r) _ e = refl
 refused-same s (accepted next) r e = absurd (let z : _≡_ {A = ℕ} 0 1 = cc in omega arith)
 
-pub refused-advance : (s : Station) (n : ℕ) (r : Refusal) → advanceOf s n .answer ≡ Answer.Refused r → advanceOf s n .station ≡ s
-refused-advance s n r e = refused-same s (advanceMeans s n) r e
+stepped-same : (s : Station) (o : Outcome Station) (x : Stepped) (r : Refusal) → x ≡ stepped s o → x .answer ≡ Answer.Refused r → x .station ≡ s
+stepped-same s o x r e f =
+    ap (λ (y : Stepped). y .station) e ∙ refused-same s o r (ap (λ (y : Stepped). y .answer) (sym e) ∙ f)
 
-pub refused-take : (s : Station) (f : List ℕ) (r : Refusal) → takeOf s f .answer ≡ Answer.Refused r → takeOf s f .station ≡ s
-refused-take s f r e = refused-same s (takeMeans s f) r e
+pub refused-take : (κs : Lfts 1) (a : Dens κs Take.Kinds.ps) (e : AtExit (endedOf 1 Take.Kinds.ps Take.Kinds.r) κs) (x : Stepped) (r : Refusal)
+    → Take.Reads.Post κs a x e → x .answer ≡ Answer.Refused r → x .station ≡ a .0
+refused-take κs a e x r p f = stepped-same (a .0) (takeMeans (a .0) (now (a .1 .0))) x r (p .0) f
+
+pub refused-advance : (κs : Lfts 0) (a : Dens κs Advance.Kinds.ps) (e : AtExit (endedOf 0 Advance.Kinds.ps Advance.Kinds.r) κs) (x : Stepped) (r : Refusal)
+    → Advance.Reads.Post κs a x e → x .answer ≡ Answer.Refused r → x .station ≡ a .0
+refused-advance κs a e x r p f = stepped-same (a .0) (advanceMeans (a .0) (a .1 .0)) x r (p .0) f
 
 -- no call may be handed what stands behind a refused start
 pub refused-start-invalid : Valid blank → ⊥

@@ -1,0 +1,25 @@
+-- The moments marked P, all of them (01, "Moments on both sides"), computed from the meanings. Assumes nothing.
+use mathlib.Core.Path.{refl}
+use Rattle.action.specs.Openings.{opensWith}
+use Rattle.action.specs.Singles.{sole, single}
+use Rattle.answer.specs.Checks.{checked}
+use Rattle.beacon.specs.Beacons.{takes, says, beaconMeans}
+use Rattle.element.specs.ChannelSwitch.{switchMeans}
+use Rattle.element.specs.Elements.{fixed}
+use Rattle.element.specs.Quiet.{quietMeans}
+use Rattle.fraction.specs.Fractions.{ceiling, fractionOf, possible, densitiesOf}
+use Rattle.frame.specs.Actions.{actionMeans}
+use Rattle.frame.specs.Frames.{frameMeans}
+use Rattle.header.specs.Headers.{foreignHeader, foreignAddress, toAll, headerMeans}
+use Rattle.schedule.specs.Schedules.{covered}
+use Rattle.schedule.specs.Units.{someUnit}
+use Rattle.station.specs.Asking.{firstOf, quietIn, permissionOf}
+use Rattle.station.specs.Clock.{advanceMeans}
+use Rattle.station.specs.Taking.{announced, told, takeMeans}
+use Rattle.walk.specs.Elements.{elementsBehind, elementsIn}
+use Rattle.claims.specs.Moments.{AllRight, moments}
+use Rattle.claims.specs.Records.{recordAfter}
+
+pub all-right : AllRight moments
+unfolding recordAfter takeMeans frameMeans headerMeans foreignHeader foreignAddress toAll beaconMeans checked says takes elementsIn elementsBehind quietMeans switchMeans fixed actionMeans opensWith sole single announced told advanceMeans permissionOf firstOf quietIn someUnit covered densitiesOf possible fractionOf ceiling
+all-right = (refl, (refl, (refl, (refl, (refl, (refl, (refl, (refl, (refl, (refl, (refl, (refl, (refl, ((refl, refl), tt))))))))))))))

@@ -1,0 +1,97 @@
+-- The history says everything: there is one valid record that agrees with it. Assumes nothing.
+use mathlib.Core.List.{List, [], _∷_, _++_}
+use mathlib.Core.Logic.{_⊎_, inl, inr}
+use mathlib.Core.Path.{_≡_, refl, sym, ap, ap₂, _∙_, subst}
+use Prim.Native.Nat.{ℕ, _-_, _≤_}
+use native.Mathlib.Omega.{arith}
+use lib.ListN.{length, take, drop, replicate, take-append-drop}
+use lib.Seq.{length-take-le}
+use Rattle.beacon.specs.Beacons.{Said, quietLimit}
+use Rattle.beacon.specs.declared.MaybePower.{MaybePower}
+use Rattle.element.specs.declared.quiet.Quiet.{Quiet}
+use Rattle.schedule.specs.declared.Schedule.{Schedule}
+use Rattle.station.specs.Stations.{inUse, noSchedule}
+use Rattle.station.specs.Validity.{Valid}
+use Rattle.station.specs.declared.Station.{Station}
+use Rattle.station.specs.declared.pending.Pending.{Pending}
+use Rattle.claims.specs.Histories.{Settings, History}
+use Rattle.claims.specs.Records.{Agrees}
+use Rattle.claims.specs.Standing.{Sets, SetsEach, SchedulesAre}
+use Rattle.claims.proofs.CountingTbtts.{one-moment}
+use Rattle.claims.proofs.OneSaying.{counts-one, channel-one, power-one, pending-one}
+
+abbrev scheduleOf : ℕ → ℕ → ℕ → Schedule
+scheduleOf start period duration = record { start = start; period = period; duration = duration }
+
+same-schedule : (x y : Schedule) → x .start ≡ y .start → x .period ≡ y .period → x .duration ≡ y .duration → x ≡ y
+same-schedule x y a b c =
+    let same : scheduleOf (x .start) (x .period) (x .duration) ≡ scheduleOf (y .start) (y .period) (y .duration) = rw (a, b, c) in
+    same
+
+abbrev stationOf : List ℕ → List ℕ → ℕ → ℕ → ℕ → MaybePower → Pending → List Schedule → ℕ → Station
+stationOf own ap' interval clock channel power pending schedules count =
+    record {
+      own = own;
+      ap = ap';
+      interval = interval;
+      clock = clock;
+      channel = channel;
+      power = power;
+      pending = pending;
+      schedules = schedules;
+      count = count;
+    }
+
+module _ (s : Settings) (pos : 1 ≤ s .interval) where
+  sets-one : (t : ℕ) (q : Quiet) (x y : Schedule) → Sets s t q x → Sets s t q y → x ≡ y
+  sets-one t q x y v w =
+      same-schedule x y
+      (omega (arith, v .starts, w .starts, one-moment (s .interval) pos t (q .count) (v .tbtt) (w .tbtt) (v .counted) (w .counted)))
+      (v .repeats ∙ sym (w .repeats))
+      (v .lasts ∙ sym (w .lasts))
+
+  each-one : (t : ℕ) (qs : List Quiet) (xs ys : List Schedule) → SetsEach s t qs xs → SetsEach s t qs ys → xs ≡ ys
+  each-one t [] [] [] v w = refl
+  each-one t [] [] (y ∷ ys) v w = absurd w
+  each-one t [] (x ∷ xs) ys v w = absurd v
+  each-one t (q ∷ qs) [] ys v w = absurd v
+  each-one t (q ∷ qs) (x ∷ xs) [] v w = absurd w
+  each-one t (q ∷ qs) (x ∷ xs) (y ∷ ys) v w = ap₂ (λ z zs. z ∷ zs) (sets-one t q x y (v .0) (w .0)) (each-one t qs xs ys (v .1) (w .1))
+
+  module _ (h : History) where
+    schedules-one : (xs ys : List Schedule) → SchedulesAre s h xs → SchedulesAre s h ys → xs ≡ ys
+    schedules-one xs ys (inl (f, e)) (inl (g, e')) = e ∙ sym e'
+    schedules-one xs ys (inl (f, e)) (inr (said, t, counts, each)) = absurd (f said t counts)
+    schedules-one xs ys (inr (said, t, counts, each)) (inl (g, e)) = absurd (g said t counts)
+    schedules-one xs ys (inr (said, t, counts, each)) (inr (said', t', counts', each')) =
+        each-one t' (said' .quiets) xs ys
+        (subst (λ (z : Said × ℕ). SetsEach s (z .1) (z .0 .quiets) xs) (counts-one s pos h (said, t) (said', t') counts counts') each)
+        each'
+
+    -- what the slots hold follows from the schedules in use
+    as-many : (r : Station) → Valid r → length (inUse r) ≡ r .count
+    as-many r v = length-take-le (r .count) (r .schedules) (omega (arith, v .slots, v .few))
+
+    slots-hold : (r : Station) → Valid r → r .schedules ≡ inUse r ++ replicate (quietLimit - length (inUse r)) noSchedule
+    slots-hold r v =
+        sym (take-append-drop (r .count) (r .schedules))
+        ∙ ap (λ (xs : List Schedule). inUse r ++ xs) (v .rest-blank ∙ ap (λ (n : ℕ). replicate (quietLimit - n) noSchedule) (sym (as-many r v)))
+
+    pub one-record : (r r' : Station) → Valid r → Valid r' → Agrees s h r → Agrees s h r' → r ≡ r'
+    one-record r r' v v' a a' =
+        let used = schedules-one (inUse r) (inUse r') (a .schedules-told) (a' .schedules-told) in
+        let own = a .same-own ∙ sym (a' .same-own) in
+        let ap' = a .same-ap ∙ sym (a' .same-ap) in
+        let interval = a .same-interval ∙ sym (a' .same-interval) in
+        let clock = a .same-clock ∙ sym (a' .same-clock) in
+        let channel = channel-one s pos h (r .channel) (r' .channel) (a .channel-told) (a' .channel-told) in
+        let power = power-one s pos h (r .power) (r' .power) (a .power-told) (a' .power-told) in
+        let pending = pending-one s pos h (r .pending) (r' .pending) (a .pending-told) (a' .pending-told) in
+        let count : r .count ≡ r' .count = sym (as-many r v) ∙ ap (λ (xs : List Schedule). length xs) used ∙ as-many r' v' in
+        let schedules : r .schedules ≡ r' .schedules =
+        slots-hold r v ∙ ap (λ (xs : List Schedule). xs ++ replicate (quietLimit - length xs) noSchedule) used ∙ sym (slots-hold r' v') in
+        let same :
+        stationOf (r .own) (r .ap) (r .interval) (r .clock) (r .channel) (r .power) (r .pending) (r .schedules) (r .count)
+        ≡ stationOf (r' .own) (r' .ap) (r' .interval) (r' .clock) (r' .channel) (r' .power) (r' .pending) (r' .schedules) (r' .count) =
+        rw (own, ap', interval, clock, channel, power, pending, schedules, count) in
+        same

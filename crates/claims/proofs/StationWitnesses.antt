@@ -1,0 +1,87 @@
+-- Single histories that shut out stations which look right (01, "Wrong programs that look right", "How tight the promises are"): a
+-- definition so wrong would break one of these. The moments marked P shut out more of them. Assumes nothing.
+use mathlib.Core.List.{List, [], _∷_, _++_}
+use mathlib.Core.Path.{_≡_, refl}
+use Prim.Native.Nat.{ℕ}
+use lib.ListN.{replicate}
+use Rattle.action.specs.Openings.{opensWith}
+use Rattle.action.specs.Singles.{sole, single}
+use Rattle.answer.specs.Checks.{checked}
+use Rattle.beacon.specs.Beacons.{takes, says, beaconMeans}
+use Rattle.beacon.specs.declared.MaybePower.{MaybePower}
+use Rattle.element.specs.ChannelSwitch.{switchMeans}
+use Rattle.element.specs.Elements.{fixed}
+use Rattle.element.specs.PowerConstraint.{powerMeans}
+use Rattle.element.specs.Quiet.{quietMeans}
+use Rattle.frame.specs.Actions.{actionMeans}
+use Rattle.frame.specs.Frames.{frameMeans}
+use Rattle.header.specs.Headers.{foreignHeader, foreignAddress, toAll, headerMeans}
+use Rattle.schedule.specs.Schedules.{covered}
+use Rattle.schedule.specs.Units.{someUnit}
+use Rattle.station.specs.Asking.{firstOf, quietIn, permissionOf}
+use Rattle.station.specs.Clock.{advanceMeans}
+use Rattle.station.specs.Stations.{inUse}
+use Rattle.station.specs.Taking.{announced, told, takeMeans}
+use Rattle.station.specs.declared.pending.Pending.{Pending}
+use Rattle.walk.specs.Elements.{elementsBehind, elementsIn}
+use Rattle.claims.specs.Histories.{Call, frame, advance, ask, History}
+use Rattle.claims.specs.Moments.{Moment, asking, AllRight, ours, heard, beaconOf, quiet, switchSoon, announcement}
+use Rattle.claims.specs.Records.{recordAfter}
+
+-- Quiet with this count: period 0, duration 10, offset 20
+abbrev quietAfter : ℕ → List ℕ
+quietAfter count = 40 ∷ 6 ∷ count ∷ 0 ∷ 10 ∷ 0 ∷ 20 ∷ 0 ∷ []
+
+-- Power Constraint of 3 dB
+abbrev constraint : List ℕ
+constraint = 32 ∷ 1 ∷ 3 ∷ []
+
+-- a switch to channel 44 at once
+abbrev switchNow : List ℕ
+switchNow = 37 ∷ 3 ∷ 0 ∷ 44 ∷ 0 ∷ []
+
+abbrev witnesses : List Moment
+witnesses =
+    -- the first of two Quiet elements counts, and so does the second
+    asking (advance 120 ∷ beaconOf (quietAfter 1 ++ quietAfter 2) ∷ []) 1 2
+    ∷ asking (advance 220 ∷ beaconOf (quietAfter 1 ++ quietAfter 2) ∷ []) 1 2
+    -- a later beacon is obeyed, and so is a probe response
+    ∷ asking (advance 70 ∷ beaconOf (quiet 0) ∷ advance 50 ∷ beaconOf [] ∷ []) 1 2
+    ∷ asking (advance 70 ∷ heard 80 (replicate 8 0 ++ (100 ∷ 0 ∷ 1 ∷ 0 ∷ quiet 0)) ∷ advance 50 ∷ []) 1 2
+    -- a beacon that is refused, for its interval, is not
+    ∷ asking (advance 70 ∷ heard 128 (replicate 8 0 ++ (101 ∷ 0 ∷ 1 ∷ 0 ∷ [])) ∷ beaconOf (quiet 0) ∷ advance 50 ∷ []) 1 2
+    -- an announcement of mode 1 silences, until its switch
+    ∷ asking (announcement 1 ∷ advance 50 ∷ []) 1 1
+    ∷ asking (advance 49 ∷ announcement 1 ∷ advance 50 ∷ []) 1 1
+    ∷ asking (advance 50 ∷ announcement 1 ∷ advance 50 ∷ []) 1 0
+    -- a count of 0 comes after the schedules of its own frame
+    ∷ asking (advance 70 ∷ beaconOf (quiet 0 ++ switchNow) ∷ advance 50 ∷ []) 1 0
+    -- a switch ends the schedules
+    ∷ asking (advance 70 ∷ announcement 0 ∷ beaconOf (quiet 0) ∷ advance 50 ∷ []) 1 0
+    ∷ []
+
+pub witnesses-right : AllRight witnesses
+unfolding recordAfter takeMeans frameMeans headerMeans foreignHeader foreignAddress toAll beaconMeans checked says takes elementsIn elementsBehind quietMeans switchMeans fixed actionMeans opensWith sole single announced told advanceMeans permissionOf firstOf quietIn someUnit covered
+witnesses-right = (refl, (refl, (refl, (refl, (refl, (refl, (refl, (refl, (refl, (refl, tt))))))))))
+
+-- ---- the record
+
+-- a Power Constraint is kept
+pub constraint-kept : recordAfter ours (beaconOf constraint ∷ []) .power ≡ MaybePower.Is (record { decibels = 3 })
+unfolding recordAfter takeMeans frameMeans headerMeans foreignHeader foreignAddress toAll beaconMeans checked says takes elementsIn elementsBehind powerMeans fixed announced told
+constraint-kept = refl
+
+-- and does not outlive a switch
+pub constraint-gone : recordAfter ours (advance 100 ∷ announcement 0 ∷ beaconOf constraint ∷ []) .power ≡ MaybePower.Absent
+unfolding recordAfter takeMeans frameMeans headerMeans foreignHeader foreignAddress toAll beaconMeans checked says takes elementsIn elementsBehind powerMeans switchMeans fixed actionMeans opensWith sole single announced told advanceMeans
+constraint-gone = refl
+
+-- a switch is for the next TBTT, wherever in the interval it was announced
+pub counted-from-tbtt : recordAfter ours (announcement 0 ∷ advance 99 ∷ []) .pending ≡ Pending.Switch 100 0 40
+unfolding recordAfter takeMeans frameMeans headerMeans foreignHeader foreignAddress toAll checked elementsIn elementsBehind switchMeans fixed actionMeans opensWith sole single announced told advanceMeans
+counted-from-tbtt = refl
+
+-- and when it comes, the channel is the new one
+pub channel-new : recordAfter ours (advance 1 ∷ announcement 0 ∷ advance 99 ∷ []) .channel ≡ 40
+unfolding recordAfter takeMeans frameMeans headerMeans foreignHeader foreignAddress toAll checked elementsIn elementsBehind switchMeans fixed actionMeans opensWith sole single announced told advanceMeans
+channel-new = refl
