@@ -40,7 +40,7 @@ fn refusal_of(reading: Reading) -> Refusal
 }
 
 // The request at an index of an action body.
-fn request_in(body: &[u8], index: usize) -> measurement_request::Reading
+pub fn request_in(body: &[u8], index: usize) -> measurement_request::Reading
     ensures { λ r. ⌜ requestTold r ≡ andThen (actionMeans (now (body .entry))) (requestIn index) ⌝ }
 {
     if !opens_as(body, measurement::requests::ACTION) {

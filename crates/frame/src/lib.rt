@@ -5,6 +5,7 @@ mod index;
 pub use bodies::read_body;
 pub use index::report_at;
 pub use index::request_at;
+pub use index::request_in;
 ghost use mathlib.Core.Path.{_≡_};
 ghost use mathlib.Core.List.{[]};
 ghost use Rattle.frame.specs.Frames.{kindOf, sent, frameMeans};

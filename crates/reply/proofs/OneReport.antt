@@ -1,0 +1,90 @@
+-- A body of one Measurement Report, built in a buffer of its own. Assumes nothing.
+use mathlib.Core.Bool.{Bool, true, false, _&&_}
+use mathlib.Core.List.{List, [], _∷_, _++_, append-nil}
+use mathlib.Core.Path.{_≡_, refl, sym, ap, _∙_, subst}
+use Prim.Native.Nat.{ℕ, _+_, _≤_}
+use native.Mathlib.Omega.{arith}
+use borrow.Author.Tests.{le-ltb}
+use lib.ListN.{length, take}
+use Rattle.answer.proofs.Judged.{never, stop, past, done}
+use Rattle.answer.specs.Checks.{Outcome, refused, accepted}
+use Rattle.answer.specs.declared.Refusal.{Refusal}
+use Rattle.element.proofs.ReportLayout.{within, counted}
+use Rattle.element.specs.MeasurementReport.{reportMay, reportOctets}
+use Rattle.element.specs.declared.measurement_report.Report.{Report}
+use Rattle.measurement.specs.Bodies.{bodyOctets, mayAppend, appended}
+use Rattle.measurement.specs.Lists.{allOctets}
+use Rattle.measurement.specs.Reports.{reportSort}
+use Rattle.octets.specs.Writing.{told, room, wrote, after, left, Written}
+use Rattle.octets.specs.declared.writing.Wrote.{Wrote}
+use Rattle.reply.proofs.Framed.{written-as, in-front}
+
+and-true : (b : Bool) → (b && true) ≡ b
+and-true true = refl
+and-true false = refl
+
+-- ---- what may not be written
+
+module _ (may : Bool) (os : List ℕ) (at : ℕ) (buffer : List ℕ) (e : may ≡ false) where
+  refusal : refused Refusal.Impossible ≡ wrote may os at buffer
+  unfolding wrote room
+  refusal = stop _ _ _ (rw e)
+
+  pub not-written : Written may os at buffer (Wrote.Refused Refusal.Impossible) buffer
+  unfolding left
+  not-written = record { answers = refusal; leaves = ap (λ (o : Outcome ℕ). after o os at buffer) refusal }
+
+pub refused-as : {may : Bool} {os : List ℕ} {at : ℕ} {buffer exit : List ℕ} {q r : Refusal} → r ≡ q
+    → Written may os at buffer (Wrote.Refused q) exit → Written may os at buffer (Wrote.Refused r) exit
+refused-as e w = record { answers = ap refused e ∙ w .answers; leaves = w .leaves }
+
+-- ---- the first element of a body
+
+module _ (token : ℕ) (x : Report) where
+  -- the body as it is meant
+  abbrev pub body : List ℕ
+  body = bodyOctets reportSort 1 token (x ∷ [])
+
+  first-octets : appended reportSort 1 token x [] ≡ body
+  unfolding appended allOctets
+  first-octets = ap (λ (xs : List ℕ). 0 ∷ 1 ∷ token ∷ xs) (sym (append-nil (reportOctets x)))
+
+  first-may : mayAppend reportSort 1 token x true [] ≡ reportMay x
+  unfolding mayAppend
+  first-may = and-true (reportMay x)
+
+  pub short-body : length (x .densities) ≡ 8 → length body ≤ 27
+  unfolding allOctets
+  short-body eight =
+      omega
+      (arith, ap (λ (xs : List ℕ). length xs) (append-nil (reportOctets x)), counted (x .token) (x .kind) (x .densities) eight (x .matter), within (x .matter) .1)
+
+  module _ (eight : length (x .densities) ≡ 8) (buffer exit : List ℕ) (answer : Wrote) (size : length buffer ≡ 27)
+      (w : Written (mayAppend reportSort 1 token x true []) (appended reportSort 1 token x []) 0 buffer answer exit) where
+    as-meant : Written (reportMay x) body 0 buffer answer exit
+    as-meant = written-as first-may first-octets w
+
+    enough : (m : Bool) → m ≡ true → accepted (length body) ≡ wrote m body 0 buffer
+    unfolding wrote room
+    enough m e = past _ _ _ (rw e) (past _ _ _ (le-ltb (length buffer) (0 + length body) (omega (arith, size, short-body eight))) (done _))
+
+    -- a refusal says that the report may not be written
+    pub unwritten : (r : Refusal) → answer ≡ Wrote.Refused r → (reportMay x ≡ false) × (r ≡ Refusal.Impossible)
+    unwritten r e = by-may (reportMay x) refl
+      where
+        by-may : (m : Bool) → reportMay x ≡ m → (reportMay x ≡ false) × (r ≡ Refusal.Impossible)
+        by-may true f = absurd (never (sym (ap told e) ∙ as-meant .answers ∙ sym (enough (reportMay x) f)))
+        by-may false f =
+            let same : refused r ≡ refused Refusal.Impossible = sym (ap told e) ∙ as-meant .answers ∙ sym (refusal (reportMay x) body 0 buffer f) in
+            (f, cc)
+
+    -- else the first octets of the buffer are the body
+    pub built : (n : ℕ) → answer ≡ Wrote.Length n → (reportMay x ≡ true) × (n ≡ length body) × (take n exit ≡ body)
+    built n e = by-may (reportMay x) refl
+      where
+        by-may : (m : Bool) → reportMay x ≡ m → (reportMay x ≡ true) × (n ≡ length body) × (take n exit ≡ body)
+        by-may false f = absurd (never (refusal (reportMay x) body 0 buffer f ∙ sym (as-meant .answers) ∙ ap told e))
+        by-may true f =
+            let same : accepted n ≡ accepted (length body) = sym (ap told e) ∙ as-meant .answers ∙ sym (enough (reportMay x) f) in
+            let count : n ≡ length body = cc in
+            (f, count, ap (λ (k : ℕ). take k exit) count ∙ in-front body buffer exit (omega (arith, size, short-body eight)) (as-meant .leaves ∙ ap (λ (m : Bool). left m body 0 buffer) f))

@@ -1,0 +1,4 @@
+pub mod Due
+pub mod Frames
+pub mod Replies
+pub mod Reports

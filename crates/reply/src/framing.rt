@@ -1,0 +1,89 @@
+// A reply as a frame: its header, then the body (document 01, "Replies").
+ghost use mathlib.Core.Path.{_≡_};
+ghost use mathlib.Core.Bool.{true};
+ghost use mathlib.Core.List.{[], _∷_};
+ghost use Prim.Native.Nat.{_≤_};
+ghost use lib.ListN.{length};
+ghost use Rattle.action.specs.Singles.{tpcReportBody};
+ghost use Rattle.element.specs.MeasurementReport.{reportMay};
+ghost use Rattle.measurement.specs.Bodies.{bodyOctets};
+ghost use Rattle.measurement.specs.Reports.{reportSort};
+ghost use Rattle.octets.specs.Writing.{Written};
+ghost use Rattle.reply.specs.Frames.{replyHead, replyFrame};
+use answer::Refusal;
+use element::measurement_report::Report;
+use element::tpc_report::TpcReport;
+use octets::Wrote;
+
+// An action frame to the AP: flags, duration and sequence control are 0.
+fn head(own: [u8; 6], ap: [u8; 6]) -> [u8; 24]
+    ensures { λ r. ⌜ r ≡ replyHead own ap ⌝ }
+{
+    [
+        208,
+        0,
+        0,
+        0,
+        ap[0],
+        ap[1],
+        ap[2],
+        ap[3],
+        ap[4],
+        ap[5],
+        own[0],
+        own[1],
+        own[2],
+        own[3],
+        own[4],
+        own[5],
+        ap[0],
+        ap[1],
+        ap[2],
+        ap[3],
+        ap[4],
+        ap[5],
+        0,
+        0,
+    ]
+}
+
+// Refuses a buffer that is too short (13) before anything is put, so that no half frame is ever left.
+fn put_frame(own: [u8; 6], ap: [u8; 6], body: &[u8], buffer: &mut [u8]) -> Wrote
+    requires { ⌜ length (now body) ≤ 27 ⌝ }
+    ensures { λ r. ⌜ Written true (replyFrame own ap (now (body .entry))) 0 (now (buffer .entry)) r (now (buffer .exit)) ⌝ }
+{
+    let size = 24 + body.len();
+    if buffer.len() < size {
+        return Wrote::Refused(Refusal::BufferShort);
+    }
+    let head = head(own, ap);
+    octets::put(true, &head, buffer, 0);
+    octets::put(true, body, buffer, 24);
+    Wrote::Length(size)
+}
+
+// A TPC Report frame.
+pub fn put_tpc_report(
+    own: [u8; 6],
+    ap: [u8; 6],
+    token: u8,
+    report: TpcReport,
+    buffer: &mut [u8],
+) -> Wrote
+    ensures { λ r. ⌜ Written true (replyFrame own ap (tpcReportBody token report)) 0 (now (buffer .entry)) r (now (buffer .exit)) ⌝ }
+{
+    let mut body = [0u8; 7];
+    action::write_tpc_report(token, report, &mut body, 0);
+    put_frame(own, ap, &body, buffer)
+}
+
+// A Measurement Report frame of one element.
+pub fn put_report(own: [u8; 6], ap: [u8; 6], token: u8, report: Report, buffer: &mut [u8]) -> Wrote
+    ensures { λ r. ⌜ Written (reportMay report) (replyFrame own ap (bodyOctets reportSort 1 token (report ∷ []))) 0 (now (buffer .entry)) r (now (buffer .exit)) ⌝ }
+{
+    let mut body = [0u8; 27];
+    match measurement::reports::append(&mut body, 0, token, report) {
+        Wrote::Refused(refusal) => Wrote::Refused(refusal),
+        Wrote::Length(count) => put_frame(own, ap, &body[..count], buffer),
+    }
+}

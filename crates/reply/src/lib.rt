@@ -1,0 +1,60 @@
+// Replies (document 01, "Replies"): what a station owes for a TPC Request and for an element of a Measurement Request, put into a lent
+// buffer as a whole frame. The station's own record takes no part but for its address, its AP and its clock.
+mod due;
+mod framing;
+mod reporting;
+
+pub use reporting::Finding;
+pub use reporting::Readings;
+ghost use mathlib.Core.Path.{_≡_};
+ghost use Rattle.reply.specs.Replies.{tpcReply, measurementReply, Replied};
+use answer::Answer;
+use answer::Refusal;
+use due::Due;
+use element::measurement_request;
+use element::tpc_report::TpcReport;
+use octets::Wrote;
+
+// The reply to a TPC Request: a TPC Report with its token, and the power and the margin that the caller has measured.
+pub fn to_tpc_request(
+    frame: &[u8],
+    own: [u8; 6],
+    ap: [u8; 6],
+    report: TpcReport,
+    buffer: &mut [u8],
+) -> Wrote
+    ensures { λ r. ⌜ Replied (tpcReply own ap report (now (frame .entry))) (now (buffer .entry)) r (now (buffer .exit)) ⌝ }
+{
+    match due::request_of(frame, own, ap) {
+        Due::Refused(refusal) => Wrote::Refused(refusal),
+        Due::Measurement { token: _ } => Wrote::Refused(Refusal::Impossible),
+        Due::Tpc { token } => framing::put_tpc_report(own, ap, token, report, buffer),
+    }
+}
+
+// The reply to the element at an index of a Measurement Request. `clock` is the station's, in TU.
+pub fn to_measurement_request(
+    frame: &[u8],
+    own: [u8; 6],
+    ap: [u8; 6],
+    clock: u32,
+    index: usize,
+    readings: Readings,
+    buffer: &mut [u8],
+) -> Wrote
+    ensures { λ r. ⌜ Replied (measurementReply own ap clock index readings (now (frame .entry))) (now (buffer .entry)) r (now (buffer .exit)) ⌝ }
+{
+    match due::request_of(frame, own, ap) {
+        Due::Refused(refusal) => Wrote::Refused(refusal),
+        Due::Tpc { token: _ } => Wrote::Refused(Refusal::Impossible),
+        Due::Measurement { token } => {
+            let owed = reporting::report_in(&frame[24..], index, clock, readings);
+            let answer = owed.answer;
+            let report = owed.report;
+            match answer {
+                Answer::Refused(refusal) => Wrote::Refused(refusal),
+                Answer::Accepted => framing::put_report(own, ap, token, report, buffer),
+            }
+        }
+    }
+}
