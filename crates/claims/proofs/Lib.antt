@@ -17,6 +17,8 @@ pub mod Others
 pub mod Pendings
 pub mod QuietUnits
 pub mod Refusals
+pub mod Replies
+pub mod RepliesRead
 pub mod Same
 pub mod Schedules
 pub mod StationWitnesses

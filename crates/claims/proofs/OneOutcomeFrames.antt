@@ -23,6 +23,7 @@ use Rattle.frame.proofs.read as Frame-read
 use Rattle.frame.proofs.read_body as Read-body
 use Rattle.frame.proofs.report_at as Report-at
 use Rattle.frame.proofs.request_at as Request-at
+use Rattle.frame.proofs.request_in as Request-in
 use Rattle.frame.specs.Laid.{frameTold}
 use Rattle.frame.specs.declared.Frame.{Frame}
 use Rattle.frame.specs.declared.Reading.{Reading}
@@ -113,6 +114,9 @@ frame-read κs a e f x y p q = once p q
 
 pub request-at : OneResult 1 Request-at.Kinds.ps Request-at.Kinds.r Request-at.Reads.Post
 request-at κs a e f x y p q = told-once requestTold request-of request-told p q
+
+pub request-in : OneResult 1 Request-in.Kinds.ps Request-in.Kinds.r Request-in.Reads.Post
+request-in κs a e f x y p q = told-once requestTold request-of request-told p q
 
 pub report-at : OneResult 1 Report-at.Kinds.ps Report-at.Kinds.r Report-at.Reads.Post
 report-at κs a e f x y p q = once p q

@@ -16,11 +16,11 @@ pub told-once : {X A : Type 0} (tells : X → Outcome A) (back : Outcome A → X
     → {x y : X} {o : Outcome A} → tells x ≡ o → tells y ≡ o → x ≡ y
 told-once tells back undone {x} {y} p q = sym (undone x) ∙ ap back (p ∙ sym q) ∙ undone y
 
-answer : Outcome ℕ → Wrote
+pub answer : Outcome ℕ → Wrote
 answer (refused r) = Wrote.Refused r
 answer (accepted n) = Wrote.Length n
 
-answer-told : (w : Wrote) → answer (told w) ≡ w
+pub answer-told : (w : Wrote) → answer (told w) ≡ w
 unfolding answer
 answer-told (Wrote.Refused r) = refl
 answer-told (Wrote.Length n) = refl

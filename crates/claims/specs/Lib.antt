@@ -1,3 +1,4 @@
+pub mod Exchanged
 pub mod Histories
 pub mod Moments
 pub mod OpenUnits

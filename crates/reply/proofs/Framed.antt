@@ -33,7 +33,7 @@ head-length own ap' o a = simp (length-append, o, a)
 -- ---- what a writer answers and leaves, where there is room and where there is none
 
 module _ (os : List ℕ) (at : ℕ) (buffer : List ℕ) where
-  room-answer : at + length os ≤ length buffer → accepted (length os) ≡ wrote true os at buffer
+  pub room-answer : at + length os ≤ length buffer → accepted (length os) ≡ wrote true os at buffer
   unfolding wrote room
   room-answer h = past _ _ _ refl (past _ _ _ (le-ltb (length buffer) (at + length os) h) (done _))
 

@@ -7,12 +7,12 @@ ghost use Rattle.frame.specs.Frames.{requestIn};
 ghost use Rattle.reply.specs.Reports.{plain, mapReport, busyReport, rpiReport, foundReport, measuredReport, reportFor};
 use answer::Answer;
 use answer::Refusal;
+use element::Span;
 use element::measurement_report;
 use element::measurement_report::Matter;
 use element::measurement_report::Report;
 use element::measurement_request;
 use element::measurement_request::Request;
-use element::Span;
 use fraction::Fraction;
 
 // What the caller has found, or that it refuses to measure: a map, a busy time in µs, or eight times in µs, which stand beside it.

@@ -1,0 +1,34 @@
+-- Replies: each promise leaves one outcome, and a refused reply puts no byte into its buffer (00, demand 1). Assumes nothing.
+use mathlib.Core.Bool.{true}
+use mathlib.Core.List.{List}
+use mathlib.Core.Path.{_≡_, refl, sym, ap, _∙_}
+use Prim.Native.Nat.{ℕ}
+use denote.Ref.{now}
+use Rattle.answer.specs.Checks.{Outcome, refused, accepted, andThen}
+use Rattle.answer.specs.declared.Refusal.{Refusal}
+use Rattle.octets.specs.Writing.{told, wrote, after, left}
+use Rattle.octets.specs.declared.writing.Wrote.{Wrote}
+use Rattle.reply.proofs.to_measurement_request as To-measurement-request
+use Rattle.reply.proofs.to_tpc_request as To-tpc-request
+use Rattle.reply.specs.Replies.{leftBy, Replied}
+use Rattle.claims.specs.Outcomes.{OneOutcome}
+use Rattle.claims.proofs.Same.{once, told-once, answer, answer-told}
+
+replied-once : {o : Outcome (List ℕ)} {buffer : List ℕ} {x y : Wrote} {e f : List ℕ} → Replied o buffer x e → Replied o buffer y f → (x ≡ y) × (e ≡ f)
+replied-once p q = (told-once told answer answer-told (p .answers) (q .answers), once (p .leaves) (q .leaves))
+
+pub to-tpc-request : OneOutcome 2 To-tpc-request.Kinds.ps To-tpc-request.Kinds.r To-tpc-request.Reads.Post (λ κs e. now (e .1 .1 .1 .1 .0))
+to-tpc-request κs a e f x y p q = replied-once p q
+
+pub to-measurement-request : OneOutcome 2 To-measurement-request.Kinds.ps To-measurement-request.Kinds.r To-measurement-request.Reads.Post (λ κs e. now (e .1 .1 .1 .1 .1 .1 .0))
+to-measurement-request κs a e f x y p q = replied-once p q
+
+-- ---- demand 1
+
+refused-leaves : (o : Outcome (List ℕ)) (buffer : List ℕ) (r : Refusal) → andThen o (λ os. wrote true os 0 buffer) ≡ refused r → leftBy o buffer ≡ buffer
+unfolding left
+refused-leaves (refused q) buffer r e = refl
+refused-leaves (accepted os) buffer r e = ap (λ (o : Outcome ℕ). after o os 0 buffer) e
+
+pub refused-reply : {o : Outcome (List ℕ)} {buffer exit : List ℕ} {x : Wrote} {r : Refusal} → Replied o buffer x exit → x ≡ Wrote.Refused r → exit ≡ buffer
+refused-reply {o} {buffer} {r = r} w e = w .leaves ∙ refused-leaves o buffer r (sym (w .answers) ∙ ap told e)
