@@ -1,0 +1,27 @@
+-- A block (01, "Capture blocks and the evening list"): octets 0-1 used length (0 to 508), 2-509 payload, 510-511 check, which is 1 plus the sum
+-- of octets 0 to 509, modulo 65,536. A wrong check, a used length over 508 or a short last block is damaged.
+use mathlib.Core.Bool.{Bool, not, _||_}
+use mathlib.Core.List.{List}
+use Prim.Native.Nat.{ℕ, _+_, _%_}
+use lib.Dec.{ltb, eqb}
+use lib.ListN.{length, take, drop}
+use Rattle.answer.specs.Checks.{pick}
+use Rattle.answer.specs.Sums.{sumOf}
+use Rattle.octets.specs.Numbers.{number}
+use Rattle.block.specs.declared.Block.{Block}
+
+abbrev pub usedLength : List ℕ → ℕ
+usedLength b = number 2 0 b
+
+abbrev pub checkOf : List ℕ → ℕ
+checkOf b = (1 + sumOf (take 510 b)) % 65536
+
+abbrev pub isDamaged : List ℕ → Bool
+isDamaged b = not (eqb (length b) 512) || (not (eqb (number 2 510 b) (checkOf b)) || ltb 508 (usedLength b))
+
+unfoldable pub blockMeans : List ℕ → Block
+blockMeans b = pick (isDamaged b) Block.Damaged (Block.Used (usedLength b))
+
+-- the part of the payload that is used
+abbrev pub usedPart : List ℕ → List ℕ
+usedPart b = take (usedLength b) (drop 2 b)
