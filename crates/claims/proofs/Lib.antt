@@ -7,6 +7,7 @@ pub mod Demand3
 pub mod Elements
 pub mod MomentsHold
 pub mod Numbers
+pub mod OneOutcomeCaptures
 pub mod OneOutcomeElements
 pub mod OneOutcomeFrames
 pub mod OneOutcomeLeaves

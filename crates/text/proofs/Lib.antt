@@ -1,0 +1,2 @@
+pub mod Backing
+pub mod Spelling
