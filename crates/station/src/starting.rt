@@ -1,7 +1,7 @@
 // Starting a station (document 01, "Answer numbers", 15).
 ghost use mathlib.Core.Path.{_≡_};
 ghost use Rattle.answer.specs.declared.Answer.{Answer};
-ghost use Rattle.station.specs.Starting.{startForbids, started, startMeans};
+ghost use Rattle.station.specs.Starting.{blank, startForbids, started, startMeans};
 ghost use Rattle.station.specs.Stations.{fresh};
 ghost use Rattle.station.specs.Validity.{Valid};
 use crate::Pending;
@@ -34,6 +34,14 @@ impl Station {
         }
     }
 
+    // What stands where there is no station: its interval is 0, so that no call may be handed it.
+    pub fn nobody() -> Station
+        ensures { λ r. ⌜ r ≡ blank ⌝ }
+    {
+        let address = [0u8; 6];
+        Station::fresh(address, address, 0, 0)
+    }
+
     // The interval is 0, the channel is none, or an address is a group's.
     fn is_bad_start(own: [u8; 6], ap: [u8; 6], interval: u16, channel: u8) -> bool
         ensures { λ r. ⌜ r ≡ startForbids own ap interval channel ⌝ }
@@ -55,8 +63,7 @@ impl Station {
         ensures valid { λ r. ⌜ (r .answer ≡ Answer.Accepted → Valid (r .station)) ⌝ }
     {
         if Station::is_bad_start(own, ap, interval, channel) {
-            let nobody = [0u8; 6];
-            let station = Station::fresh(nobody, nobody, 0, 0);
+            let station = Station::nobody();
             let answer = Answer::Refused(Refusal::BadStart);
             return Started { answer, station };
         }

@@ -20,7 +20,7 @@ not-accepted r e = let z : _≡_ {A = ℕ} 0 1 = cc in omega arith
 returns : tie.Need-returns
 unfolding startMeans
 returns c = (
-  ap (λ (s : Station). record { answer = Answer.Refused Refusal.BadStart; station = s }) (c .fresh .ensures)
+  ap (λ (s : Station). record { answer = Answer.Refused Refusal.BadStart; station = s }) (c .nobody .ensures)
       ∙ ap started (stop _ _ _ (sym (c .before .before .is-bad-start .ensures) ∙ c .before .if1 .taken)),
   λ e. absurd (not-accepted Refusal.BadStart e),
 )
@@ -29,8 +29,8 @@ returns-2 : tie.Need-returns-2
 unfolding startMeans
 returns-2 c =
     let good = sym (c .before .before .is-bad-start .ensures) ∙ c .before .if1 .left in (
-      ap (λ (s : Station). record { answer = Answer.Accepted; station = s }) (c .fresh2 .ensures) ∙ ap started (past _ _ _ good (done _)),
-      λ e. subst Valid (sym (c .fresh2 .ensures)) (valid-fresh _ _ _ _ good),
+      ap (λ (s : Station). record { answer = Answer.Accepted; station = s }) (c .fresh .ensures) ∙ ap started (past _ _ _ good (done _)),
+      λ e. subst Valid (sym (c .fresh .ensures)) (valid-fresh _ _ _ _ good),
     )
 
 pub start-spec : {M : Type 1} → statement M

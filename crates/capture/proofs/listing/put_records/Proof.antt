@@ -1,0 +1,193 @@
+-- `put_records` meets its contract: the lines so far, with the records from here on, are the lines of the block.
+-- Assumes nothing.
+use mathlib.Core.Bool.{Bool}
+use mathlib.Core.List.{List}
+use mathlib.Core.Path.{_≡_, sym, ap, _∙_, subst}
+use Prim.Native.Nat.{ℕ, _+_, _-_, _≤_}
+use native.Mathlib.Omega.{arith}
+use borrow.Author.Needs.{needs}
+use denote.Ref.{now}
+use lib.ListN.{length, take, drop}
+use Rattle.record.specs.Entries.{entryTold, entryMeans}
+use Rattle.record.specs.Found.{follow, Within}
+use Rattle.record.specs.Records.{recordsIn}
+use Rattle.record.specs.declared.Found.{Found}
+use Rattle.capture.specs.Following.{lineFor, entryMalformed}
+use Rattle.capture.specs.Lists.{noted, recorded, isMalformed}
+use Rattle.capture.proofs.Recording.{Inv, Written, same-malformed, begins, same-size, size-after, at-end, last-line, cut-line, bad-line, next-line}
+use Rattle.capture.proofs.listing.put_records.Statement.{statement}
+use Rattle.capture.proofs.listing.put_records.Tie as tie
+
+abbrev Inv-loop : tie.InvT-loop
+Inv-loop used out₀ next₀ count₀ at₀ out next count at =
+    Inv used next₀ out₀ out next count at × (length used ≤ 508) × (10944 ≤ length out₀) × (next₀ .lines ≤ 4611686018427387000)
+
+abbrev μ-loop : tie.MeasureT-loop
+μ-loop used out₀ next₀ count₀ at₀ out next count at = length used - at
+
+loop-holds : tie.Need-loop-holds Inv-loop μ-loop
+loop-holds c = let p = c .before .before .pre in (begins _ _ _ (p .1 .0) (p .0), p .1 .0, p .1 .1, p .1 .2)
+
+-- ---- nothing is left
+
+same-length : tie.Need-same-length Inv-loop μ-loop
+same-length c = let l = c .before .before .before .loop in same-size (l .inv .2) (l .inv .0)
+
+returns : tie.Need-returns Inv-loop μ-loop
+returns c =
+    let l = c .before .before .before .loop in
+    at-end (l .inv .2) (l .inv .0) (c .before .before .record-at .ensures .0 ∙ ap (follow _) (c .enum-told .given .1))
+
+-- ---- a record that is cut
+
+put-line-requires : tie.Need-put-line-requires Inv-loop μ-loop
+put-line-requires c κs =
+    let l = c .before .before .before .before .before .loop in
+    let i = l .inv .0 in (
+      omega (arith, i .room, same-size (l .inv .2) i, l .inv .2),
+      omega (arith, i .few, i .inside, l .inv .1, l .inv .3, c .before .malformed .ensures .1 .same-lines),
+    )
+
+put-cut : (c : tie.After-put-line Inv-loop μ-loop)
+    → let l = c .before .before .before .before .before .before .loop in
+    Written (l .next) (c .before .before .malformed .result) (l .count) (l .out) (c .put-line .result) (c .put-line .last .1 .0)
+put-cut c =
+    let m = c .before .before .malformed in
+    let p = c .put-line in
+    record { follows = m .ensures .1; after = p .ensures .0; place = p .ensures .1 .0 .0; short = p .ensures .1 .0 .1; leaves = p .ensures .1 .1 }
+
+same-length-2 : tie.Need-same-length-2 Inv-loop μ-loop
+same-length-2 c =
+    let p = c .before .before in
+    let l = p .before .before .before .before .before .before .loop in
+    size-after (l .inv .2) (l .inv .0) _ (p .put-line .result) _ (put-cut p)
+
+returns-2 : tie.Need-returns-2 Inv-loop μ-loop
+returns-2 c =
+    let p = c .before .before in
+    let l = p .before .before .before .before .before .before .loop in
+    let m = p .before .before .malformed in
+    last-line (l .inv .2) (l .inv .0) (m .result) (p .put-line .result) _ (put-cut p)
+    (cut-line (l .inv .2) (l .inv .0) (m .result) (m .ensures .0) (c .before .before .before .before .before .before .before .record-at .ensures .0 ∙ ap (follow _) (c .before .before .before .before .before .enum-told2 .given .1)))
+
+-- ---- a whole record
+
+abbrev usedIn : tie.After-known-told Inv-loop μ-loop → List ℕ
+usedIn c = now (c .before .before .before .before .before .before .before .args .used)
+
+abbrev placeIn : tie.After-known-told Inv-loop μ-loop → ℕ
+placeIn c = c .before .before .before .before .loop .at
+
+abbrev found : tie.After-known-told Inv-loop μ-loop → Found
+found c = let e = c .before .kind .given .0 in Found.Whole (e .0) (e .1 .0) (e .1 .1 .0)
+
+abbrev contentsIn : tie.After-known-told Inv-loop μ-loop → List ℕ
+contentsIn c = let e = c .before .kind .given .0 in take (e .1 .1 .0 - e .1 .0) (drop (e .1 .0) (usedIn c))
+
+-- it lies in the used part, past the place
+inside : (c : tie.After-known-told Inv-loop μ-loop) → Within (placeIn c) (length (usedIn c)) (found c)
+inside c = subst (Within (placeIn c) (length (usedIn c))) (c .before .kind .given .1) (c .before .before .before .record-at .ensures .1)
+
+-- it stands first in what is left, and the next one behind it
+goes-on : (c : tie.After-known-told Inv-loop μ-loop) → recordsIn (drop (placeIn c) (usedIn c)) ≡ follow (usedIn c) (found c)
+goes-on c = c .before .before .before .record-at .ensures .0 ∙ ap (follow (usedIn c)) (c .before .kind .given .1)
+
+sub-contents : tie.Need-sub-contents Inv-loop μ-loop
+sub-contents c = let w = inside c in omega (arith, w)
+
+part-contents-start : tie.Need-part-contents-start Inv-loop μ-loop
+part-contents-start c = let w = inside c in omega (arith, w)
+
+part-contents-end : tie.Need-part-contents-end Inv-loop μ-loop
+part-contents-end c = let w = inside c in omega (arith, w)
+
+note-requires : tie.Need-note-requires Inv-loop μ-loop
+note-requires c κs = c .before .before .before .before .before .before .loop .inv .0 .sound
+
+put-line-requires-2 : tie.Need-put-line-requires-2 Inv-loop μ-loop
+put-line-requires-2 c κs =
+    let l = c .before .before .before .before .before .before .before .before .loop in
+    let i = l .inv .0 in (
+      omega (arith, i .room, same-size (l .inv .2) i, l .inv .2),
+      omega (arith, i .few, i .inside, l .inv .1, l .inv .3, c .before .note .ensures .1 .same-lines),
+    )
+
+-- what its line says
+says : (c : tie.After-note Inv-loop μ-loop)
+    → let k = c .before .before .before in
+    lineFor (c .note .result) ≡ noted (k .before .before .before .before .loop .next) (entryMeans (k .before .kind .given .0 .0) (contentsIn k))
+says c = let k = c .before .before .before in c .note .ensures .0 ∙ ap (noted (k .before .before .before .before .loop .next)) (c .before .entry-of .ensures)
+
+bad : (c : tie.After-entry-of Inv-loop μ-loop) (b : Bool)
+    → let k = c .before .before in
+    entryMalformed (c .entry-of .result) ≡ b → isMalformed (entryMeans (k .before .kind .given .0 .0) (contentsIn k)) ≡ b
+bad c b e = let k = c .before .before in sym (ap isMalformed (c .entry-of .ensures)) ∙ same-malformed (contentsIn k) (c .entry-of .result) ∙ e
+
+put-so : (c : tie.After-put-line2 Inv-loop μ-loop)
+    → let l = c .before .before .before .before .before .before .before .before .before .loop in
+    Written (l .next) (c .before .before .note .result) (l .count) (l .out) (c .put-line2 .result) (c .put-line2 .last .1 .0)
+put-so c =
+    let n = c .before .before .note in
+    let p = c .put-line2 in
+    record { follows = n .ensures .1; after = p .ensures .0; place = p .ensures .1 .0 .0; short = p .ensures .1 .0 .1; leaves = p .ensures .1 .1 }
+
+same-length-3 : tie.Need-same-length-3 Inv-loop μ-loop
+same-length-3 c =
+    let p = c .before .before .before .before in
+    let l = p .before .before .before .before .before .before .before .before .before .loop in
+    size-after (l .inv .2) (l .inv .0) _ (p .put-line2 .result) _ (put-so p)
+
+returns-3 : tie.Need-returns-3 Inv-loop μ-loop
+returns-3 c =
+    let p = c .before .before .before .before in
+    let n = p .before .before in
+    let k = n .before .before .before in
+    let l = k .before .before .before .before .loop in
+    last-line (l .inv .2) (l .inv .0) (n .note .result) (p .put-line2 .result) _ (put-so p)
+    (bad-line (l .inv .2) (l .inv .0) (n .note .result) (p .put-line2 .result) _ (put-so p) _ (contentsIn k) (k .before .kind .given .0 .1 .1 .0) (goes-on k) (omega (arith, inside k)) (omega (arith, inside k)) (says n)
+    (bad (n .before) _ (sym (c .before .is-malformed .ensures) ∙ c .if1 .taken)))
+
+loop-less : tie.Need-loop-less Inv-loop μ-loop
+loop-less c = let k = c .before .before .before .before .before .before .before .before .before .before in let w = inside k in omega (arith, w)
+
+loop-again : tie.Need-loop-again Inv-loop μ-loop
+loop-again c =
+    let p = c .before .before .before .before .before in
+    let n = p .before .before in
+    let k = n .before .before .before in
+    let l = k .before .before .before .before .loop in (
+      next-line (l .inv .2) (l .inv .0) (n .note .result) (p .put-line2 .result) _ (put-so p) _ (contentsIn k) (k .before .kind .given .0 .1 .1 .0) (goes-on k) (omega (arith, inside k)) (omega (arith, inside k)) (says n)
+          (bad (n .before) _ (sym (c .before .before .is-malformed .ensures) ∙ c .before .if1 .left)),
+      l .inv .1,
+      l .inv .2,
+      l .inv .3,
+    )
+
+pub put-records-spec : {M : Type 1} → statement M
+put-records-spec =
+    tie.close
+    (tie.spec
+    Inv-loop
+    μ-loop
+    loop-holds
+    (λ c κs. search needs)
+    (λ c. search needs)
+    same-length
+    returns
+    (λ c. search needs)
+    (λ c κs. search needs)
+    put-line-requires
+    same-length-2
+    returns-2
+    (λ c. search needs)
+    sub-contents
+    part-contents-start
+    part-contents-end
+    (λ c κs. search needs)
+    note-requires
+    put-line-requires-2
+    (λ c κs. search needs)
+    same-length-3
+    returns-3
+    loop-less
+    loop-again)

@@ -1,0 +1,41 @@
+-- `ask` meets its contract: no station, or the one that is followed.
+-- Assumes nothing.
+use mathlib.Core.Path.{_≡_, ap, _∙_}
+use Prim.Native.Nat.{ℕ}
+use borrow.Author.Needs.{needs}
+use borrow.Author.Tests.{not-true, not-false}
+use Rattle.station.specs.Asking.{permissionNumber}
+use Rattle.station.specs.declared.asking.Permission.{Permission}
+use Rattle.text.specs.declared.words.Word.{Word}
+use Rattle.capture.specs.Lists.{line}
+use Rattle.capture.proofs.Answering.{no-ask, an-ask}
+use Rattle.capture.proofs.Sounding.{sound-same}
+use Rattle.capture.proofs.noting.ask.Statement.{statement}
+use Rattle.capture.proofs.noting.ask.Tie as tie
+
+returns : tie.Need-returns
+returns c =
+    let a = c .before .before .before .args in
+    (c .unstarted .ensures .0 ∙ no-ask (a .lister) (not-true (a .lister .active) (c .before .if1 .taken)) (a .units), c .unstarted .ensures .1)
+
+ask-requires : tie.Need-ask-requires
+ask-requires c κs = c .before .before .before .pre .followed (not-false (c .before .before .before .args .lister .active) (c .before .if1 .left))
+
+returns-2 : tie.Need-returns-2
+returns-2 c =
+    let k = c .before in
+    let a = k .before .before .before .before .args in (
+      ap (λ (n : ℕ). line (a .lister) Word.Ask n) (c .number .ensures ∙ ap permissionNumber (k .ask .ensures))
+          ∙ an-ask (a .lister) (not-false (a .lister .active) (k .before .before .if1 .left)) (a .units),
+      sound-same (a .lister) (k .before .before .before .before .pre),
+    )
+
+pub ask-spec : {M : Type 1} → statement M
+ask-spec =
+    tie.close
+    (tie.spec
+    (λ c κs. search needs)
+    returns
+    ask-requires
+    (λ c κs. search needs)
+    returns-2)

@@ -1,0 +1,3 @@
+pub mod Following
+pub mod Listers
+pub mod Lists

@@ -1,0 +1,110 @@
+-- The evening list of a file (01, "Capture blocks and the evening list").
+use mathlib.Core.Bool.{Bool, true, false}
+use mathlib.Core.List.{List, [], _∷_, _++_}
+use Prim.Native.Nat.{ℕ, zero, suc, _+_}
+use lib.ListN.{take}
+use Rattle.answer.specs.Checks.{Outcome, refused, accepted, pick}
+use Rattle.answer.specs.Numbers.{numberOf, answerNumber}
+use Rattle.answer.specs.declared.Refusal.{Refusal}
+use Rattle.block.specs.Blocks.{usedPart, blockMeans}
+use Rattle.block.specs.declared.Block.{Block}
+use Rattle.record.specs.Entries.{Noted, malformed, starting, advancing, hearing, asking, entryMeans}
+use Rattle.record.specs.Records.{Records, end, cut, more, recordsIn}
+use Rattle.record.specs.declared.entry.Settings.{Settings}
+use Rattle.station.specs.Asking.{permissionNumber, permissionOf}
+use Rattle.station.specs.Clock.{advanceOf}
+use Rattle.station.specs.Starting.{startMeans}
+use Rattle.station.specs.Taking.{takeOf}
+use Rattle.station.specs.declared.Station.{Station}
+use Rattle.station.specs.declared.clock.Stepped.{Stepped}
+use Rattle.text.specs.Lines.{lineOf, closingOf}
+use Rattle.text.specs.declared.words.Word.{Word}
+use Rattle.capture.specs.Listers.{fresh, without, following, oneLineMore, oneBlockMore}
+use Rattle.capture.specs.declared.lister.Lister.{Lister}
+
+-- the lister after something was told, and the text that this made
+pub record Told : Type 0 where
+  pub lister : Lister
+  pub text : List ℕ
+
+abbrev pub nothing : Lister → Told
+nothing l = record { lister = l; text = [] }
+
+-- "number from 1 over the file, word, answer number"
+abbrev pub line : Lister → Word → ℕ → Told
+line l word answer = record { lister = oneLineMore l; text = lineOf (l .lines + 1) word answer }
+
+abbrev pub before : List ℕ → Told → Told
+before text t = record { lister = t .lister; text = text ++ t .text }
+
+-- ---- a record
+
+abbrev pub started : Lister → Outcome Station → Told
+started l (refused r) = line (without l) Word.Start (numberOf r)
+started l (accepted s) = line (following l s) Word.Start 0
+
+abbrev pub stepped : Lister → Word → Stepped → Told
+stepped l word x = line (following l (x .station)) word (answerNumber (x .answer))
+
+-- a record with no station started is 19
+abbrev pub noStation : Lister → Word → Told
+noStation l word = line l word (numberOf Refusal.NoStation)
+
+-- a malformed one is 20, and there is no station after it
+abbrev pub badRecord : Lister → Told
+badRecord l = line (without l) Word.Record (numberOf Refusal.RecordMalformed)
+
+unfoldable pub noted : Lister → Noted → Told
+noted l malformed = badRecord l
+noted l (starting s) = started l (startMeans (s .own) (s .ap) (s .interval) (s .channel))
+noted l (advancing n) = pick (l .active) (stepped l Word.Advance (advanceOf (l .station) n)) (noStation l Word.Advance)
+noted l (hearing f) = pick (l .active) (stepped l Word.Frame (takeOf (l .station) f)) (noStation l Word.Frame)
+noted l (asking n) = pick (l .active) (line l Word.Ask (permissionNumber (permissionOf (l .station) n))) (noStation l Word.Ask)
+
+-- ---- a block
+
+abbrev pub isMalformed : Noted → Bool
+isMalformed malformed = true
+isMalformed (starting s) = false
+isMalformed (advancing n) = false
+isMalformed (hearing f) = false
+isMalformed (asking n) = false
+
+-- the records one after the other; a malformed one drops the rest of the block
+unfoldable pub recorded : Records → Lister → Told
+recorded end l = nothing l
+recorded cut l = badRecord l
+recorded (more kind c rs) l =
+    pick (isMalformed (entryMeans kind c)) (badRecord l)
+    (before (noted l (entryMeans kind c) .text) (recorded rs (noted l (entryMeans kind c) .lister)))
+
+-- a damaged block is 17, and there is no station after it
+abbrev pub judged : Block → List ℕ → Lister → Told
+judged Block.Damaged b l = line (without (oneBlockMore l 1)) Word.Block (numberOf Refusal.BlockDamaged)
+judged (Block.Used n) b l = recorded (recordsIn (usedPart b)) (oneBlockMore l 0)
+
+unfoldable pub blockTold : List ℕ → Lister → Told
+blockTold b l = judged (blockMeans b) b l
+
+-- ---- a file
+
+-- the blocks behind the first `skip` octets, which belong to the block before: 512 octets each, the last one shorter where the file ends
+unfoldable pub blocksBehind : ℕ → List ℕ → List (List ℕ)
+blocksBehind zero [] = []
+blocksBehind zero (o ∷ os) = take 512 (o ∷ os) ∷ blocksBehind 511 os
+blocksBehind (suc skip) [] = []
+blocksBehind (suc skip) (o ∷ os) = blocksBehind skip os
+
+unfoldable pub blocksIn : List ℕ → List (List ℕ)
+blocksIn file = blocksBehind 0 file
+
+unfoldable pub blocksTold : List (List ℕ) → Lister → Told
+blocksTold [] l = nothing l
+blocksTold (b ∷ bs) l = before (blockTold b l .text) (blocksTold bs (blockTold b l .lister))
+
+-- "The last line is blocks, how many in all, damaged, how many were."
+abbrev pub closed : Told → List ℕ
+closed t = t .text ++ closingOf (t .lister .blocks) (t .lister .damaged)
+
+unfoldable pub listOf : List ℕ → List ℕ
+listOf file = closed (blocksTold (blocksIn file) fresh)

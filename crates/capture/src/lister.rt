@@ -1,0 +1,59 @@
+// What the lister keeps from block to block.
+ghost use mathlib.Core.Path.{_≡_};
+ghost use Rattle.capture.specs.Listers.{fresh, without, following, oneLineMore, oneBlockMore, Fits};
+use station::Station;
+
+pub struct Lister {
+    // Lines so far, blocks, and damaged blocks among them.
+    pub lines: u64,
+    pub blocks: u64,
+    pub damaged: u64,
+    // Whether a station is followed; where none is, `station` is one fixed station that no call may be handed.
+    pub active: bool,
+    pub station: Station,
+}
+
+impl Lister {
+    // How many blocks may be listed: no file has so many.
+    pub const BLOCK_LIMIT: u64 = 1099511627776;
+
+    // The room that the lines of a block always find: 171 lines of at most 64 octets.
+    pub const ROOM: usize = 10944;
+
+    // A lister that has seen nothing.
+    pub fn fresh() -> Lister
+        ensures { λ r. ⌜ r ≡ fresh ⌝ }
+        ensures { λ r. ⌜ Fits r ⌝ }
+    {
+        Lister {
+            lines: 0,
+            blocks: 0,
+            damaged: 0,
+            active: false,
+            station: Station::nobody(),
+        }
+    }
+}
+
+// The lister with no station until the next start.
+pub fn without(lister: Lister) -> Lister
+    ensures { λ r. ⌜ r ≡ without lister ⌝ }
+{
+    let station = Station::nobody();
+    Lister {
+        active: false,
+        station,
+        ..lister
+    }
+}
+
+// The lister that follows a station.
+pub fn following(lister: Lister, station: Station) -> Lister
+    ensures { λ r. ⌜ r ≡ following lister station ⌝ }
+{
+    Lister {
+        active: true,
+        station,
+        ..lister
+    }
+}

@@ -1,0 +1,77 @@
+// The lines of a block, put into a lent buffer (document 01, "Capture blocks and the evening list").
+ghost use mathlib.Core.Path.{_≡_};
+ghost use mathlib.Core.Bool.{true};
+ghost use Prim.Native.Nat.{_+_, _≤_};
+ghost use lib.ListN.{length};
+ghost use Rattle.measurement.proofs.OneCall.{filled};
+ghost use Rattle.octets.specs.Writing.{left};
+ghost use Rattle.record.specs.Records.{recordsIn};
+ghost use Rattle.capture.specs.Following.{Sound, lineFor, Listed};
+ghost use Rattle.capture.specs.Listers.{oneLineMore};
+ghost use Rattle.capture.specs.Lists.{recorded};
+use crate::Lister;
+use crate::noting;
+use crate::noting::Answered;
+use record::Found;
+use text::Text;
+
+// The lister, and how many octets of the buffer are lines by now.
+pub struct Put {
+    pub lister: Lister,
+    pub count: usize,
+}
+
+// The line that tells a record's answer, behind the lines before it.
+pub fn put_line(answered: Answered, out: &mut [u8], count: usize) -> Put
+    requires { ⌜ (count + 64 ≤ length (now out)) × (answered .lister .lines ≤ 4611686018427387904) ⌝ }
+    ensures { λ r. ⌜ r .lister ≡ oneLineMore (answered .lister) ⌝ }
+    ensures { λ r. ⌜ (r .count ≡ count + length (lineFor answered .text)) × (r .count ≤ count + 64) ⌝ }
+    ensures { λ _. ⌜ now (out .exit) ≡ left true (lineFor answered .text) count (now (out .entry)) ⌝ }
+{
+    let before = answered.lister;
+    let word = answered.word;
+    let lines = before.lines + 1;
+    let line = text::line(lines, word, answered.answer);
+    let bytes = line.bytes;
+    let from = line.from;
+    octets::put(true, &bytes[from..], out, count);
+    let lister = Lister { lines, ..before };
+    let count = count + (Text::ROOM - from);
+    Put { lister, count }
+}
+
+// The lines of the records in the used part of a block.
+pub fn put_records(lister: Lister, used: &[u8], out: &mut [u8]) -> Put
+    requires { ⌜ Sound lister ⌝ }
+    requires { ⌜ (length (now used) ≤ 508) × (10944 ≤ length (now out)) × (lister .lines ≤ 4611686018427387000) ⌝ }
+    ensures { λ r. ⌜ Listed lister (recorded (recordsIn (now (used .entry))) lister) (r .lister) (r .count) ⌝ }
+    ensures { λ _. ⌜ now (out .exit) ≡ filled (recorded (recordsIn (now (used .entry))) lister .text) (now (out .entry)) ⌝ }
+{
+    let mut next = lister;
+    let mut count = 0;
+    let mut at = 0;
+    loop {
+        match record::record_at(used, at) {
+            Found::End => {
+                return Put {
+                    lister: next,
+                    count,
+                };
+            }
+            Found::Cut => {
+                return put_line(noting::malformed(next), out, count);
+            }
+            Found::Whole { kind, start, end } => {
+                let contents = &used[start..end];
+                let entry = record::entry_of(kind, contents);
+                let put = put_line(noting::note(next, entry, contents), out, count);
+                if noting::is_malformed(entry) {
+                    return put;
+                }
+                next = put.lister;
+                count = put.count;
+                at = end;
+            }
+        }
+    }
+}
