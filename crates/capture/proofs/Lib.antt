@@ -1,3 +1,4 @@
 pub mod Answering
+pub mod Fitting
 pub mod Recording
 pub mod Sounding

@@ -1,3 +1,4 @@
+pub mod Feeding
 pub mod Following
 pub mod Listers
 pub mod Lists

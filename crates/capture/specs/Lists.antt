@@ -79,8 +79,11 @@ recorded (more kind c rs) l =
     (before (noted l (entryMeans kind c) .text) (recorded rs (noted l (entryMeans kind c) .lister)))
 
 -- a damaged block is 17, and there is no station after it
+abbrev pub damagedTold : Lister → Told
+damagedTold l = line (without (oneBlockMore l 1)) Word.Block (numberOf Refusal.BlockDamaged)
+
 abbrev pub judged : Block → List ℕ → Lister → Told
-judged Block.Damaged b l = line (without (oneBlockMore l 1)) Word.Block (numberOf Refusal.BlockDamaged)
+judged Block.Damaged b l = damagedTold l
 judged (Block.Used n) b l = recorded (recordsIn (usedPart b)) (oneBlockMore l 0)
 
 unfoldable pub blockTold : List ℕ → Lister → Told

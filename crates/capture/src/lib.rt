@@ -1,6 +1,9 @@
 // The capture and its list (document 01, "Capture blocks and the evening list").
+mod feeding;
 mod lister;
 mod listing;
 mod noting;
 
+pub use feeding::Feed;
+pub use feeding::Listing;
 pub use lister::Lister;

@@ -1,0 +1,97 @@
+-- What a block leaves of the lister. Assumes nothing.
+use mathlib.Core.Bool.{Bool, true, false}
+use mathlib.Core.List.{List, []}
+use mathlib.Core.Path.{_≡_, refl, sym, ap, _∙_, subst}
+use Prim.Native.Nat.{ℕ, _+_, _*_, _-_, _<_, _≤_}
+use native.Mathlib.Omega.{arith}
+use borrow.Author.Tests.{lt-ltb, le-ltb, le-leb, lt-leb}
+use lib.Dec.{ltb, leb}
+use lib.ListN.{length, take, drop, length-drop}
+use lib.Seq.{take-all}
+use Rattle.answer.proofs.Booleans.{clash}
+use Rattle.block.proofs.Judging.{used-within}
+use Rattle.block.specs.Blocks.{usedPart, usedLength, blockMeans}
+use Rattle.block.specs.declared.Block.{Block}
+use Rattle.measurement.proofs.OneCall.{filled}
+use Rattle.measurement.proofs.OneCall as OneCall
+use Rattle.octets.specs.Writing.{left}
+use Rattle.record.specs.Records.{recordsIn}
+use Rattle.capture.specs.Feeding.{linesOf, Fed, fedBy, leftBy}
+use Rattle.capture.specs.Following.{Sound, Listed}
+use Rattle.capture.specs.Listers.{blockLimit, oneBlockMore, Fits}
+use Rattle.capture.specs.Lists.{Told, damagedTold, judged, recorded, blockTold}
+use Rattle.capture.specs.declared.feeding.Feed.{Feed}
+use Rattle.capture.specs.declared.feeding.Listing.{Listing}
+use Rattle.capture.specs.declared.lister.Lister.{Lister}
+use Rattle.capture.specs.declared.listing.Put.{Put}
+
+module _ (l : Lister) (f : Fits l) (h : l .blocks < blockLimit) where
+  pub fits-damaged : Fits (damagedTold l .lister)
+  fits-damaged =
+      record {
+        followed = λ e. clash (sym e);
+        idle = λ e. refl;
+        few-blocks = omega arith;
+        few-lines = omega (arith, f .few-lines);
+        few-damaged = omega (arith, f .few-damaged);
+      }
+
+  -- the lister before the records of a block
+  pub sound-counted : Sound (oneBlockMore l 0)
+  sound-counted = record { followed = f .followed; idle = f .idle }
+
+  pub fits-listed : (t : Told) (next : Lister) (count : ℕ) → Listed (oneBlockMore l 0) t next count → Fits next
+  fits-listed t next count w =
+      record {
+        followed = w .sound .followed;
+        idle = w .sound .idle;
+        few-blocks = omega (arith, w .same-blocks);
+        few-lines = omega (arith, w .same-blocks, w .few-lines, f .few-lines);
+        few-damaged = omega (arith, w .same-blocks, w .same-damaged, f .few-damaged);
+      }
+
+-- one line at the front
+pub first-line : (text out exit : List ℕ) → length text ≤ length out → exit ≡ left true text 0 out → exit ≡ filled text out
+first-line text out exit h e = e ∙ OneCall.leaves [] text out (omega arith)
+
+-- the used part of a block
+pub used-part : (b : List ℕ) (n : ℕ) → blockMeans b ≡ Block.Used n → take n (take (length b - 2) (drop 2 b)) ≡ usedPart b
+used-part b n e =
+    ap (take n) (take-all (length b - 2) (drop 2 b) (omega (arith, length-drop 2 b)))
+    ∙ ap (λ (k : ℕ). take k (drop 2 b)) (used-within b n e .1)
+
+-- what a block tells, by how it was judged
+pub told-as : (l : Lister) (b : List ℕ) (j : Block) → blockMeans b ≡ j → judged j b l ≡ blockTold b l
+unfolding blockTold
+told-as l b j e = ap (λ (k : Block). judged k b l) (sym e)
+
+-- ---- feeding
+
+module _ (l : Lister) (b out : List ℕ) where
+  module _ (h : length out < 10944) where
+    pub fed-no-room : record { feed = Feed.NoRoom; lister = l } ≡ fedBy l b (length out)
+    unfolding fedBy
+    fed-no-room = rw (lt-ltb (length out) 10944 h)
+
+    pub left-no-room : out ≡ leftBy l b out
+    unfolding leftBy
+    left-no-room = rw (lt-ltb (length out) 10944 h)
+
+  module _ (h : 10944 ≤ length out) where
+    module _ (k : 1099511627776 ≤ l .blocks) where
+      pub fed-full : record { feed = Feed.Full; lister = l } ≡ fedBy l b (length out)
+      unfolding fedBy
+      fed-full = rw (le-ltb (length out) 10944 h, le-leb 1099511627776 (l .blocks) k)
+
+      pub left-full : out ≡ leftBy l b out
+      unfolding leftBy
+      left-full = rw (le-ltb (length out) 10944 h, le-leb 1099511627776 (l .blocks) k)
+
+    module _ (k : l .blocks < 1099511627776) where
+      pub fed-lines : (put : Put) → Fed l (blockTold b l) put → record { feed = Feed.Lines (put .count); lister = put .lister } ≡ fedBy l b (length out)
+      unfolding fedBy
+      fed-lines put w = rw (le-ltb (length out) 10944 h, lt-leb 1099511627776 (l .blocks) k, w .same, w .many)
+
+      pub left-lines : filled (blockTold b l .text) out ≡ leftBy l b out
+      unfolding leftBy
+      left-lines = rw (le-ltb (length out) 10944 h, lt-leb 1099511627776 (l .blocks) k)
