@@ -1,0 +1,66 @@
+// The evening list of a capture: standard input to standard output (document 01, "Capture blocks and the evening list").
+// An error is told on standard error, and there is then no closing line: a cut list is never taken for a whole one.
+mod input;
+mod output;
+
+ghost use Prim.Native.Nat.{_≤_};
+ghost use lib.ListN.{length};
+ghost use Rattle.list.specs.Program.{Ready};
+use capture::Lister;
+use input::Filled;
+use libc::STDERR_FILENO;
+use output::Fate;
+use output::Progress;
+
+// Reads a buffer of octets, and lists its blocks. One that is not full is the last.
+fn turn(progress: Progress, input: &mut [u8], out: &mut [u8]) -> Progress
+    requires { ⌜ Ready progress (length (now out)) ⌝ }
+    ensures { λ r. ⌜ Ready r (length (now (out .entry))) ⌝ }
+{
+    match input::fill(input) {
+        Filled::Failed => output::with_fate(progress, Fate::ReadFailed),
+        Filled::Octets(count) => {
+            let listed = output::list_blocks(progress, &input[..count], out);
+            if count < input.len() && output::goes_on(listed) {
+                output::with_fate(listed, Fate::Whole)
+            } else {
+                listed
+            }
+        }
+    }
+}
+
+// A proved loop has to end, and nothing says that the input does: each turn but the last lists a block, of which there are not so many.
+fn list() -> Fate {
+    let mut input_space = io::large_buffer();
+    let input: &mut [u8] = &mut input_space;
+    let mut out_space = io::large_buffer();
+    let out: &mut [u8] = &mut out_space;
+    let mut progress = output::fresh();
+    let mut turns = Lister::BLOCK_LIMIT;
+    while 0 < turns && output::goes_on(progress) {
+        progress = turn(progress, input, out);
+        turns -= 1;
+    }
+    output::finish(progress, out)
+}
+
+fn tell(message: &[u8]) {
+    io::write_all(STDERR_FILENO, message);
+}
+
+fn main() {
+    match list() {
+        Fate::Whole => {}
+        Fate::ReadFailed => {
+            tell(b"list: the input could not be read to its end; the list is cut\n");
+        }
+        Fate::WriteFailed => {
+            tell(b"list: the list could not be written; it is cut\n");
+        }
+        Fate::Going => {}
+        Fate::TooLong => {
+            tell(b"list: there are more than 1099511627776 blocks; the list is cut\n");
+        }
+    }
+}
