@@ -39,9 +39,10 @@ impl Lister {
 pub fn without(lister: Lister) -> Lister
     ensures { λ r. ⌜ r ≡ without lister ⌝ }
 {
+    let active = false;
     let station = Station::nobody();
     Lister {
-        active: false,
+        active,
         station,
         ..lister
     }
