@@ -1,22 +1,26 @@
-// Runs the replies: each kind of frame asked with each reply, each type of measurement on both sides of each limit, and faults that meet.
-// Every line ends with whether the buffer is as it was behind the reply, or whole where there is none.
-mod ask;
-mod asked;
-mod both;
-mod found;
-mod frames;
-mod measure;
-mod rooms;
+// Runs the replies on the scenes of standard input. A scene is a line: words, a colon, the numbers of a call, a bar, and the octets of a frame.
+// Its answer is a line too: the words, the colon, the answer's number, of a reply its length and its octets, and whether the buffer is as it was
+// behind the reply, or whole where there is none. The numbers, which letters among them only name, are
+//
+//   0 for a TPC Report: room of the buffer, zeros behind the frame's octets, power, margin (both as octets)
+//   1 for a Measurement Report: room, zeros, clock, index, what is found (0 refused, 1 a map, 2 a busy time, 3 times), the map or the busy time,
+//     eight times
+//
+// and those left out are 0. A scene more needs no proof.
+mod call;
 mod say;
-mod several;
+mod scene;
 mod show;
-mod tpc;
+
+use libc::STDIN_FILENO;
 
 fn main() {
-    tpc::run();
-    both::run();
-    asked::run();
-    found::run();
-    rooms::run();
-    several::run();
+    let mut text = io::large_buffer();
+    let count = io::read_full(STDIN_FILENO, &mut text);
+    let mut scene = scene::blank();
+    let mut i = 0;
+    while i < count {
+        scene = scene.take(text[i]);
+        i += 1;
+    }
 }

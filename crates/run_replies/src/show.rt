@@ -27,7 +27,6 @@ fn octets(buffer: &[u8; 64], count: usize) {
 
 // The answer's number; of a reply its length and its octets.
 pub fn answer(wrote: Wrote, buffer: &[u8; 64]) {
-    say::text(b":");
     match wrote {
         Wrote::Refused(refusal) => {
             say::octet(refusal.number());
