@@ -1,6 +1,7 @@
 pub mod Exchanged
 pub mod Histories
 pub mod Moments
+pub mod Numbered
 pub mod OpenUnits
 pub mod Outcomes
 pub mod Records
