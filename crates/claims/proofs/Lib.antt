@@ -5,6 +5,7 @@ pub mod CountingTbtts
 pub mod CoveredUnits
 pub mod Demand3
 pub mod Elements
+pub mod FedFilesListed
 pub mod ListedFiles
 pub mod MomentsHold
 pub mod Numbers

@@ -1,4 +1,5 @@
 pub mod Exchanged
+pub mod FedFiles
 pub mod Histories
 pub mod Moments
 pub mod Numbered
