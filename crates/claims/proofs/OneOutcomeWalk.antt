@@ -13,7 +13,7 @@ use Rattle.walk.specs.declared.Found.{Found}
 use Rattle.claims.specs.Outcomes.{OneResult}
 
 -- contents that lie in the run are as long as the places say
-long : (run : List ℕ) (start stop : ℕ) → start ≤ stop → stop ≤ length run → length (take (stop - start) (drop start run)) ≡ stop - start
+pub long : (run : List ℕ) (start stop : ℕ) → start ≤ stop → stop ≤ length run → length (take (stop - start) (drop start run)) ≡ stop - start
 long run start stop a b = length-take-le (stop - start) (drop start run) (simp length-drop (omega arith))
 
 whole : (run : List ℕ) (id id' start start' stop stop' : ℕ) → id ≡ id' → start ≡ start' → stop ≡ stop' → Found.Whole id start stop ≡ Found.Whole id' start' stop'

@@ -11,9 +11,8 @@ use Rattle.octets.specs.declared.writing.Wrote.{Wrote}
 pub once : {A : Type 0} {x y z : A} → x ≡ z → y ≡ z → x ≡ y
 once p q = p ∙ sym q
 
--- a promise that names the outcome, where each case of the answer stands for one and can be had back from it
-pub told-once : {X A : Type 0} (tells : X → Outcome A) (back : Outcome A → X) → ((x : X) → back (tells x) ≡ x)
-    → {x y : X} {o : Outcome A} → tells x ≡ o → tells y ≡ o → x ≡ y
+-- a promise that names what each case of the answer stands for, where the answer can be had back from that
+pub told-once : {X A : Type 0} (tells : X → A) (back : A → X) → ((x : X) → back (tells x) ≡ x) → {x y : X} {o : A} → tells x ≡ o → tells y ≡ o → x ≡ y
 told-once tells back undone {x} {y} p q = sym (undone x) ∙ ap back (p ∙ sym q) ∙ undone y
 
 pub answer : Outcome ℕ → Wrote
