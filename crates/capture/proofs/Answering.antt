@@ -1,7 +1,7 @@
 -- What the list says of a record, with a station and without one. Assumes nothing.
 use mathlib.Core.Bool.{Bool, true, false}
 use mathlib.Core.List.{List}
-use mathlib.Core.Path.{_≡_, refl, sym, ap}
+use mathlib.Core.Path.{_≡_, sym, ap}
 use Prim.Native.Nat.{ℕ}
 use Rattle.answer.specs.Checks.{pick}
 use Rattle.record.specs.Entries.{advancing, hearing, asking}
@@ -9,7 +9,7 @@ use Rattle.station.specs.Asking.{permissionNumber, permissionOf}
 use Rattle.station.specs.Clock.{advanceOf}
 use Rattle.station.specs.Taking.{takeOf}
 use Rattle.text.specs.declared.words.Word.{Word}
-use Rattle.capture.specs.Lists.{Told, line, stepped, noStation, noted}
+use Rattle.capture.specs.Lists.{line, stepped, noStation, noted}
 use Rattle.capture.specs.declared.lister.Lister.{Lister}
 
 yes : {A : Type 0} (b : Bool) (x y : A) → b ≡ true → x ≡ pick b x y

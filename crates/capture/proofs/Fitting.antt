@@ -1,27 +1,24 @@
 -- What a block leaves of the lister. Assumes nothing.
-use mathlib.Core.Bool.{Bool, true, false}
+use mathlib.Core.Bool.{true}
 use mathlib.Core.List.{List, []}
-use mathlib.Core.Path.{_≡_, refl, sym, ap, _∙_, subst}
-use Prim.Native.Nat.{ℕ, _+_, _*_, _-_, _<_, _≤_}
+use mathlib.Core.Path.{_≡_, refl, sym, ap, _∙_}
+use Prim.Native.Nat.{ℕ, _-_, _<_, _≤_}
 use native.Mathlib.Omega.{arith}
 use borrow.Author.Tests.{lt-ltb, le-ltb, le-leb, lt-leb}
-use lib.Dec.{ltb, leb}
 use lib.ListN.{length, take, drop, length-drop}
 use lib.Seq.{take-all}
 use Rattle.answer.proofs.Booleans.{clash}
 use Rattle.block.proofs.Judging.{used-within}
-use Rattle.block.specs.Blocks.{usedPart, usedLength, blockMeans}
+use Rattle.block.specs.Blocks.{usedPart, blockMeans}
 use Rattle.block.specs.declared.Block.{Block}
 use Rattle.measurement.proofs.OneCall.{filled}
 use Rattle.measurement.proofs.OneCall as OneCall
 use Rattle.octets.specs.Writing.{left}
-use Rattle.record.specs.Records.{recordsIn}
-use Rattle.capture.specs.Feeding.{linesOf, Fed, fedBy, leftBy}
+use Rattle.capture.specs.Feeding.{Fed, fedBy, leftBy}
 use Rattle.capture.specs.Following.{Sound, Listed}
 use Rattle.capture.specs.Listers.{blockLimit, oneBlockMore, Fits}
-use Rattle.capture.specs.Lists.{Told, damagedTold, judged, recorded, blockTold}
+use Rattle.capture.specs.Lists.{Told, damagedTold, judged, blockTold}
 use Rattle.capture.specs.declared.feeding.Feed.{Feed}
-use Rattle.capture.specs.declared.feeding.Listing.{Listing}
 use Rattle.capture.specs.declared.lister.Lister.{Lister}
 use Rattle.capture.specs.declared.listing.Put.{Put}
 

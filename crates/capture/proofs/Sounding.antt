@@ -1,11 +1,10 @@
 -- What a record leaves of the lister. Assumes nothing.
-use mathlib.Core.Bool.{Bool, true, false}
-use mathlib.Core.Path.{_≡_, refl, sym, ap, _∙_, subst}
+use mathlib.Core.Path.{_≡_, refl, sym, ap, _∙_}
 use Prim.Native.Nat.{ℕ}
 use native.Mathlib.Omega.{arith}
 use Rattle.answer.proofs.Booleans.{clash}
 use Rattle.answer.specs.Checks.{Outcome, refused, accepted}
-use Rattle.answer.specs.Numbers.{numberOf, answerNumber}
+use Rattle.answer.specs.Numbers.{answerNumber}
 use Rattle.answer.specs.declared.Answer.{Answer}
 use Rattle.answer.specs.declared.Refusal.{Refusal}
 use Rattle.station.specs.Validity.{Valid}

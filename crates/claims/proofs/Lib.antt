@@ -6,6 +6,7 @@ pub mod CoveredUnits
 pub mod Demand3
 pub mod Elements
 pub mod FedFilesListed
+pub mod HistoriesTell
 pub mod ListedFiles
 pub mod MomentsHold
 pub mod Numbers

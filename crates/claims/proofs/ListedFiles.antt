@@ -10,7 +10,7 @@ use Rattle.answer.specs.Checks.{Outcome, refused, accepted, pick}
 use Rattle.block.specs.Blocks.{usedLength, isDamaged, usedPart, blockMeans}
 use Rattle.block.specs.declared.Block.{Block}
 use Rattle.capture.specs.Listers.{fresh, without, following, oneBlockMore}
-use Rattle.capture.specs.Lists.{Told, nothing, line, before, started, stepped, noStation, badRecord, noted, isMalformed, recorded, damagedTold, judged, blockTold, blocksIn, blocksTold, listOf}
+use Rattle.capture.specs.Lists.{Told, nothing, line, before, started, badRecord, noted, isMalformed, recorded, damagedTold, judged, blockTold, blocksIn, blocksTold, listOf}
 use Rattle.capture.specs.declared.lister.Lister.{Lister}
 use Rattle.record.specs.Entries.{Noted, malformed, starting, advancing, hearing, asking, entryMeans}
 use Rattle.record.specs.Records.{Records, end, cut, more, recordsIn}
@@ -21,15 +21,15 @@ use Rattle.text.specs.declared.words.Word.{Word}
 use Rattle.claims.specs.Numbered.{Said, numberedFrom, recordsCounted, linesIn, linesAmong, damagedAmong, ListedAs}
 
 -- so many lines, blocks and damaged blocks were told
-record Counted (l : Lister) (t : Told) (lines blocks damaged : ℕ) : Type 0 where
-  said : List Said
-  text : t .text ≡ numberedFrom (l .lines) said
-  many : length said ≡ lines
-  line-count : t .lister .lines ≡ l .lines + lines
-  block-count : t .lister .blocks ≡ l .blocks + blocks
-  damaged-count : t .lister .damaged ≡ l .damaged + damaged
+pub record Counted (l : Lister) (t : Told) (lines blocks damaged : ℕ) : Type 0 where
+  pub said : List Said
+  pub text : t .text ≡ numberedFrom (l .lines) said
+  pub many : length said ≡ lines
+  pub line-count : t .lister .lines ≡ l .lines + lines
+  pub block-count : t .lister .blocks ≡ l .blocks + blocks
+  pub damaged-count : t .lister .damaged ≡ l .damaged + damaged
 
-numbered-append : (n : ℕ) (a b : List Said) → numberedFrom n (a ++ b) ≡ numberedFrom n a ++ numberedFrom (n + length a) b
+pub numbered-append : (n : ℕ) (a b : List Said) → numberedFrom n (a ++ b) ≡ numberedFrom n a ++ numberedFrom (n + length a) b
 unfolding numberedFrom
 numbered-append n [] b = ap (λ (k : ℕ). numberedFrom k b) (let e : n ≡ n + 0 = omega arith in e)
 numbered-append n (s ∷ a) b =
@@ -132,7 +132,7 @@ block-counted b l = by-damage (isDamaged b)
 
 -- ---- a file
 
-blocks-counted : (bs : List (List ℕ)) (l : Lister) → Counted l (blocksTold bs l) (linesAmong bs) (length bs) (damagedAmong bs)
+pub blocks-counted : (bs : List (List ℕ)) (l : Lister) → Counted l (blocksTold bs l) (linesAmong bs) (length bs) (damagedAmong bs)
 unfolding blocksTold linesAmong damagedAmong
 blocks-counted [] l = none l
 blocks-counted (b ∷ bs) l =

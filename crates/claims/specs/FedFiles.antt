@@ -7,7 +7,7 @@ use borrow.Fn.Kinds.{Dens, resT, endedOf}
 use contract.Lifetimes.{Lfts}
 use denote.Ref.{now}
 use denote.Triple.Clauses.{AtExit}
-use lib.ListN.{length, take, drop}
+use lib.ListN.{take, drop}
 use Rattle.capture.proofs.lister.Lister.feed as Feed-block
 use Rattle.capture.proofs.lister.Lister.fresh as Fresh
 use Rattle.capture.specs.declared.feeding.Feed.{Feed}

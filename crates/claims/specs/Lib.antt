@@ -1,6 +1,7 @@
 pub mod Exchanged
 pub mod FedFiles
 pub mod Histories
+pub mod HistoryLines
 pub mod Moments
 pub mod Numbered
 pub mod OpenUnits

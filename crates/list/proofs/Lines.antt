@@ -1,7 +1,7 @@
 -- The lines of a block lie within the buffer that was lent for them. Assumes nothing.
 use mathlib.Core.Bool.{Bool, true, false}
 use mathlib.Core.List.{List}
-use mathlib.Core.Path.{_≡_, sym, ap, _∙_}
+use mathlib.Core.Path.{_≡_, ap}
 use Prim.Native.Nat.{ℕ, _≤_}
 use native.Mathlib.Omega.{arith}
 use lib.Dec.{ltb, leb}
@@ -11,7 +11,6 @@ use Rattle.capture.specs.Feeding.{enoughRoom, linesOf, fedBy, leftBy}
 use Rattle.capture.specs.Listers.{blockLimit}
 use Rattle.capture.specs.Lists.{Told, blockTold}
 use Rattle.capture.specs.declared.feeding.Feed.{Feed}
-use Rattle.capture.specs.declared.feeding.Listing.{Listing}
 use Rattle.capture.specs.declared.lister.Lister.{Lister}
 use Rattle.measurement.proofs.OneCall.{filled}
 

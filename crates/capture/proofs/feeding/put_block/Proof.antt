@@ -2,22 +2,20 @@
 -- Assumes nothing.
 use mathlib.Core.List.{List}
 use mathlib.Core.Path.{_≡_, sym, ap, ap₂, _∙_, subst}
-use Prim.Native.Nat.{ℕ, _+_, _-_, _≤_}
+use Prim.Native.Nat.{ℕ, _-_, _≤_}
 use native.Mathlib.Omega.{arith}
 use borrow.Author.Needs.{needs}
 use denote.Ref.{now}
 use lib.ListN.{length, take, drop, length-take, length-drop}
 use Rattle.block.proofs.Judging.{used-within}
-use Rattle.block.specs.Blocks.{usedPart, blockMeans}
+use Rattle.block.specs.Blocks.{blockMeans}
 use Rattle.block.specs.declared.Block.{Block}
 use Rattle.measurement.proofs.OneCall.{filled}
 use Rattle.record.specs.Records.{recordsIn}
 use Rattle.capture.specs.Feeding.{Fed}
 use Rattle.capture.specs.Following.{Sound, Listed}
-use Rattle.capture.specs.Listers.{oneBlockMore, Fits}
 use Rattle.capture.specs.Lists.{Told, recorded, blockTold}
 use Rattle.capture.specs.declared.lister.Lister.{Lister}
-use Rattle.capture.specs.declared.listing.Put.{Put}
 use Rattle.capture.proofs.Fitting.{fits-listed, sound-counted, used-part, told-as}
 use Rattle.capture.proofs.feeding.put_block.Statement.{statement}
 use Rattle.capture.proofs.feeding.put_block.Tie as tie

@@ -1,9 +1,9 @@
 -- `put_line` meets its contract: the text stands at the end of its room, and is put whole.
 -- Assumes nothing.
 use mathlib.Core.Bool.{true}
-use mathlib.Core.List.{List, _++_}
-use mathlib.Core.Path.{_≡_, refl, sym, ap, _∙_, subst}
-use Prim.Native.Nat.{ℕ, _+_, _-_, _≤_}
+use mathlib.Core.List.{List}
+use mathlib.Core.Path.{_≡_, refl, ap, _∙_}
+use Prim.Native.Nat.{ℕ, _-_, _≤_}
 use native.Mathlib.Omega.{arith}
 use borrow.Author.Needs.{needs}
 use denote.Ref.{now}
@@ -11,7 +11,6 @@ use lib.ListN.{length, take, drop, replicate, length-append, length-replicate, l
 use lib.Seq.{drop-at, take-all}
 use Rattle.octets.specs.Writing.{left}
 use Rattle.text.specs.Backs.{backed}
-use Rattle.text.specs.Lines.{lineOf}
 use Rattle.text.specs.declared.back.Text.{Text}
 use Rattle.capture.specs.Following.{lineFor}
 use Rattle.capture.proofs.listing.put_line.Statement.{statement}

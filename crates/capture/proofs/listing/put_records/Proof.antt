@@ -3,17 +3,17 @@
 use mathlib.Core.Bool.{Bool}
 use mathlib.Core.List.{List}
 use mathlib.Core.Path.{_≡_, sym, ap, _∙_, subst}
-use Prim.Native.Nat.{ℕ, _+_, _-_, _≤_}
+use Prim.Native.Nat.{ℕ, _-_, _≤_}
 use native.Mathlib.Omega.{arith}
 use borrow.Author.Needs.{needs}
 use denote.Ref.{now}
 use lib.ListN.{length, take, drop}
-use Rattle.record.specs.Entries.{entryTold, entryMeans}
+use Rattle.record.specs.Entries.{entryMeans}
 use Rattle.record.specs.Found.{follow, Within}
 use Rattle.record.specs.Records.{recordsIn}
 use Rattle.record.specs.declared.Found.{Found}
 use Rattle.capture.specs.Following.{lineFor, entryMalformed}
-use Rattle.capture.specs.Lists.{noted, recorded, isMalformed}
+use Rattle.capture.specs.Lists.{noted, isMalformed}
 use Rattle.capture.proofs.Recording.{Inv, Written, same-malformed, begins, same-size, size-after, at-end, last-line, cut-line, bad-line, next-line}
 use Rattle.capture.proofs.listing.put_records.Statement.{statement}
 use Rattle.capture.proofs.listing.put_records.Tie as tie

@@ -1,11 +1,10 @@
 -- `ask` meets its contract: no station, or the one that is followed.
 -- Assumes nothing.
-use mathlib.Core.Path.{_≡_, ap, _∙_}
+use mathlib.Core.Path.{ap, _∙_}
 use Prim.Native.Nat.{ℕ}
 use borrow.Author.Needs.{needs}
 use borrow.Author.Tests.{not-true, not-false}
 use Rattle.station.specs.Asking.{permissionNumber}
-use Rattle.station.specs.declared.asking.Permission.{Permission}
 use Rattle.text.specs.declared.words.Word.{Word}
 use Rattle.capture.specs.Lists.{line}
 use Rattle.capture.proofs.Answering.{no-ask, an-ask}

@@ -1,6 +1,6 @@
 -- `malformed` meets its contract.
 -- Assumes nothing.
-use mathlib.Core.Path.{_≡_, sym, ap, ap₂, subst}
+use mathlib.Core.Path.{sym, ap₂, subst}
 use Prim.Native.Nat.{ℕ}
 use borrow.Author.Needs.{needs}
 use Rattle.text.specs.declared.words.Word.{Word}

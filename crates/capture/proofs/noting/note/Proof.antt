@@ -1,10 +1,7 @@
 -- `note` meets its contract, entry by entry.
 -- Assumes nothing.
-use mathlib.Core.Path.{_≡_, sym, ap, _∙_}
+use mathlib.Core.Path.{_∙_}
 use borrow.Author.Needs.{needs}
-use denote.Ref.{now}
-use Rattle.record.specs.Entries.{entryTold}
-use Rattle.record.specs.declared.entry.Entry.{Entry}
 use Rattle.capture.specs.Lists.{noted}
 use Rattle.capture.proofs.noting.note.Statement.{statement}
 use Rattle.capture.proofs.noting.note.Tie as tie

@@ -8,7 +8,6 @@ use Rattle.record.specs.Entries.{settingsOf}
 use Rattle.record.specs.declared.entry.Settings.{Settings}
 use Rattle.station.specs.Starting.{startMeans}
 use Rattle.station.specs.Starting as Starting
-use Rattle.station.specs.declared.starting.Started.{Started}
 use Rattle.text.specs.declared.words.Word.{Word}
 use Rattle.capture.specs.Following.{Follows}
 use Rattle.capture.specs.Lists.{line, noted}
