@@ -8,6 +8,7 @@ use Prim.Native.Nat.{ℕ}
 use lib.ListN.{length}
 use Rattle.answer.specs.Checks.{Outcome, refused, accepted, pick}
 use Rattle.answer.specs.Numbers.{numberOf}
+use Rattle.answer.specs.declared.Refusal.{Refusal}
 use Rattle.block.specs.Blocks.{isDamaged, usedPart}
 use Rattle.capture.specs.Lists.{isMalformed, blocksIn, listOf}
 use Rattle.frame.specs.Frames.{frameMeans}
@@ -31,7 +32,7 @@ pub data Followed : Type 0 where
 abbrev pub startedWith : Entry.Settings → Settings
 startedWith s = record { own = s .own; ap = s .ap; interval = s .interval; channel = s .channel }
 
--- 15
+-- a start that is refused
 abbrev pub refusesStart : Settings → Bool
 refusesStart s = startForbids (s .own) (s .ap) (s .interval) (s .channel)
 
@@ -54,23 +55,23 @@ abbrev pub outcomeNumber : {A : Type 0} → Outcome A → ℕ
 outcomeNumber (refused r) = numberOf r
 outcomeNumber (accepted a) = 0
 
--- the line of a record: 19 where nobody is followed, else what the history says
+-- the line of a record: no station where nobody is followed, else what the history says
 abbrev pub Tells : Noted → Followed → Said → Type 0
-Tells malformed x line = line ≡ says Word.Record 20
-Tells (starting s) x line = line ≡ says Word.Start (pick (refusesStart (startedWith s)) 15 0)
-Tells (advancing n) nobody line = line ≡ says Word.Advance 19
-Tells (advancing n) (since s h) line = line ≡ says Word.Advance (pick (tooFar (clockAfter h) n) 14 0)
-Tells (hearing f) nobody line = line ≡ says Word.Frame 19
+Tells malformed x line = line ≡ says Word.Record (numberOf Refusal.RecordMalformed)
+Tells (starting s) x line = line ≡ says Word.Start (pick (refusesStart (startedWith s)) (numberOf Refusal.BadStart) 0)
+Tells (advancing n) nobody line = line ≡ says Word.Advance (numberOf Refusal.NoStation)
+Tells (advancing n) (since s h) line = line ≡ says Word.Advance (pick (tooFar (clockAfter h) n) (numberOf Refusal.PastClock) 0)
+Tells (hearing f) nobody line = line ≡ says Word.Frame (numberOf Refusal.NoStation)
 Tells (hearing f) (since s h) line = line ≡ says Word.Frame (outcomeNumber (frameMeans (s .own) (s .ap) (s .interval) f))
-Tells (asking n) nobody line = line ≡ says Word.Ask 19
+Tells (asking n) nobody line = line ≡ says Word.Ask (numberOf Refusal.NoStation)
 Tells (asking n) (since s h) line = (p : Permission) × Applies s h n p × (line ≡ says Word.Ask (permissionNumber p))
 
 -- the lines of records, and who is followed behind them
 unfoldable pub TellsRecords : Records → Followed → List Said → Followed → Type 0
 TellsRecords end x lines next = (lines ≡ []) × (next ≡ x)
-TellsRecords cut x lines next = (lines ≡ says Word.Record 20 ∷ []) × (next ≡ nobody)
+TellsRecords cut x lines next = (lines ≡ says Word.Record (numberOf Refusal.RecordMalformed) ∷ []) × (next ≡ nobody)
 TellsRecords (more kind c rs) x lines next =
-    ((isMalformed (entryMeans kind c) ≡ true) × (lines ≡ says Word.Record 20 ∷ []) × (next ≡ nobody))
+    ((isMalformed (entryMeans kind c) ≡ true) × (lines ≡ says Word.Record (numberOf Refusal.RecordMalformed) ∷ []) × (next ≡ nobody))
     ⊎ ((isMalformed (entryMeans kind c) ≡ false)
     × (first : Said)
     × (rest : List Said)
@@ -80,7 +81,7 @@ TellsRecords (more kind c rs) x lines next =
 
 abbrev pub TellsBlock : List ℕ → Followed → List Said → Followed → Type 0
 TellsBlock b x lines next =
-    ((isDamaged b ≡ true) × (lines ≡ says Word.Block 17 ∷ []) × (next ≡ nobody))
+    ((isDamaged b ≡ true) × (lines ≡ says Word.Block (numberOf Refusal.BlockDamaged) ∷ []) × (next ≡ nobody))
     ⊎ ((isDamaged b ≡ false) × TellsRecords (recordsIn (usedPart b)) x lines next)
 
 unfoldable pub TellsBlocks : List (List ℕ) → Followed → List Said → Followed → Type 0
