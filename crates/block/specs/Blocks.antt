@@ -3,7 +3,7 @@
 use mathlib.Core.Bool.{Bool, not, _||_}
 use mathlib.Core.List.{List}
 use Prim.Native.Nat.{ℕ, _+_, _%_}
-use lib.Dec.{ltb, eqb}
+use lib.Dec.{ltb, leb, eqb}
 use lib.ListN.{length, take, drop}
 use Rattle.answer.specs.Checks.{pick}
 use Rattle.answer.specs.Sums.{sumOf}
@@ -25,3 +25,7 @@ blockMeans b = pick (isDamaged b) Block.Damaged (Block.Used (usedLength b))
 -- the part of the payload that is used
 abbrev pub usedPart : List ℕ → List ℕ
 usedPart b = take (usedLength b) (drop 2 b)
+
+-- where a block ends that begins at a place of a file of so many octets: a last one may be short
+abbrev pub endAfter : ℕ → ℕ → ℕ
+endAfter at size = pick (leb (at + 512) size) (at + 512) size

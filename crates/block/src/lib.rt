@@ -3,7 +3,7 @@ ghost use mathlib.Core.Path.{_≡_};
 ghost use Prim.Native.Nat.{_*_, _≤_};
 ghost use lib.ListN.{length, take};
 ghost use Rattle.answer.specs.Sums.{sumOf};
-ghost use Rattle.block.specs.Blocks.{blockMeans};
+ghost use Rattle.block.specs.Blocks.{endAfter, blockMeans};
 
 // How many octets a block has, how many of them come before its check, and how many of these the records may use.
 pub const SIZE: usize = 512;
@@ -48,4 +48,17 @@ pub fn judge(block: &[u8]) -> Block
         return Block::Damaged;
     }
     Block::Used(used)
+}
+
+// Where the block ends that begins at a place of a file of so many octets: the last one may be short.
+pub fn end_after(at: usize, size: usize) -> usize
+    ensures { λ r. ⌜ r ≡ endAfter at size ⌝ }
+{
+    if size < SIZE {
+        return size;
+    }
+    if size - SIZE < at {
+        return size;
+    }
+    at + SIZE
 }

@@ -1,20 +1,22 @@
 -- What a block leaves of the lister. Assumes nothing.
-use mathlib.Core.Bool.{true}
+use mathlib.Core.Bool.{Bool, true, false}
 use mathlib.Core.List.{List, []}
 use mathlib.Core.Path.{_≡_, refl, sym, ap, _∙_}
 use Prim.Native.Nat.{ℕ, _-_, _<_, _≤_}
 use native.Mathlib.Omega.{arith}
 use borrow.Author.Tests.{lt-ltb, le-ltb, le-leb, lt-leb}
+use lib.Dec.{ltb, leb}
 use lib.ListN.{length, take, drop, length-drop}
 use lib.Seq.{take-all}
 use Rattle.answer.proofs.Booleans.{clash}
+use Rattle.answer.specs.Checks.{pick}
 use Rattle.block.proofs.Judging.{used-within}
 use Rattle.block.specs.Blocks.{usedPart, blockMeans}
 use Rattle.block.specs.declared.Block.{Block}
 use Rattle.measurement.proofs.OneCall.{filled}
 use Rattle.measurement.proofs.OneCall as OneCall
 use Rattle.octets.specs.Writing.{left}
-use Rattle.capture.specs.Feeding.{Fed, fedBy, leftBy}
+use Rattle.capture.specs.Feeding.{Fed, enoughRoom, linesOf, fedBy, leftBy}
 use Rattle.capture.specs.Following.{Sound, Listed}
 use Rattle.capture.specs.Listers.{blockLimit, oneBlockMore, Fits}
 use Rattle.capture.specs.Lists.{Told, damagedTold, judged, blockTold}
@@ -75,20 +77,35 @@ module _ (l : Lister) (b out : List ℕ) where
     left-no-room = rw (lt-ltb (length out) 10944 h)
 
   module _ (h : 10944 ≤ length out) where
-    module _ (k : 1099511627776 ≤ l .blocks) where
+    module _ (k : 36028797018963968 ≤ l .blocks) where
       pub fed-full : record { feed = Feed.Full; lister = l } ≡ fedBy l b (length out)
       unfolding fedBy
-      fed-full = rw (le-ltb (length out) 10944 h, le-leb 1099511627776 (l .blocks) k)
+      fed-full = rw (le-ltb (length out) 10944 h, le-leb 36028797018963968 (l .blocks) k)
 
       pub left-full : out ≡ leftBy l b out
       unfolding leftBy
-      left-full = rw (le-ltb (length out) 10944 h, le-leb 1099511627776 (l .blocks) k)
+      left-full = rw (le-ltb (length out) 10944 h, le-leb 36028797018963968 (l .blocks) k)
 
-    module _ (k : l .blocks < 1099511627776) where
+    module _ (k : l .blocks < 36028797018963968) where
       pub fed-lines : (put : Put) → Fed l (blockTold b l) put → record { feed = Feed.Lines (put .count); lister = put .lister } ≡ fedBy l b (length out)
       unfolding fedBy
-      fed-lines put w = rw (le-ltb (length out) 10944 h, lt-leb 1099511627776 (l .blocks) k, w .same, w .many)
+      fed-lines put w = rw (le-ltb (length out) 10944 h, lt-leb 36028797018963968 (l .blocks) k, w .same, w .many)
 
       pub left-lines : filled (blockTold b l .text) out ≡ leftBy l b out
       unfolding leftBy
-      left-lines = rw (le-ltb (length out) 10944 h, lt-leb 1099511627776 (l .blocks) k)
+      left-lines = rw (le-ltb (length out) 10944 h, lt-leb 36028797018963968 (l .blocks) k)
+
+-- what is known of a block that has lines
+by-room : (l : Lister) (t : Told) (out : List ℕ) (n : ℕ) (short full : Bool)
+    → pick short (record { feed = Feed.NoRoom; lister = l }) (pick full (record { feed = Feed.Full; lister = l }) (linesOf t)) .feed ≡ Feed.Lines n
+    → (n ≡ length (t .text))
+    × (pick short (record { feed = Feed.NoRoom; lister = l }) (pick full (record { feed = Feed.Full; lister = l }) (linesOf t)) .lister ≡ t .lister)
+    × (pick short out (pick full out (filled (t .text) out)) ≡ filled (t .text) out)
+by-room l t out n true full e = absurd (let z : _≡_ {A = ℕ} 0 1 = cc in omega arith)
+by-room l t out n false true e = absurd (let z : _≡_ {A = ℕ} 0 1 = cc in omega arith)
+by-room l t out n false false e = (cc, refl, refl)
+
+pub has-lines : (l : Lister) (b out : List ℕ) (n : ℕ) → fedBy l b (length out) .feed ≡ Feed.Lines n
+    → (n ≡ length (blockTold b l .text)) × (fedBy l b (length out) .lister ≡ blockTold b l .lister) × (leftBy l b out ≡ filled (blockTold b l .text) out)
+unfolding fedBy leftBy
+has-lines l b out n = by-room l (blockTold b l) out n (ltb (length out) enoughRoom) (leb blockLimit (l .blocks))

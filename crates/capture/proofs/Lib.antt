@@ -1,4 +1,7 @@
 pub mod Answering
+pub mod Cutting
 pub mod Fitting
 pub mod Recording
 pub mod Sounding
+pub mod Passes
+pub mod Wholes

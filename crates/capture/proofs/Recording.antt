@@ -36,7 +36,7 @@ bad-noted l (advancing n) e = absurd (let z : _≡_ {A = ℕ} 0 1 = cc in omega 
 bad-noted l (hearing f) e = absurd (let z : _≡_ {A = ℕ} 0 1 = cc in omega arith)
 bad-noted l (asking n) e = absurd (let z : _≡_ {A = ℕ} 0 1 = cc in omega arith)
 
-before-before : (xs ys : List ℕ) (t : Told) → before xs (before ys t) ≡ before (xs ++ ys) t
+pub before-before : (xs ys : List ℕ) (t : Told) → before xs (before ys t) ≡ before (xs ++ ys) t
 before-before xs ys t = ap (λ (zs : List ℕ). record { lister = t .lister; text = zs }) (sym (append-assoc xs ys (t .text)))
 
 -- ---- the lines so far

@@ -26,9 +26,9 @@ oneLineMore l = record { lines = l .lines + 1; blocks = l .blocks; damaged = l .
 abbrev pub oneBlockMore : Lister → ℕ → Lister
 oneBlockMore l n = record { lines = l .lines; blocks = l .blocks + 1; damaged = l .damaged + n; active = l .active; station = l .station }
 
--- how many blocks may be listed: no file has so many
+-- how many blocks may be listed: a file of so many would have 2 to the 64 octets
 abbrev pub blockLimit : ℕ
-blockLimit = 1099511627776
+blockLimit = 36028797018963968
 
 -- a block has at most so many lines
 abbrev pub mostLines : ℕ

@@ -109,5 +109,8 @@ blocksTold (b ∷ bs) l = before (blockTold b l .text) (blocksTold bs (blockTold
 abbrev pub closed : Told → List ℕ
 closed t = t .text ++ closingOf (t .lister .blocks) (t .lister .damaged)
 
+abbrev pub fileTold : List ℕ → Told
+fileTold file = blocksTold (blocksIn file) fresh
+
 unfoldable pub listOf : List ℕ → List ℕ
-listOf file = closed (blocksTold (blocksIn file) fresh)
+listOf file = closed (fileTold file)

@@ -33,7 +33,7 @@ pub struct Listing {
 // The lister with one block more.
 fn counted(lister: Lister, damaged: u64) -> Lister
     requires { ⌜ Fits lister ⌝ }
-    requires { ⌜ (damaged ≤ 1) × (lister .blocks < 1099511627776) ⌝ }
+    requires { ⌜ (damaged ≤ 1) × (lister .blocks < 36028797018963968) ⌝ }
     ensures { λ r. ⌜ r ≡ oneBlockMore lister damaged ⌝ }
 {
     Lister {
@@ -46,7 +46,7 @@ fn counted(lister: Lister, damaged: u64) -> Lister
 // The line of a damaged block: there is no station after it.
 fn put_damaged(lister: Lister, out: &mut [u8]) -> Put
     requires { ⌜ Fits lister ⌝ }
-    requires { ⌜ (lister .blocks < 1099511627776) × (10944 ≤ length (now out)) ⌝ }
+    requires { ⌜ (lister .blocks < 36028797018963968) × (10944 ≤ length (now out)) ⌝ }
     ensures { λ r. ⌜ Fed lister (damagedTold lister) r ⌝ }
     ensures { λ _. ⌜ now (out .exit) ≡ filled (damagedTold lister .text) (now (out .entry)) ⌝ }
 {
@@ -60,9 +60,9 @@ fn put_damaged(lister: Lister, out: &mut [u8]) -> Put
 }
 
 // The lines of a block, damaged or not.
-fn put_block(lister: Lister, block: &[u8], out: &mut [u8]) -> Put
+pub fn put_block(lister: Lister, block: &[u8], out: &mut [u8]) -> Put
     requires { ⌜ Fits lister ⌝ }
-    requires { ⌜ (lister .blocks < 1099511627776) × (10944 ≤ length (now out)) ⌝ }
+    requires { ⌜ (lister .blocks < 36028797018963968) × (10944 ≤ length (now out)) ⌝ }
     ensures { λ r. ⌜ Fed lister (blockTold (now (block .entry)) lister) r ⌝ }
     ensures { λ _. ⌜ now (out .exit) ≡ filled (blockTold (now (block .entry)) lister .text) (now (out .entry)) ⌝ }
 {

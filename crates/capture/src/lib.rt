@@ -3,7 +3,9 @@ mod feeding;
 mod lister;
 mod listing;
 mod noting;
+mod whole;
 
 pub use feeding::Feed;
 pub use feeding::Listing;
 pub use lister::Lister;
+pub use whole::list;

@@ -14,8 +14,8 @@ pub struct Lister {
 }
 
 impl Lister {
-    // How many blocks may be listed: no file has so many.
-    pub const BLOCK_LIMIT: u64 = 1099511627776;
+    // How many blocks may be listed: a file of so many would have 2 to the 64 octets.
+    pub const BLOCK_LIMIT: u64 = 36028797018963968;
 
     // The room that the lines of a block always find: 171 lines of at most 64 octets.
     pub const ROOM: usize = 10944;
@@ -40,10 +40,10 @@ pub fn without(lister: Lister) -> Lister
     ensures { λ r. ⌜ r ≡ without lister ⌝ }
 {
     let active = false;
-    let station = Station::nobody();
+    let nobody = Station::nobody();
     Lister {
         active,
-        station,
+        station: nobody,
         ..lister
     }
 }

@@ -1,8 +1,8 @@
 // The lines of a block, put into a lent buffer (document 01, "Capture blocks and the evening list").
 ghost use mathlib.Core.Path.{_≡_};
 ghost use mathlib.Core.Bool.{true};
-ghost use Prim.Native.Nat.{_+_, _≤_};
-ghost use lib.ListN.{length};
+ghost use Prim.Native.Nat.{_+_, _-_, _≤_};
+ghost use lib.ListN.{length, drop};
 ghost use Rattle.measurement.proofs.OneCall.{filled};
 ghost use Rattle.octets.specs.Writing.{left};
 ghost use Rattle.record.specs.Records.{recordsIn};
@@ -21,9 +21,21 @@ pub struct Put {
     pub count: usize,
 }
 
+// A text behind what the buffer holds already: how many octets there are then.
+pub fn put_text(text: Text, out: &mut [u8], count: usize) -> usize
+    requires { ⌜ (text .from ≤ 64) × (count + (64 - text .from) ≤ length (now out)) ⌝ }
+    ensures { λ r. ⌜ r ≡ count + (64 - text .from) ⌝ }
+    ensures { λ _. ⌜ now (out .exit) ≡ left true (drop (text .from) (text .bytes)) count (now (out .entry)) ⌝ }
+{
+    let bytes = text.bytes;
+    let from = text.from;
+    octets::put(true, &bytes[from..], out, count);
+    count + (Text::ROOM - from)
+}
+
 // The line that tells a record's answer, behind the lines before it.
 pub fn put_line(answered: Answered, out: &mut [u8], count: usize) -> Put
-    requires { ⌜ (count + 64 ≤ length (now out)) × (answered .lister .lines ≤ 4611686018427387904) ⌝ }
+    requires { ⌜ (count + 64 ≤ length (now out)) × (answered .lister .lines ≤ 9223372036854775807) ⌝ }
     ensures { λ r. ⌜ r .lister ≡ oneLineMore (answered .lister) ⌝ }
     ensures { λ r. ⌜ (r .count ≡ count + length (lineFor answered .text)) × (r .count ≤ count + 64) ⌝ }
     ensures { λ _. ⌜ now (out .exit) ≡ left true (lineFor answered .text) count (now (out .entry)) ⌝ }
@@ -32,18 +44,15 @@ pub fn put_line(answered: Answered, out: &mut [u8], count: usize) -> Put
     let word = answered.word;
     let lines = before.lines + 1;
     let line = text::line(lines, word, answered.answer);
-    let bytes = line.bytes;
-    let from = line.from;
-    octets::put(true, &bytes[from..], out, count);
+    let count = put_text(line, out, count);
     let lister = Lister { lines, ..before };
-    let count = count + (Text::ROOM - from);
     Put { lister, count }
 }
 
 // The lines of the records in the used part of a block.
 pub fn put_records(lister: Lister, used: &[u8], out: &mut [u8]) -> Put
     requires { ⌜ Sound lister ⌝ }
-    requires { ⌜ (length (now used) ≤ 508) × (10944 ≤ length (now out)) × (lister .lines ≤ 4611686018427387000) ⌝ }
+    requires { ⌜ (length (now used) ≤ 508) × (10944 ≤ length (now out)) × (lister .lines ≤ 9223372036854775000) ⌝ }
     ensures { λ r. ⌜ Listed lister (recorded (recordsIn (now (used .entry))) lister) (r .lister) (r .count) ⌝ }
     ensures { λ _. ⌜ now (out .exit) ≡ filled (recorded (recordsIn (now (used .entry))) lister .text) (now (out .entry)) ⌝ }
 {

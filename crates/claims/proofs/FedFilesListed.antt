@@ -1,42 +1,28 @@
 -- Fed block by block, a file gives exactly its list (01, "Capture blocks and the evening list"), of the code's own results. Assumes nothing.
-use mathlib.Core.Bool.{Bool, true, false}
 use mathlib.Core.List.{List, [], _∷_, _++_}
 use mathlib.Core.Path.{_≡_, sym, ap, ap₂, _∙_, subst}
-use Prim.Native.Nat.{ℕ, _-_, _≤_, _<_}
-use native.Mathlib.Omega.{arith}
+use Prim.Native.Nat.{ℕ, _≤_, _<_}
 use borrow.Author.Tests.{le-ltb, lt-leb}
 use denote.Ref.{now}
-use lib.Dec.{ltb, leb}
-use lib.ListN.{length, take, drop, replicate, length-replicate}
-use lib.Seq.{take-at, drop-at}
-use Rattle.answer.specs.Checks.{pick}
-use Rattle.capture.specs.Feeding.{enoughRoom, linesOf, fedBy, leftBy}
+use lib.ListN.{length, take}
+use Rattle.capture.proofs.Fitting.{has-lines}
+use Rattle.capture.proofs.Passes.{from-room}
+use Rattle.capture.specs.Feeding.{enoughRoom, fedBy, leftBy}
 use Rattle.capture.specs.Listers.{blockLimit, fresh}
 use Rattle.capture.specs.Lists.{Told, blockTold, blocksIn, blocksTold, listOf}
 use Rattle.capture.specs.declared.feeding.Feed.{Feed}
 use Rattle.capture.specs.declared.feeding.Listing.{Listing}
 use Rattle.capture.specs.declared.lister.Lister.{Lister}
-use Rattle.measurement.proofs.OneCall.{filled}
+use Rattle.text.proofs.InRoom.{from-place}
 use Rattle.text.specs.Lines.{closingOf}
-use Rattle.text.specs.declared.back.Text.{Text}
 use Rattle.claims.specs.FedFiles.{Begins, Feeds, FedAll, Closes}
 
 -- ---- a block
 
-module _ (l : Lister) (t : Told) (out exit : List ℕ) (x : Listing) (n : ℕ) (lines : x .feed ≡ Feed.Lines n) where
-  by-room : (short full : Bool)
-      → x ≡ pick short (record { feed = Feed.NoRoom; lister = l }) (pick full (record { feed = Feed.Full; lister = l }) (linesOf t))
-      → exit ≡ pick short out (pick full out (filled (t .text) out))
-      → (take n exit ≡ t .text) × (x .lister ≡ t .lister)
-  by-room true full e f = absurd (let z : _≡_ {A = ℕ} 0 1 = cc in omega arith)
-  by-room false true e f = absurd (let z : _≡_ {A = ℕ} 0 1 = cc in omega arith)
-  by-room false false e f =
-      let many : length (t .text) ≡ n = cc in
-      (ap (take n) f ∙ take-at (t .text) (drop (length (t .text)) out) n many, ap (λ (r : Listing). r .lister) e)
-
 fed-told : (l : Lister) (b out exit : List ℕ) (x : Listing) (n : ℕ) → x ≡ fedBy l b (length out) → exit ≡ leftBy l b out → x .feed ≡ Feed.Lines n → (take n exit ≡ blockTold b l .text) × (x .lister ≡ blockTold b l .lister)
-unfolding fedBy leftBy
-fed-told l b out exit x n e f lines = by-room l (blockTold b l) out exit x n lines (ltb (length out) enoughRoom) (leb blockLimit (l .blocks)) e f
+fed-told l b out exit x n e f lines =
+    let w = has-lines l b out n (sym (ap (λ (r : Listing). r .feed) e) ∙ lines) in
+    (from-room (blockTold b l .text) out exit n (f ∙ w .2) (w .0), ap (λ (r : Listing). r .lister) e ∙ w .1)
 
 feeds-told : (l : Lister) (b text : List ℕ) (next : Lister) → Feeds l b text next → (text ≡ blockTold b l .text) × (next ≡ blockTold b l .lister)
 feeds-told l b text next (κs, a, x, e, post, same-lister, same-block, n, lines, front, left-lister) =
@@ -57,11 +43,7 @@ all-told (b ∷ bs) l text last (next, first, rest, fed, others, whole) =
 
 closes-told : (l : Lister) (text : List ℕ) → Closes l text → text ≡ closingOf (l .blocks) (l .damaged)
 closes-told l text (κs, a, x, e, post, blocks, damaged, whole) =
-    let os = closingOf (a .0) (a .1 .0) in
-    sym whole
-    ∙ ap (λ (t : Text). drop (t .from) (t .bytes)) post
-    ∙ drop-at (replicate (64 - length os) 0) os (64 - length os) (length-replicate (64 - length os) 0)
-    ∙ ap₂ closingOf blocks damaged
+    sym whole ∙ from-place x (closingOf (a .0) (a .1 .0)) post ∙ ap₂ closingOf blocks damaged
 
 pub fed-file : (file lines closing : List ℕ) (first last : Lister) → Begins first → FedAll (blocksIn file) first lines last → Closes last closing → lines ++ closing ≡ listOf file
 unfolding listOf

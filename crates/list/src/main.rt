@@ -60,7 +60,7 @@ fn main() {
         }
         Fate::Going => {}
         Fate::TooLong => {
-            tell(b"list: there are more than 1099511627776 blocks; the list is cut\n");
+            tell(b"list: there are more than 36028797018963968 blocks; the list is cut\n");
         }
     }
 }

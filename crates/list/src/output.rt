@@ -120,14 +120,6 @@ fn list_block(progress: Progress, block: &[u8], out: &mut [u8]) -> Progress
     }
 }
 
-// Where the block ends that begins here: the last one may be short.
-fn block_end(size: usize, at: usize) -> usize
-    requires { ⌜ at < size ⌝ }
-    ensures { λ r. ⌜ (at < r) × (r ≤ size) ⌝ }
-{
-    if size - at < 512 { size } else { at + 512 }
-}
-
 // The blocks in the octets that were read.
 pub fn list_blocks(progress: Progress, octets: &[u8], out: &mut [u8]) -> Progress
     requires { ⌜ Ready progress (length (now out)) ⌝ }
@@ -136,7 +128,7 @@ pub fn list_blocks(progress: Progress, octets: &[u8], out: &mut [u8]) -> Progres
     let mut next = progress;
     let mut at = 0;
     while at < octets.len() && goes_on(next) {
-        let end = block_end(octets.len(), at);
+        let end = block::end_after(at, octets.len());
         next = list_block(next, &octets[at..end], out);
         at = end;
     }

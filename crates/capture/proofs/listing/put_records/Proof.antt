@@ -20,7 +20,7 @@ use Rattle.capture.proofs.listing.put_records.Tie as tie
 
 abbrev Inv-loop : tie.InvT-loop
 Inv-loop used out₀ next₀ count₀ at₀ out next count at =
-    Inv used next₀ out₀ out next count at × (length used ≤ 508) × (10944 ≤ length out₀) × (next₀ .lines ≤ 4611686018427387000)
+    Inv used next₀ out₀ out next count at × (length used ≤ 508) × (10944 ≤ length out₀) × (next₀ .lines ≤ 9223372036854775000)
 
 abbrev μ-loop : tie.MeasureT-loop
 μ-loop used out₀ next₀ count₀ at₀ out next count at = length used - at

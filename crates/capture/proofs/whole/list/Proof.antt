@@ -1,0 +1,136 @@
+-- `list` meets its contract: too little room for the lines, too little for the closing line, or the whole list.
+-- Assumes nothing.
+use mathlib.Core.Bool.{true}
+use mathlib.Core.List.{List}
+use mathlib.Core.Path.{_≡_, sym, ap, _∙_}
+use Prim.Native.Nat.{ℕ, _+_, _≤_}
+use native.Mathlib.Omega.{arith}
+use borrow.Author.Needs.{needs}
+use borrow.Author.Tests.{leb-false, not-true, not-false}
+use denote.Ref.{now}
+use lib.ListN.{length}
+use Rattle.answer.proofs.Booleans.{clash}
+use Rattle.octets.specs.Writing.{left}
+use Rattle.text.proofs.InRoom as InRoom
+use Rattle.text.specs.Lines.{closingOf}
+use Rattle.capture.specs.Lists.{fileTold, listOf}
+use Rattle.capture.specs.declared.lister.Lister.{Lister}
+use Rattle.capture.proofs.Wholes.{list-length, same-out, too-short, whole}
+use Rattle.capture.proofs.whole.list.Statement.{statement}
+use Rattle.capture.proofs.whole.list.Tie as tie
+
+pass-all-requires : tie.Need-pass-all-requires
+pass-all-requires c κs = λ e. clash (sym e)
+
+abbrev fileIn : tie.After-pass-all → List ℕ
+fileIn c = now (c .before .before .before .before .args .file)
+
+abbrev outIn : tie.After-pass-all → List ℕ
+outIn c = now (c .before .before .before .before .args .out)
+
+-- the first pass leaves the buffer as long as it was
+same-size : (c : tie.After-pass-all) → length (c .pass-all .last .1 .1 .0) ≡ length (outIn c)
+same-size c = ap length (same-out (fileIn c) (outIn c) _ (c .pass-all .ensures .1))
+
+-- ---- the lines do not fit
+
+returns : tie.Need-returns
+returns c =
+    let k = c .before .before .before .before in
+    let p = k .pass-all in
+    let short = leb-false (0 + length (fileTold (fileIn k) .text)) (length (outIn k)) (sym (p .ensures .0 .enough) ∙ not-true (p .result .fits) (c .if1 .taken)) in
+    too-short (fileIn k) (outIn k) _ (p .ensures .1) (omega (arith, short, list-length (fileIn k)))
+
+-- ---- the closing line
+
+abbrev passIn : tie.After-closing → tie.After-pass-all
+passIn c = c .before .before .before .before .before .before
+
+abbrev closingIn : tie.After-closing → List ℕ
+closingIn c = let l = passIn c .pass-all .result .lister in closingOf (l .blocks) (l .damaged)
+
+fits : (c : tie.After-closing) → passIn c .pass-all .result .fits ≡ true
+fits c = not-false (passIn c .pass-all .result .fits) (c .before .before .if1 .left)
+
+sixty-four : (c : tie.After-closing) → length (c .closing .result .bytes) ≡ 64
+sixty-four c = search needs
+
+-- where it begins in its room
+place : (c : tie.After-closing) → (length (closingIn c) ≤ 64) × (c .closing .result .from + length (closingIn c) ≡ 64)
+place c =
+    let t = c .closing in
+    let f = InRoom.fits (t .result) (closingIn c) (t .ensures) (sixty-four c) in
+    (f, omega (arith, f, InRoom.begins (t .result) (closingIn c) (t .ensures) (sixty-four c)))
+
+-- how long the list is
+total : (c : tie.After-closing) → length (listOf (fileIn (passIn c))) ≡ passIn c .pass-all .result .count + length (closingIn c)
+total c =
+    let p = passIn c .pass-all in
+    let same = ap (λ (l : Lister). length (closingOf (l .blocks) (l .damaged))) (p .ensures .0 .same (fits c)) in
+    omega (arith, list-length (fileIn (passIn c)), p .ensures .0 .many (fits c), same)
+
+sub-if2-2 : tie.Need-sub-if2-2
+sub-if2-2 c = omega (arith, place (c .before))
+
+returns-2 : tie.Need-returns-2
+returns-2 c =
+    let t = c .before .before in
+    let k = passIn t in
+    too-short (fileIn k) (outIn k) _ (k .pass-all .ensures .1) (omega (arith, total t, place t, c .if2 .taken, same-size k))
+
+-- ---- the whole list
+
+enough : (c : tie.Else2) → length (listOf (fileIn (passIn (c .before .before)))) ≤ length (outIn (passIn (c .before .before)))
+enough c =
+    let t = c .before .before in
+    let k = passIn t in
+    omega (arith, total t, place t, c .if2 .left, k .pass-all .ensures .0 .inside, same-size k)
+
+pass-all-requires-2 : tie.Need-pass-all-requires-2
+pass-all-requires-2 c κs =
+    let t = c .before .before .before in
+    let k = passIn t in
+    λ e. omega (arith, k .pass-all .ensures .0 .many (fits t), k .pass-all .ensures .0 .inside, same-size k)
+
+-- the second pass leaves it as long, too
+second-size : (c : tie.After-pass-all2) → length (c .pass-all2 .last .1 .1 .0) ≡ length (passIn (c .before .before .before .before) .pass-all .last .1 .1 .0)
+second-size c = search needs
+
+put-text-requires : tie.Need-put-text-requires
+put-text-requires c κs =
+    let k = c .before .before .before in
+    let e = k .before .before in
+    let t = e .before .before in
+    (omega (arith, place t), omega (arith, place t, total t, enough e, second-size k, same-size (passIn t)))
+
+returns-3 : tie.Need-returns-3
+returns-3 c =
+    let put = c .before .before .put-text in
+    let second = c .before .before .before .before .before .before in
+    let e = second .before .before in
+    let t = e .before .before in
+    let k = passIn t in
+    let p = k .pass-all in
+    whole (fileIn k) (outIn k) _ (p .ensures .1) _ _ (p .result .lister) (p .result .count) _ (second .pass-all2 .ensures .1)
+    (put .ensures .1 ∙ ap (λ (os : List ℕ). left true os (p .result .count) (second .pass-all2 .last .1 .1 .0)) (InRoom.from-place (t .closing .result) (closingIn t) (t .closing .ensures)))
+    (p .ensures .0 .same (fits t))
+    (omega (arith, p .ensures .0 .many (fits t)))
+    (omega (arith, place t, put .ensures .0))
+    (omega (arith, enough e, total t, place t, put .ensures .0))
+
+pub list-spec : {M : Type 1} → statement M
+list-spec =
+    tie.close
+    (tie.spec
+    pass-all-requires
+    (λ c. search needs)
+    returns
+    (λ c κs. search needs)
+    (λ c. search needs)
+    sub-if2-2
+    (λ c. search needs)
+    returns-2
+    pass-all-requires-2
+    put-text-requires
+    (λ c. search needs)
+    returns-3)
