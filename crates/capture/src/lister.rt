@@ -40,10 +40,10 @@ pub fn without(lister: Lister) -> Lister
     ensures { λ r. ⌜ r ≡ without lister ⌝ }
 {
     let active = false;
-    let nobody = Station::nobody();
+    let station = Station::nobody();
     Lister {
         active,
-        station: nobody,
+        station,
         ..lister
     }
 }

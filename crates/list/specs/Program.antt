@@ -11,4 +11,4 @@ Ready p size = (Fits (p .lister)) × (p .waiting ≤ size)
 -- what was read lies in the buffer
 abbrev pub Within : Filled → ℕ → Type 0
 Within (Filled.Octets n) size = n ≤ size
-Within Filled.Failed size = 0 ≤ size
+Within (Filled.Failed n) size = n ≤ size

@@ -7,7 +7,8 @@ use libc::STDIN_FILENO;
 pub enum Filled {
     // So many octets stand at the front of the buffer; where they do not fill it, the input has ended.
     Octets(usize),
-    Failed,
+    // So many, and then a read failed.
+    Failed(usize),
 }
 
 // Reads until the buffer is full, the input ends or a read fails: a pipe may deliver any amount at a time.
@@ -19,7 +20,7 @@ pub fn fill(buffer: &mut [u8]) -> Filled
         let rest = &mut buffer[done..];
         let got = libc::read(STDIN_FILENO, rest);
         if got < 0 {
-            return Filled::Failed;
+            return Filled::Failed(done);
         }
         let more = io::count(got, rest);
         if more == 0 {

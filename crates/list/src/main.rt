@@ -3,7 +3,7 @@
 mod input;
 mod output;
 
-ghost use Prim.Native.Nat.{_≤_};
+ghost use Prim.Native.Nat.{ℕ, _≤_};
 ghost use lib.ListN.{length};
 ghost use Rattle.list.specs.Program.{Ready};
 use capture::Lister;
@@ -12,17 +12,35 @@ use libc::STDERR_FILENO;
 use output::Fate;
 use output::Progress;
 
-// Reads a buffer of octets, and lists its blocks. One that is not full is the last.
+// The listing ends this way, unless it has ended already.
+fn ending(progress: Progress, fate: Fate) -> Progress
+    ensures { λ r. ⌜ ((size : ℕ) → Ready progress size → Ready r size) ⌝ }
+{
+    if output::goes_on(progress) {
+        output::with_fate(progress, fate)
+    } else {
+        progress
+    }
+}
+
+// Reads a buffer of octets, and lists its blocks. One that is not full is the last. Where a read failed, a block that is cut there is not the
+// file's short last one, so only whole blocks are listed.
 fn turn(progress: Progress, input: &mut [u8], out: &mut [u8]) -> Progress
     requires { ⌜ Ready progress (length (now out)) ⌝ }
     ensures { λ r. ⌜ Ready r (length (now (out .entry))) ⌝ }
 {
     match input::fill(input) {
-        Filled::Failed => output::with_fate(progress, Fate::ReadFailed),
+        Filled::Failed(count) => {
+            let whole = count - count % block::SIZE;
+            ending(
+                output::list_blocks(progress, &input[..whole], out),
+                Fate::ReadFailed,
+            )
+        }
         Filled::Octets(count) => {
             let listed = output::list_blocks(progress, &input[..count], out);
-            if count < input.len() && output::goes_on(listed) {
-                output::with_fate(listed, Fate::Whole)
+            if count < input.len() {
+                ending(listed, Fate::Whole)
             } else {
                 listed
             }

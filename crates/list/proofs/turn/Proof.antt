@@ -1,7 +1,7 @@
 -- `turn` is safe: what was read lies in the buffer, and the lister stays one that its calls have made.
 -- Assumes nothing.
 use mathlib.Core.Path.{_≡_, sym, subst}
-use Prim.Native.Nat.{_≤_}
+use Prim.Native.Nat.{ℕ, _≤_, _-_, _%_}
 use native.Mathlib.Omega.{arith}
 use borrow.Author.Needs.{needs}
 use denote.Ref.{now}
@@ -12,22 +12,31 @@ use Rattle.list.specs.declared.input.Filled.{Filled}
 use Rattle.list.proofs.turn.Statement.{statement}
 use Rattle.list.proofs.turn.Tie as tie
 
-filled : (c : tie.After-known-told) → c .before .count .given .0 .0 ≤ length (c .before .before .before .before .before .fill .last .0)
-filled c =
-    let f = c .before .before .before .before .before in
-    let a = f .before .before .before .before .args in
-    let same : length (f .fill .last .0) ≡ length (now (a .input)) = search needs in
-    let read = subst (λ (r : Filled). Within r (length (now (a .input)))) (c .before .count .given .1) (f .fill .ensures) in
-    omega (arith, same, read)
+-- what was read lies in the buffer as the read leaves it
+read : (c : tie.After-fill) (r : Filled) → c .fill .result ≡ r → Within r (length (c .fill .last .0))
+read c r e =
+    let a = c .before .before .before .before .args in
+    let same : length (c .fill .last .0) ≡ length (now (a .input)) = search needs in
+    subst (λ (n : ℕ). Within r n) (sym same) (subst (λ (x : Filled). Within x (length (now (a .input)))) e (c .fill .ensures))
+
+-- before a read failed: whole blocks of it
+failed : (c : tie.After-known-told) → let n = c .before .count .given .0 .0 in n - n % 512 ≤ length (c .before .before .before .before .before .fill .last .0)
+failed c = omega (arith, read (c .before .before .before .before .before) _ (c .before .count .given .1))
 
 slice-aggregate-list-blocks : tie.Need-slice-aggregate-list-blocks
-slice-aggregate-list-blocks c = sym (length-take-le _ _ (filled (c .before)))
+slice-aggregate-list-blocks c = sym (length-take-le _ _ (failed (c .before)))
+
+filled : (c : tie.After-known-told2) → c .before .count2 .given .0 .0 ≤ length (c .before .before .before .before .before .fill .last .0)
+filled c = read (c .before .before .before .before .before) _ (c .before .count2 .given .1)
+
+slice-aggregate-list-blocks-2 : tie.Need-slice-aggregate-list-blocks-2
+slice-aggregate-list-blocks-2 c = sym (length-take-le _ _ (filled (c .before)))
 
 returns : tie.Need-returns
-returns c = c .with-fate .ensures _ (c .before .before .before .before .before .before .before .before .before .pre)
+returns c = c .ending .ensures _ (c .before .before .before .list-blocks .ensures)
 
 returns-2 : tie.Need-returns-2
-returns-2 c = c .with-fate2 .ensures _ (c .before .before .before .before .before .before .list-blocks .ensures)
+returns-2 c = c .ending2 .ensures _ (c .before .before .before .before .list-blocks2 .ensures)
 
 pub turn-spec : {M : Type 1} → statement M
 turn-spec =
@@ -35,13 +44,17 @@ turn-spec =
     (tie.spec
     (λ c κs. search needs)
     (λ c. search needs)
-    (λ c κs. search needs)
     (λ c. search needs)
-    filled
+    failed
     slice-aggregate-list-blocks
     (λ c κs. search needs)
     (λ c κs. search needs)
+    (λ c. search needs)
+    filled
+    slice-aggregate-list-blocks-2
     (λ c κs. search needs)
+    (λ c κs. search needs)
+    (λ c. search needs)
     (λ c. search needs)
     returns
     (λ c. search needs)
