@@ -1,0 +1,59 @@
+//! The numbers of the section "Answer numbers", and the answers to an ask
+//! from the section "The station".
+
+/// Accepted.
+pub const ACCEPTED: u8 = 0;
+/// Frame under 24 octets, or a fixed field of the body is missing.
+pub const FRAME_SHORT: u8 = 1;
+/// Frame over 2,336 octets.
+pub const FRAME_LONG: u8 = 2;
+/// Version, type, subtype, flags or fragment number not of the kinds read here.
+pub const FRAME_CONTROL: u8 = 3;
+/// SA or BSSID is not the AP, or DA is neither the station nor all ones.
+pub const ADDRESSES: u8 = 4;
+/// Category not 0, or action over 4.
+pub const ACTION: u8 = 5;
+/// An element's header or contents run past the end.
+pub const ELEMENT_CUT: u8 = 6;
+/// In an action frame: element absent, another in its place, or octets left over.
+pub const ELEMENT_PLACE: u8 = 7;
+/// Element length wrong.
+pub const ELEMENT_LENGTH: u8 = 8;
+/// A value that the rules forbid.
+pub const VALUE: u8 = 9;
+/// A second 32, 35 or 37, or a measurement token used twice in one request frame.
+pub const REPEATED: u8 = 10;
+/// A ninth Quiet element.
+pub const NINTH_QUIET: u8 = 11;
+/// The beacon's (or probe response's) interval is not B.
+pub const INTERVAL: u8 = 12;
+/// Buffer shorter than what is to be written.
+pub const BUFFER_SHORT: u8 = 13;
+/// The clock would pass its limit, or the advance is over 65,535.
+pub const CLOCK: u8 = 14;
+/// At start: B is 0, channel over 200, or an address with its group bit set.
+pub const START: u8 = 15;
+/// Record that cannot be written, impossible readings, index past the last,
+/// or a centre asked over channel 200.
+pub const IMPOSSIBLE: u8 = 16;
+/// Damaged block.
+pub const DAMAGED_BLOCK: u8 = 17;
+/// No reply is due.
+pub const NO_REPLY: u8 = 18;
+/// Capture record with no station started.
+pub const NO_STATION: u8 = 19;
+/// Malformed capture record.
+pub const MALFORMED_RECORD: u8 = 20;
+
+/// Ask: granted.
+pub const ASK_GRANTED: u8 = 0;
+/// Ask: a mode-1 switch is pending.
+pub const ASK_SILENCED: u8 = 1;
+/// Ask: the present unit is quiet.
+pub const ASK_QUIET_NOW: u8 = 2;
+/// Ask: a later covered unit, before the pending switch if any, is quiet.
+pub const ASK_QUIET_AHEAD: u8 = 3;
+/// Ask: the pending switch lies before the end of what was asked for.
+pub const ASK_SWITCH_AHEAD: u8 = 4;
+/// Ask: 0 units, or over 65,535.
+pub const ASK_LENGTH: u8 = 5;

@@ -1,0 +1,465 @@
+//! A whole frame: "a frame that is read is one of seven kinds, each with its
+//! own fields".
+
+use crate::answer::IMPOSSIBLE;
+use crate::body::{read_action_body, read_notice};
+use crate::element::{Quiet, Switch};
+use crate::header::{read_header, Subtype};
+use crate::measurement::{Report, Request};
+use crate::Address;
+
+/// An accepted frame.
+#[derive(Clone, Debug, PartialEq, Eq)]
+pub struct Received {
+    /// DA was all ones.
+    pub broadcast: bool,
+    /// What the frame was.
+    pub frame: Frame,
+}
+
+/// The seven kinds of frame.
+#[derive(Clone, Debug, PartialEq, Eq)]
+pub enum Frame {
+    /// Subtype 8.
+    Beacon(Notice),
+    /// Subtype 5.
+    ProbeResponse(Notice),
+    /// Action 0.
+    MeasurementRequest {
+        /// The dialog token; never 0.
+        token: u8,
+        /// One or more elements, in their order.
+        requests: Vec<Request>,
+    },
+    /// Action 1.
+    MeasurementReport {
+        /// The dialog token.
+        token: u8,
+        /// One or more elements, in their order.
+        reports: Vec<Report>,
+    },
+    /// Action 2.
+    TpcRequest {
+        /// The dialog token; never 0.
+        token: u8,
+    },
+    /// Action 3.
+    TpcReport {
+        /// The dialog token.
+        token: u8,
+        /// dBm.
+        power: i8,
+        /// dB.
+        margin: i8,
+    },
+    /// Action 4.
+    ChannelSwitch(Switch),
+}
+
+/// What a beacon or a probe response says.
+#[derive(Clone, Debug, PartialEq, Eq)]
+pub struct Notice {
+    /// The TSF timestamp.
+    pub timestamp: u64,
+    /// The capability field.
+    pub capability: u16,
+    /// Power Constraint in dB, if there is one.
+    pub constraint: Option<u8>,
+    /// TPC Report, power in dBm and margin in dB, if there is one.
+    pub tpc_report: Option<(i8, i8)>,
+    /// Channel Switch Announcement, if there is one.
+    pub switch: Option<Switch>,
+    /// Up to eight Quiet elements, in their order.
+    pub quiets: Vec<Quiet>,
+}
+
+impl Frame {
+    /// The Measurement Request element of this index; 16 past the last or on
+    /// another kind.
+    pub fn request(&self, index: usize) -> Result<Request, u8> {
+        match self {
+            Frame::MeasurementRequest { requests, .. } => {
+                requests.get(index).copied().ok_or(IMPOSSIBLE)
+            }
+            _ => Err(IMPOSSIBLE),
+        }
+    }
+
+    /// The Measurement Report element of this index; 16 past the last or on
+    /// another kind.
+    pub fn report(&self, index: usize) -> Result<Report, u8> {
+        match self {
+            Frame::MeasurementReport { reports, .. } => {
+                reports.get(index).copied().ok_or(IMPOSSIBLE)
+            }
+            _ => Err(IMPOSSIBLE),
+        }
+    }
+}
+
+/// Reads a frame sent by the AP, for the station `own` under beacon interval
+/// `interval`; "1 (header), 2, 3, 4, then the body from left to right".
+pub fn read_frame(frame: &[u8], own: Address, ap: Address, interval: u16) -> Result<Received, u8> {
+    let (header, body) = read_header(frame, own, ap)?;
+    let frame = match header.subtype {
+        Subtype::Beacon => Frame::Beacon(read_notice(body, interval)?),
+        Subtype::ProbeResponse => Frame::ProbeResponse(read_notice(body, interval)?),
+        Subtype::Action => read_action_body(body)?,
+    };
+    Ok(Received {
+        broadcast: header.broadcast,
+        frame,
+    })
+}
+
+#[cfg(test)]
+mod tests {
+    use super::*;
+    use crate::measurement::{Asks, Says};
+    use crate::sample::{action, notice, quiet, ALL, AP, OWN};
+
+    fn read(frame: &[u8]) -> Result<Received, u8> {
+        read_frame(frame, OWN, AP, 100)
+    }
+
+    fn refusal(frame: &[u8]) -> u8 {
+        read(frame).err().unwrap_or(0)
+    }
+
+    /// The refusal of a beacon with these elements; a probe response agrees.
+    fn of_notice(elements: &[u8]) -> u8 {
+        let answer = refusal(&notice(8, OWN, 100, elements));
+        assert_eq!(answer, refusal(&notice(5, ALL, 100, elements)));
+        answer
+    }
+
+    fn of_body(body: &[u8]) -> u8 {
+        refusal(&action(OWN, body))
+    }
+
+    #[test]
+    fn a_full_notice() {
+        let mut elements = vec![0, 2, b'h', b'i'];
+        elements.extend_from_slice(&[32, 1, 3, 35, 2, 0xFF, 0x80, 37, 3, 1, 44, 2]);
+        elements.extend_from_slice(&quiet(1, 2, 3, 4));
+        elements.extend_from_slice(&[40, 6, 255, 255, 255, 255, 99, 0]);
+        // A measurement element means nothing here: skipped.
+        elements.extend_from_slice(&[38, 1, 0, 34, 0, 34, 0, 255, 0]);
+        let expected = Notice {
+            timestamp: 0x0807_0605_0403_0201,
+            capability: 0x0D0C,
+            constraint: Some(3),
+            tpc_report: Some((-1, -128)),
+            switch: Some(Switch {
+                mode: 1,
+                channel: 44,
+                count: 2,
+            }),
+            quiets: vec![
+                Quiet {
+                    count: 1,
+                    period: 2,
+                    duration: 3,
+                    offset: 4,
+                },
+                Quiet {
+                    count: 255,
+                    period: 255,
+                    duration: 65_535,
+                    offset: 99,
+                },
+            ],
+        };
+        assert_eq!(
+            read(&notice(8, OWN, 100, &elements)),
+            Ok(Received {
+                broadcast: false,
+                frame: Frame::Beacon(expected.clone())
+            })
+        );
+        assert_eq!(
+            read(&notice(5, ALL, 100, &elements)),
+            Ok(Received {
+                broadcast: true,
+                frame: Frame::ProbeResponse(expected)
+            })
+        );
+    }
+
+    #[test]
+    fn fixed_fields_of_a_notice() {
+        let whole = notice(8, OWN, 100, &[]);
+        assert_eq!(whole.len(), 36);
+        assert_eq!(refusal(&whole), 0);
+        for length in 24..36 {
+            assert_eq!(refusal(&whole[..length]), 1);
+        }
+        // A missing field comes before the interval, the interval before elements.
+        assert_eq!(refusal(&notice(8, OWN, 99, &[])[..35]), 1);
+        for subtype in [5, 8] {
+            for interval in [0, 99, 101, 65_535] {
+                assert_eq!(refusal(&notice(subtype, OWN, interval, &[32])), 12);
+            }
+        }
+        // The high octet of the interval counts too.
+        assert_eq!(refusal(&notice(8, OWN, 100 + 256, &[])), 12);
+    }
+
+    #[test]
+    fn elements_of_a_notice() {
+        assert_eq!(of_notice(&[0]), 6);
+        assert_eq!(of_notice(&[0, 0]), 0);
+        assert_eq!(of_notice(&[0, 1]), 6);
+        assert_eq!(of_notice(&[0, 1, 7]), 0);
+        assert_eq!(of_notice(&[32, 2, 7]), 6);
+        assert_eq!(of_notice(&[32, 2, 7, 7]), 8);
+        assert_eq!(of_notice(&[35, 1, 7]), 8);
+        assert_eq!(of_notice(&[37, 3, 2, 36, 1]), 9);
+        assert_eq!(of_notice(&[37, 3, 1, 200, 1]), 0);
+        assert_eq!(of_notice(&[37, 3, 1, 201, 1]), 9);
+        assert_eq!(of_notice(&[40, 6, 1, 0, 0, 0, 99, 0]), 0);
+        assert_eq!(of_notice(&[40, 6, 1, 0, 0, 0, 100, 0]), 9);
+        assert_eq!(of_notice(&[40, 6, 0, 0, 0, 0, 0, 0]), 9);
+        assert_eq!(of_notice(&[40, 5, 0, 0, 0, 0, 0]), 8);
+    }
+
+    #[test]
+    fn repeats_in_a_notice() {
+        assert_eq!(of_notice(&[32, 1, 3, 32, 1, 3]), 10);
+        assert_eq!(of_notice(&[35, 2, 0, 0, 35, 2, 0, 0]), 10);
+        assert_eq!(of_notice(&[37, 3, 0, 36, 1, 37, 3, 0, 36, 1]), 10);
+        // Contents cut, length and value come before the repeat.
+        assert_eq!(of_notice(&[32, 1, 3, 32, 1]), 6);
+        assert_eq!(of_notice(&[32, 1, 3, 32, 0]), 8);
+        assert_eq!(of_notice(&[37, 3, 0, 36, 1, 37, 3, 2, 36, 1]), 9);
+        // The repeat comes before what lies to its right.
+        assert_eq!(of_notice(&[32, 1, 3, 32, 1, 3, 0]), 10);
+    }
+
+    #[test]
+    fn eight_and_nine_quiets() {
+        let mut elements = Vec::new();
+        for _ in 0..8 {
+            elements.extend_from_slice(&quiet(1, 0, 1, 0));
+        }
+        assert_eq!(of_notice(&elements), 0);
+        let eight = elements.len();
+        elements.extend_from_slice(&quiet(1, 0, 1, 0));
+        assert_eq!(of_notice(&elements), 11);
+        // A wrong ninth is refused for what is wrong with it.
+        elements[eight + 2] = 0;
+        assert_eq!(of_notice(&elements), 9);
+        elements[eight + 1] = 5;
+        elements.pop();
+        assert_eq!(of_notice(&elements), 8);
+    }
+
+    #[test]
+    fn any_interval_can_be_read() {
+        let frame = notice(8, OWN, 0, &[]);
+        assert!(read_frame(&frame, OWN, AP, 0).is_ok());
+        let frame = notice(8, OWN, 0, &quiet(1, 0, 0, 0));
+        assert_eq!(read_frame(&frame, OWN, AP, 0), Err(9));
+        let frame = notice(8, OWN, 65_535, &quiet(1, 0, 0, 65_534));
+        assert!(read_frame(&frame, OWN, AP, 65_535).is_ok());
+        let frame = notice(8, OWN, 65_535, &quiet(1, 0, 0, 65_535));
+        assert_eq!(read_frame(&frame, OWN, AP, 65_535), Err(9));
+    }
+
+    #[test]
+    fn start_of_an_action_body() {
+        assert_eq!(of_body(&[]), 1);
+        assert_eq!(of_body(&[1]), 5);
+        assert_eq!(of_body(&[128]), 5);
+        assert_eq!(of_body(&[0]), 1);
+        assert_eq!(of_body(&[0, 5]), 5);
+        assert_eq!(of_body(&[0, 255]), 5);
+        for action in 0..=3u8 {
+            assert_eq!(of_body(&[0, action]), 1);
+            assert_eq!(of_body(&[1, action]), 5);
+            assert_eq!(of_body(&[0, action, 1]), 7);
+        }
+        // Action 4 has no token.
+        assert_eq!(of_body(&[0, 4]), 7);
+        // Token 0 comes before the elements.
+        assert_eq!(of_body(&[0, 0, 0]), 9);
+        assert_eq!(of_body(&[0, 1, 0]), 7);
+        assert_eq!(of_body(&[0, 2, 0]), 9);
+        assert_eq!(of_body(&[0, 3, 0]), 7);
+    }
+
+    #[test]
+    fn tpc_frames() {
+        assert_eq!(
+            read(&action(OWN, &[0, 2, 7, 34, 0])).map(|r| r.frame),
+            Ok(Frame::TpcRequest { token: 7 })
+        );
+        assert_eq!(of_body(&[0, 2, 7, 34]), 6);
+        assert_eq!(of_body(&[0, 2, 7, 35]), 6);
+        assert_eq!(of_body(&[0, 2, 7, 35, 9]), 7);
+        assert_eq!(of_body(&[0, 2, 7, 34, 1]), 6);
+        assert_eq!(of_body(&[0, 2, 7, 34, 1, 0]), 8);
+        assert_eq!(of_body(&[0, 2, 7, 34, 0, 0]), 7);
+        // Another element before the right one is not skipped.
+        assert_eq!(of_body(&[0, 2, 7, 0, 0, 34, 0]), 7);
+        assert_eq!(
+            read(&action(ALL, &[0, 3, 0, 35, 2, 0x80, 0x7F])),
+            Ok(Received {
+                broadcast: true,
+                frame: Frame::TpcReport {
+                    token: 0,
+                    power: -128,
+                    margin: 127
+                }
+            })
+        );
+        assert_eq!(of_body(&[0, 3, 0, 35, 2, 0]), 6);
+        assert_eq!(of_body(&[0, 3, 0, 35, 1, 0]), 8);
+        assert_eq!(of_body(&[0, 3, 0, 35, 2, 0, 0, 35]), 7);
+    }
+
+    #[test]
+    fn channel_switch_frame() {
+        assert_eq!(
+            read(&action(OWN, &[0, 4, 37, 3, 1, 200, 0])).map(|r| r.frame),
+            Ok(Frame::ChannelSwitch(Switch {
+                mode: 1,
+                channel: 200,
+                count: 0
+            }))
+        );
+        assert_eq!(of_body(&[0, 4, 37, 3, 1, 201, 0]), 9);
+        assert_eq!(of_body(&[0, 4, 37, 3, 2, 200, 0]), 9);
+        // The value comes before the left-over octet.
+        assert_eq!(of_body(&[0, 4, 37, 3, 2, 200, 0, 0]), 9);
+        assert_eq!(of_body(&[0, 4, 37, 3, 1, 200, 0, 0]), 7);
+        assert_eq!(of_body(&[0, 4, 37, 2, 1, 200]), 8);
+        assert_eq!(of_body(&[0, 4, 37, 3, 1, 200]), 6);
+        assert_eq!(of_body(&[0, 4, 38, 3, 1, 200]), 7);
+    }
+
+    #[test]
+    fn measurement_request_frame() {
+        let body = [0, 0, 5, 38, 3, 1, 2 | 4, 9, 38, 4, 2, 0, 77, 1];
+        let received = read(&action(OWN, &body)).unwrap();
+        let first = Request {
+            token: 1,
+            kind: 9,
+            asks: Asks::Enable {
+                request: true,
+                report: false,
+            },
+        };
+        let second = Request {
+            token: 2,
+            kind: 77,
+            asks: Asks::Uninterpreted,
+        };
+        assert_eq!(
+            received.frame,
+            Frame::MeasurementRequest {
+                token: 5,
+                requests: vec![first, second]
+            }
+        );
+        assert_eq!(received.frame.request(0), Ok(first));
+        assert_eq!(received.frame.request(1), Ok(second));
+        assert_eq!(received.frame.request(2), Err(16));
+        assert_eq!(received.frame.request(usize::MAX), Err(16));
+        assert_eq!(received.frame.report(0), Err(16));
+        // Left-over octets are judged as a further element.
+        let with = |more: &[u8]| {
+            let mut longer = body.to_vec();
+            longer.extend_from_slice(more);
+            of_body(&longer)
+        };
+        assert_eq!(with(&[38]), 6);
+        assert_eq!(with(&[39]), 6);
+        assert_eq!(with(&[39, 0]), 7);
+        assert_eq!(with(&[38, 3]), 6);
+        assert_eq!(with(&[38, 2, 3, 2]), 8);
+        assert_eq!(with(&[38, 3, 0, 2, 0]), 9);
+        // A repeated token comes after length and value of its element.
+        assert_eq!(with(&[38, 3, 3, 2, 0]), 0);
+        assert_eq!(with(&[38, 3, 1, 2, 0]), 10);
+        assert_eq!(with(&[38, 3, 1, 0, 0]), 8);
+        assert_eq!(
+            with(&[38, 14, 1, 0, 0, 201, 0, 0, 0, 0, 0, 0, 0, 0, 0, 0]),
+            9
+        );
+        assert_eq!(
+            with(&[38, 14, 1, 0, 0, 200, 0, 0, 0, 0, 0, 0, 0, 0, 0, 0]),
+            10
+        );
+        assert_eq!(
+            with(&[38, 14, 3, 0, 0, 200, 0, 0, 0, 0, 0, 0, 0, 0, 0, 0]),
+            0
+        );
+    }
+
+    #[test]
+    fn measurement_report_frame() {
+        // The same measurement token twice is no fault in a report frame.
+        let body = [
+            0, 1, 0, 39, 3, 0, 1, 9, 39, 3, 0, 4, 0, 39, 5, 1, 0, 3, 1, 1,
+        ];
+        let received = read(&action(OWN, &body)).unwrap();
+        let reports = vec![
+            Report {
+                token: 0,
+                kind: 9,
+                says: Says::Late,
+            },
+            Report {
+                token: 0,
+                kind: 0,
+                says: Says::Refused,
+            },
+            Report {
+                token: 1,
+                kind: 3,
+                says: Says::Uninterpreted,
+            },
+        ];
+        assert_eq!(received.frame.report(2), Ok(reports[2]));
+        assert_eq!(received.frame.report(3), Err(16));
+        assert_eq!(received.frame.request(0), Err(16));
+        assert_eq!(
+            received.frame,
+            Frame::MeasurementReport { token: 0, reports }
+        );
+        assert_eq!(of_body(&[0, 1, 0, 39, 3, 0, 3, 9]), 9);
+        assert_eq!(of_body(&[0, 1, 0, 39, 2, 0, 3]), 8);
+        assert_eq!(of_body(&[0, 1, 0, 38, 3, 1, 2, 0]), 7);
+    }
+
+    #[test]
+    fn the_header_comes_before_the_body() {
+        let mut frame = action(OWN, &[1]);
+        frame[16] ^= 2;
+        assert_eq!(refusal(&frame), 4);
+        frame[22] = 1;
+        assert_eq!(refusal(&frame), 3);
+        frame.resize(2337, 0);
+        assert_eq!(refusal(&frame), 2);
+        assert_eq!(refusal(&frame[..23]), 1);
+    }
+
+    #[test]
+    fn no_octets_make_it_panic() {
+        // Every short body over a small alphabet, behind each subtype.
+        let alphabet = [0u8, 1, 2, 3, 34, 37, 38, 39];
+        for subtype in [5u8, 8, 13] {
+            for number in 0..8usize.pow(5) {
+                let body: Vec<u8> = (0..5)
+                    .map(|place| alphabet[number / 8usize.pow(place) % 8])
+                    .collect();
+                for length in 0..=5 {
+                    let mut frame = crate::sample::header(subtype, OWN);
+                    frame.extend_from_slice(&body[..length]);
+                    let _ = read(&frame);
+                }
+            }
+        }
+    }
+}

@@ -1,0 +1,177 @@
+//! The header of a management frame (base standard; section "Octets").
+
+use crate::answer::{ADDRESSES, FRAME_CONTROL, FRAME_LONG, FRAME_SHORT};
+use crate::Address;
+
+/// Octets of a header: control (1), flags (1), duration (2), three addresses,
+/// sequence control (2).
+pub(crate) const HEADER: usize = 24;
+/// The longest frame that is read.
+pub(crate) const FRAME_LIMIT: usize = 2336;
+
+const DA: usize = 4;
+const SA: usize = 10;
+const BSSID: usize = 16;
+const SEQUENCE: usize = 22;
+
+/// To DS, From DS, More Fragments and Protected; the other flags are free.
+const FORBIDDEN_FLAGS: u8 = 0b0100_0111;
+/// The fragment number is the low half of the first sequence control octet.
+const FRAGMENT: u8 = 0b0000_1111;
+/// Octet 0 of an Action frame: version 0, type 0, subtype 13.
+const ACTION_CONTROL: u8 = 13 << 4;
+
+const ALL_ONES: Address = [0xFF; 6];
+
+/// The three subtypes of management frames that are read.
+#[derive(Clone, Copy, Debug, PartialEq, Eq)]
+pub(crate) enum Subtype {
+    ProbeResponse,
+    Beacon,
+    Action,
+}
+
+/// What the checks 1 to 4 leave to know about a header.
+#[derive(Clone, Copy, Debug, PartialEq, Eq)]
+pub(crate) struct Header {
+    pub(crate) subtype: Subtype,
+    /// DA is all ones.
+    pub(crate) broadcast: bool,
+}
+
+/// The checks 1 to 4, in this order; gives the header and the body.
+pub(crate) fn read_header(frame: &[u8], own: Address, ap: Address) -> Result<(Header, &[u8]), u8> {
+    if frame.len() < HEADER {
+        return Err(FRAME_SHORT);
+    }
+    if frame.len() > FRAME_LIMIT {
+        return Err(FRAME_LONG);
+    }
+    let subtype = read_control(frame)?;
+    let broadcast = read_addresses(frame, own, ap)?;
+    Ok((Header { subtype, broadcast }, &frame[HEADER..]))
+}
+
+/// Check 3, on a frame of at least `HEADER` octets.
+fn read_control(frame: &[u8]) -> Result<Subtype, u8> {
+    let version_and_type = frame[0] & 0b1111;
+    let fragment = frame[SEQUENCE] & FRAGMENT;
+    if version_and_type != 0 || frame[1] & FORBIDDEN_FLAGS != 0 || fragment != 0 {
+        return Err(FRAME_CONTROL);
+    }
+    match frame[0] >> 4 {
+        5 => Ok(Subtype::ProbeResponse),
+        8 => Ok(Subtype::Beacon),
+        13 => Ok(Subtype::Action),
+        _ => Err(FRAME_CONTROL),
+    }
+}
+
+/// Check 4, on a frame of at least `HEADER` octets; answers whether DA is all ones.
+fn read_addresses(frame: &[u8], own: Address, ap: Address) -> Result<bool, u8> {
+    let da = address_at(frame, DA);
+    if address_at(frame, SA) != ap || address_at(frame, BSSID) != ap {
+        return Err(ADDRESSES);
+    }
+    if da != own && da != ALL_ONES {
+        return Err(ADDRESSES);
+    }
+    Ok(da == ALL_ONES)
+}
+
+fn address_at(frame: &[u8], at: usize) -> Address {
+    let mut address = [0; 6];
+    address.copy_from_slice(&frame[at..at + 6]);
+    address
+}
+
+/// The header of a reply from the station to its AP: flags, duration and
+/// sequence control are 0.
+pub(crate) fn reply_header(own: Address, ap: Address) -> [u8; HEADER] {
+    let mut header = [0; HEADER];
+    header[0] = ACTION_CONTROL;
+    header[DA..DA + 6].copy_from_slice(&ap);
+    header[SA..SA + 6].copy_from_slice(&own);
+    header[BSSID..BSSID + 6].copy_from_slice(&ap);
+    header
+}
+
+#[cfg(test)]
+mod tests {
+    use super::*;
+    use crate::sample::{header, AP, OWN};
+
+    fn refusal(frame: &[u8]) -> u8 {
+        read_header(frame, OWN, AP).err().unwrap_or(0)
+    }
+
+    #[test]
+    fn length_on_both_sides() {
+        let mut frame = header(13, OWN);
+        assert_eq!(refusal(&frame[..23]), 1);
+        assert_eq!(refusal(&[]), 1);
+        assert_eq!(refusal(&frame), 0);
+        frame.resize(2336, 0);
+        assert_eq!(refusal(&frame), 0);
+        frame.push(0);
+        assert_eq!(refusal(&frame), 2);
+        // 2 comes before 3.
+        frame[0] = 0xFF;
+        assert_eq!(refusal(&frame), 2);
+    }
+
+    #[test]
+    fn every_first_octet() {
+        for octet in 0..=255u8 {
+            let mut frame = header(13, OWN);
+            frame[0] = octet;
+            let right = matches!(octet, 0x50 | 0x80 | 0xD0);
+            assert_eq!(refusal(&frame), if right { 0 } else { 3 });
+        }
+    }
+
+    #[test]
+    fn every_flag() {
+        for flags in 0..=255u8 {
+            let mut frame = header(8, OWN);
+            frame[1] = flags;
+            let wrong =
+                flags & 0x01 != 0 || flags & 0x02 != 0 || flags & 0x04 != 0 || flags & 0x40 != 0;
+            assert_eq!(refusal(&frame), if wrong { 3 } else { 0 });
+        }
+    }
+
+    #[test]
+    fn every_sequence_control() {
+        for octet in 0..=255u8 {
+            let mut frame = header(5, OWN);
+            frame[22] = octet;
+            frame[23] = octet;
+            assert_eq!(refusal(&frame), if octet & 0x0F == 0 { 0 } else { 3 });
+        }
+    }
+
+    #[test]
+    fn addresses() {
+        for at in 10..22usize {
+            let mut frame = header(8, OWN);
+            frame[at] ^= 0x80;
+            assert_eq!(refusal(&frame), 4);
+            // 3 comes before 4.
+            frame[1] = 1;
+            assert_eq!(refusal(&frame), 3);
+        }
+        for at in 4..10usize {
+            let mut frame = header(8, OWN);
+            frame[at] ^= 0x80;
+            assert_eq!(refusal(&frame), 4);
+        }
+        assert_eq!(refusal(&header(8, [0xFF; 6])), 0);
+        let mut almost = [0xFF; 6];
+        almost[0] = 0xFE;
+        assert_eq!(refusal(&header(8, almost)), 4);
+        let to_all = header(8, [0xFF; 6]);
+        assert!(read_header(&to_all, OWN, AP).unwrap().0.broadcast);
+        assert!(!read_header(&header(8, OWN), OWN, AP).unwrap().0.broadcast);
+    }
+}

@@ -1,0 +1,49 @@
+//! A second, independent reading of document 01 ("Scope of the build and its
+//! rules") over IEEE Std 802.11h-2003: elements, action frames, replies, one
+//! non-AP station, and the evening list of a capture.
+//!
+//! Every refusal is a `u8` of the document's table, see [`answer`]. No
+//! function panics, and a refusal leaves lent buffers and the station as they
+//! were.
+
+#![forbid(unsafe_code)]
+#![warn(missing_docs)]
+
+pub mod answer;
+pub mod body;
+pub mod capture;
+pub mod channel;
+pub mod element;
+pub mod fraction;
+pub mod frame;
+mod header;
+pub mod measurement;
+mod octets;
+pub mod reply;
+pub mod station;
+
+#[cfg(test)]
+mod sample;
+
+/// A MAC address, in the order of its octets on the air.
+pub type Address = [u8; 6];
+
+pub use body::{
+    write_channel_switch_body, write_measurement_report_body, write_measurement_request_body,
+    write_tpc_report_body, write_tpc_request_body,
+};
+pub use capture::list;
+pub use channel::{centre, CENTRES};
+pub use element::{
+    read_channel_switch, read_power_constraint, read_quiet, read_tpc_report, read_tpc_request,
+    write_channel_switch, write_power_constraint, write_quiet, write_tpc_report, write_tpc_request,
+    Quiet, Switch,
+};
+pub use fraction::{busy_fraction, rpi_densities};
+pub use frame::{read_frame, Frame, Notice, Received};
+pub use measurement::{
+    read_measurement_report, read_measurement_request, write_measurement_report,
+    write_measurement_request, Asks, Report, Request, Says,
+};
+pub use reply::{reply_to_measurement_request, reply_to_tpc_request, Finding};
+pub use station::Station;
