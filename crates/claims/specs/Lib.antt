@@ -1,3 +1,4 @@
+pub mod BodyCalls
 pub mod Exchanged
 pub mod FedFiles
 pub mod Histories

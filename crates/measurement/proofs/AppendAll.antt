@@ -1,5 +1,5 @@
--- A list that may be written, written by one call of `append` for each record into a buffer with room: every call is accepted, and
--- the body's octets are then in front, with the rest of the buffer as it was. Assumes nothing.
+-- A list that may be written and whose body is not too long, written by one call of `append` for each record into a buffer with
+-- room: every call is accepted, and the body's octets are then in front, with the rest of the buffer as it was. Assumes nothing.
 use mathlib.Core.Path.{_≡_, refl, sym, ap, ap₂, subst, _∙_}
 use mathlib.Core.Bool.{Bool, true, false, _&&_}
 use mathlib.Core.List.{List, [], _∷_, _++_, append-nil, append-assoc}
@@ -14,7 +14,7 @@ use Rattle.answer.proofs.Booleans.{clash, both}
 use Rattle.octets.specs.Numbers.{Octets}
 use Rattle.octets.specs.Writing.{wrote, left}
 use Rattle.walk.specs.Elements.{elementsIn}
-use Rattle.measurement.specs.Bodies.{bodyOctets, begins, mayAppend, appended}
+use Rattle.measurement.specs.Bodies.{longestBody, bodyOctets, begins, mayAppend, appended}
 use Rattle.measurement.specs.Calls.{Buffer, behind, mayPut, appends}
 use Rattle.measurement.specs.Lists.{AllFit, Sort, recordsIn, allClear, allInterpreted, allOctets, mayAll, mayList}
 use Rattle.measurement.proofs.ListTrip.{Trip, first, may-first, list-there, list-known, list-clean, list-back, list-fits}
@@ -49,6 +49,9 @@ module _ {A : Type 0} (s : Sort A) (Fits : A → Type 0) (t : Trip s Fits) (acti
       ∙ ap (λ (r : List ℕ). 0 ∷ action ∷ token ∷ r)
       (ap (λ (r : List ℕ). allOctets s (x ∷ l) ++ r) (sym (one-octets a)) ∙ sym (octets-append (x ∷ l) (a ∷ [])))
 
+  longer : (l : List A) (a : A) → length (there l) + length (appended s action token a (there l)) ≡ length (there (l ++ (a ∷ [])))
+  longer l a = sym (length-append (there l) (appended s action token a (there l))) ∙ ap length (there-more l a)
+
   grows : (l m : List A) → length (there l) ≤ length (there (l ++ m))
   grows [] m = omega arith
   grows (x ∷ l) m =
@@ -64,14 +67,18 @@ module _ {A : Type 0} (s : Sort A) (Fits : A → Type 0) (t : Trip s Fits) (acti
   unfolding mayList
   may-list x l m = simp (lt-ltb 0 (suc (length l)) (omega arith)) m
 
-  -- the test accepts a record that may stand behind those that were written
+  short-enough : (l : List A) (a : A) → length (there (l ++ (a ∷ []))) ≤ longestBody
+      → leb (length (there l) + length (appended s action token a (there l))) longestBody ≡ true
+  short-enough l a short = le-leb (length (there l) + length (appended s action token a (there l))) longestBody (omega (arith, longer l a))
+
+  -- the test accepts a record that may stand behind those that were written, where the body is then not too long
   accepts : (l : List A) (a : A) → AllFit Fits l → mayAll s [] l ≡ true → s .may a ≡ true → s .repeats a l ≡ false
-      → mayAppend s action token a true (there l) ≡ true
+      → length (there (l ++ (a ∷ []))) ≤ longestBody → mayAppend s action token a true (there l) ≡ true
   unfolding mayAppend
-  accepts [] a f m may new = simp may
-  accepts (x ∷ l) a f m may new =
+  accepts [] a f m may new short = simp (may, short-enough [] a short)
+  accepts (x ∷ l) a f m may new short =
       let os = allOctets s (x ∷ l) in
-      simp (may, some os, list-clean s Fits t (x ∷ l) [] m, list-there s Fits t (x ∷ l) f (may-list x l m), list-known s Fits t (x ∷ l) [] m, new)
+      simp (may, short-enough (x ∷ l) a short, some os, list-clean s Fits t (x ∷ l) [] m, list-there s Fits t (x ∷ l) f (may-list x l m), list-known s Fits t (x ∷ l) [] m, new)
       (ap (λ (b : Bool). b && true) (begun os))
 
   -- ---- one call
@@ -80,17 +87,14 @@ module _ {A : Type 0} (s : Sort A) (Fits : A → Type 0) (t : Trip s Fits) (acti
     abbrev added : List ℕ
     added = appended s action token a (there l)
 
-    longer : length (there l) + length added ≡ length (there (l ++ (a ∷ [])))
-    longer = sym (length-append (there l) added) ∙ ap length (there-more l a)
-
     seam : take (length (there l)) (filled (there l) buffer) ≡ there l
     seam = take-append-seam (there l) (drop (length (there l)) buffer)
 
     may-call : mayAppend s action token a true (there l) ≡ true → mayPut s action token true a (length (there l)) (filled (there l) buffer) ≡ true
     may-call h =
-        let size = filled-length (there l) buffer (omega (arith, longer)) in
+        let size = filled-length (there l) buffer (omega (arith, longer l a)) in
         let within : leb (length (there l)) (length (filled (there l) buffer)) ≡ true =
-        le-leb (length (there l)) (length (filled (there l) buffer)) (omega (arith, longer)) in
+        le-leb (length (there l)) (length (filled (there l) buffer)) (omega (arith, longer l a)) in
         rw (within, seam) h
 
     call : (xs : List A) → mayAppend s action token a true (there l) ≡ true
@@ -100,11 +104,11 @@ module _ {A : Type 0} (s : Sort A) (Fits : A → Type 0) (t : Trip s Fits) (acti
     call xs h =
         let n = length (there l) in
         let b = filled (there l) buffer in
-        let fits : length (there l) + length added ≤ length buffer = omega (arith, longer) in
+        let fits : length (there l) + length added ≤ length buffer = omega (arith, longer l a) in
         ap₂ (λ (m : Bool) (os : List ℕ). behind (wrote m os n b) n (left m os n b) (appends s action token true xs)) (may-call h)
         (ap (appended s action token a) seam)
         ∙ ap₂ (λ (o : Outcome ℕ) (r : List ℕ). behind o n r (appends s action token true xs)) (answers (there l) added buffer fits) (leaves (there l) added buffer fits)
-        ∙ ap₂ (λ (k : ℕ) (r : List ℕ). appends s action token true xs k (filled r buffer)) longer (there-more l a)
+        ∙ ap₂ (λ (k : ℕ) (r : List ℕ). appends s action token true xs k (filled r buffer)) (longer l a) (there-more l a)
 
   -- ---- all of them
 
@@ -126,38 +130,39 @@ module _ {A : Type 0} (s : Sort A) (Fits : A → Type 0) (t : Trip s Fits) (acti
   holding os buffer = record { used = accepted (length os); octets = filled os buffer }
 
   all : (xs l : List A) (buffer : List ℕ) → AllFit Fits l → mayAll s [] l ≡ true → AllFit Fits xs → mayAll s l xs ≡ true
-      → length (there (l ++ xs)) ≤ length buffer
+      → length (there (l ++ xs)) ≤ longestBody → length (there (l ++ xs)) ≤ length buffer
       → appends s action token true xs (length (there l)) (filled (there l) buffer) ≡ holding (there (l ++ xs)) buffer
   unfolding appends
-  all [] l buffer f m g n room = ap (λ (k : List A). holding (there k) buffer) (sym (append-nil l))
-  all (a ∷ xs) l buffer f m g n room =
+  all [] l buffer f m g n short room = ap (λ (k : List A). holding (there k) buffer) (sym (append-nil l))
+  all (a ∷ xs) l buffer f m g n short room =
       let p = first s Fits t l a xs n in
       let next = append-snoc l a xs in
-      let here : length (there (l ++ (a ∷ []) ++ xs)) ≤ length buffer = subst (λ (k : List A). length (there k) ≤ length buffer) (sym next) room in
-      call l a buffer (omega (arith, grows (l ++ (a ∷ [])) xs)) xs (accepts l a f m (p .0) (p .1))
-      ∙ all xs (l ++ (a ∷ [])) buffer (fit-snoc l a f (g .0)) (may-snoc l [] a m (p .0) (p .1)) (g .1) (p .2) here
+      let size : length (there (l ++ (a ∷ []) ++ xs)) ≡ length (there (l ++ (a ∷ xs))) = ap (λ (k : List A). length (there k)) next in
+      let more = grows (l ++ (a ∷ [])) xs in
+      call l a buffer (omega arith) xs (accepts l a f m (p .0) (p .1) (omega arith))
+      ∙ all xs (l ++ (a ∷ [])) buffer (fit-snoc l a f (g .0)) (may-snoc l [] a m (p .0) (p .1)) (g .1) (p .2) (omega arith) (omega arith)
       ∙ ap (λ (k : List A). holding (there k) buffer) next
 
-  all-from-empty : (xs : List A) (buffer : List ℕ) → AllFit Fits xs → mayList s xs ≡ true → length (bodyOctets s action token xs) ≤ length buffer
-      → appends s action token true xs 0 buffer ≡ holding (bodyOctets s action token xs) buffer
+  all-from-empty : (xs : List A) (buffer : List ℕ) → AllFit Fits xs → mayList s xs ≡ true → length (bodyOctets s action token xs) ≤ longestBody
+      → length (bodyOctets s action token xs) ≤ length buffer → appends s action token true xs 0 buffer ≡ holding (bodyOctets s action token xs) buffer
   unfolding mayList mayAll
-  all-from-empty [] buffer f m room = clash (sym m)
-  all-from-empty (x ∷ xs) buffer f m room =
-      all (x ∷ xs) [] buffer tt refl f (both (ltb 0 (length (x ∷ xs))) (mayAll s [] (x ∷ xs)) m .1) room
+  all-from-empty [] buffer f m short room = clash (sym m)
+  all-from-empty (x ∷ xs) buffer f m short room =
+      all (x ∷ xs) [] buffer tt refl f (both (ltb 0 (length (x ∷ xs))) (mayAll s [] (x ∷ xs)) m .1) short room
 
   module _ (start : Bool) (allowed : start ≡ true) (buffer : List ℕ) where
-    pub append-all : (xs : List A) → AllFit Fits xs → mayList s xs ≡ true → length (bodyOctets s action token xs) ≤ length buffer
-        → appends s action token start xs 0 buffer
+    pub append-all : (xs : List A) → AllFit Fits xs → mayList s xs ≡ true → length (bodyOctets s action token xs) ≤ longestBody
+        → length (bodyOctets s action token xs) ≤ length buffer → appends s action token start xs 0 buffer
         ≡ record { used = accepted (length (bodyOctets s action token xs)); octets = filled (bodyOctets s action token xs) buffer }
-    append-all xs f m room = ap (λ (b : Bool). appends s action token b xs 0 buffer) allowed ∙ all-from-empty xs buffer f m room
+    append-all xs f m short room = ap (λ (b : Bool). appends s action token b xs 0 buffer) allowed ∙ all-from-empty xs buffer f m short room
 
     -- so the records of an accepted run, with nothing uninterpreted and no reserved bit set, are written back octet for octet
     pub append-back : (run : List ℕ) (xs : List A) → Octets run → recordsIn s run ≡ accepted xs → allInterpreted s xs ≡ true
-        → allClear s (elementsIn run) ≡ true → length (0 ∷ action ∷ token ∷ run) ≤ length buffer
-        → appends s action token start xs 0 buffer
+        → allClear s (elementsIn run) ≡ true → length (0 ∷ action ∷ token ∷ run) ≤ longestBody
+        → length (0 ∷ action ∷ token ∷ run) ≤ length buffer → appends s action token start xs 0 buffer
         ≡ record { used = accepted (length (0 ∷ action ∷ token ∷ run)); octets = filled (0 ∷ action ∷ token ∷ run) buffer }
-    append-back run xs o h i c room =
+    append-back run xs o h i c short room =
         let b = list-back s Fits t run xs o h i c in
-        append-all xs (list-fits s Fits t run xs o h) (b .0)
-        (subst (λ (r : List ℕ). length (0 ∷ action ∷ token ∷ r) ≤ length buffer) (sym (b .1)) room)
+        let size = ap length (b .1) in
+        append-all xs (list-fits s Fits t run xs o h) (b .0) (omega arith) (omega arith)
         ∙ ap (λ (r : List ℕ). holding (0 ∷ action ∷ token ∷ r) buffer) (b .1)

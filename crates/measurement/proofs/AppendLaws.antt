@@ -1,18 +1,19 @@
 -- The ways through the test whether a record may be written behind what is there. Assumes nothing.
-use mathlib.Core.Path.{_≡_, sym, ap, _∙_}
+use mathlib.Core.Path.{_≡_, refl, sym, ap, _∙_}
 use mathlib.Core.Bool.{Bool, true, false, not, _&&_}
-use mathlib.Core.List.{List}
-use Prim.Native.Nat.{ℕ, _-_, _≤_}
-use borrow.Author.Tests.{eq-eqb, ne-eqb, ltb-true}
-use lib.Dec.{ltb}
+use mathlib.Core.List.{List, [], _∷_, _++_}
+use Prim.Native.Nat.{ℕ, _+_, _-_, _≤_}
+use native.Mathlib.Omega.{arith}
+use borrow.Author.Tests.{eq-eqb, ne-eqb, eqb-true, ltb-true}
+use lib.Dec.{ltb, leb, eqb}
 use lib.ListN.{length, take, drop, length-drop}
 use lib.Seq.{take-length}
-use Rattle.answer.specs.Checks.{Outcome, refused, accepted}
+use Rattle.answer.specs.Checks.{Outcome, refused, accepted, pick}
 use Rattle.answer.proofs.Booleans.{both}
 use Rattle.element.specs.declared.measurement_report.Report.{Report}
 use Rattle.element.specs.declared.measurement_request.Request.{Request}
 use Rattle.walk.specs.Elements.{elementsIn}
-use Rattle.measurement.specs.Bodies.{begins, joins, mayAppend}
+use Rattle.measurement.specs.Bodies.{longestBody, begins, joins, mayAppend, appended}
 use Rattle.measurement.specs.Lists.{Sort, recordsIn, allClear, allInterpreted}
 use Rattle.measurement.specs.Reports.{reportSort}
 use Rattle.measurement.specs.Requests.{requestSort, used}
@@ -25,6 +26,29 @@ use Rattle.measurement.proofs.Conjunctions.{and-true, and-false, and-as
 pub three : (action token : ℕ) (there : List ℕ) → begins action token there ≡ true → 3 ≤ length there
 three action token there h = ltb-true 2 (length there) (both (ltb 2 (length there)) _ h .0)
 
+module _ {A : Type 0} (s : Sort A) (action token : ℕ) (a : A) (there : List ℕ) where
+  -- whether the body is then short enough
+  abbrev pub staysShort : Bool
+  staysShort = leb (length there + length (appended s action token a there)) longestBody
+
+  -- the octets that the body then has, as the code counts them
+  then-has : length there + length (appended s action token a there) ≡ pick (eqb (length there) 0) 3 (length there) + length (s .octets a)
+  unfolding appended
+  then-has = by (eqb (length there) 0) refl
+    where
+      by : (t : Bool) → eqb (length there) 0 ≡ t
+          → length there + length (pick t (0 ∷ action ∷ token ∷ []) [] ++ s .octets a) ≡ pick t 3 (length there) + length (s .octets a)
+      by true e = omega (arith, eqb-true (length there) 0 e)
+      by false e = refl
+
+  -- what the code's test says of it
+  pub short-as : {count : ℕ} {r t : Bool} → count ≡ length (s .octets a)
+      → r ≡ leb (pick (eqb (length there) 0) 3 (length there) + count) longestBody → r ≡ t → staysShort ≡ t
+  short-as e f g =
+      ap (λ (n : ℕ). leb n longestBody) then-has
+      ∙ ap (λ (n : ℕ). leb (pick (eqb (length there) 0) 3 (length there) + n) longestBody) (sym e)
+      ∙ sym f ∙ g
+
 module _ {A : Type 0} (s : Sort A) (action token : ℕ) (a : A) (start : Bool) (there : List ℕ) where
   pub not-may : s .may a ≡ false → false ≡ mayAppend s action token a start there
   unfolding mayAppend
@@ -36,25 +60,30 @@ module _ {A : Type 0} (s : Sort A) (action token : ℕ) (a : A) (start : Bool) (
     no-start h = simp (may, h)
 
     module _ (starts : start ≡ true) where
-      pub empty : length there ≡ 0 → true ≡ mayAppend s action token a start there
+      pub too-long : staysShort s action token a there ≡ false → false ≡ mayAppend s action token a start there
       unfolding mayAppend
-      empty h = simp (may, starts, eq-eqb (length there) 0 h)
+      too-long h = simp (may, starts, h)
 
-      module _ (some : length there ≡ 0 → ⊥) where
-        -- with some octets there, what is left to test
-        rest : mayAppend s action token a start there
-            ≡ (begins action token there && (allClear s (elementsIn (drop 3 there)) && joins s a (recordsIn s (drop 3 there))))
+      module _ (short : staysShort s action token a there ≡ true) where
+        pub empty : length there ≡ 0 → true ≡ mayAppend s action token a start there
         unfolding mayAppend
-        rest = simp (may, starts, ne-eqb (length there) 0 some)
+        empty h = simp (may, starts, short, eq-eqb (length there) 0 h)
 
-        pub not-begun : begins action token there ≡ false → false ≡ mayAppend s action token a start there
-        not-begun h =
-            sym (rest ∙ ap (λ (b : Bool). b && (allClear s (elementsIn (drop 3 there)) && joins s a (recordsIn s (drop 3 there)))) h)
+        module _ (some : length there ≡ 0 → ⊥) where
+          -- with some octets there, what is left to test
+          rest : mayAppend s action token a start there
+              ≡ (begins action token there && (allClear s (elementsIn (drop 3 there)) && joins s a (recordsIn s (drop 3 there))))
+          unfolding mayAppend
+          rest = simp (may, starts, short, ne-eqb (length there) 0 some)
 
-        pub begun : begins action token there ≡ true
-            → (allClear s (elementsIn (drop 3 there)) && joins s a (recordsIn s (drop 3 there))) ≡ mayAppend s action token a start there
-        begun h =
-            sym (rest ∙ ap (λ (b : Bool). b && (allClear s (elementsIn (drop 3 there)) && joins s a (recordsIn s (drop 3 there)))) h)
+          pub not-begun : begins action token there ≡ false → false ≡ mayAppend s action token a start there
+          not-begun h =
+              sym (rest ∙ ap (λ (b : Bool). b && (allClear s (elementsIn (drop 3 there)) && joins s a (recordsIn s (drop 3 there)))) h)
+
+          pub begun : begins action token there ≡ true
+              → (allClear s (elementsIn (drop 3 there)) && joins s a (recordsIn s (drop 3 there))) ≡ mayAppend s action token a start there
+          begun h =
+              sym (rest ∙ ap (λ (b : Bool). b && (allClear s (elementsIn (drop 3 there)) && joins s a (recordsIn s (drop 3 there)))) h)
 
 -- ---- what the survey of a run says of a record that is to join it
 

@@ -4,6 +4,7 @@ pub mod Conjunctions
 pub mod Lending
 pub mod ListTrip
 pub mod Marking
+pub mod NeverLonger
 pub mod OneCall
 pub mod ReportLists
 pub mod RequestLists

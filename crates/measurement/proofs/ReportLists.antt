@@ -15,7 +15,7 @@ use Rattle.element.proofs.ReportLayout.{made}
 use Rattle.element.proofs.ReportTrip.{report-trip}
 use Rattle.octets.specs.Numbers.{Octets, octet}
 use Rattle.walk.specs.Elements.{elementsIn}
-use Rattle.measurement.specs.Bodies.{bodyOctets}
+use Rattle.measurement.specs.Bodies.{longestBody, bodyOctets}
 use Rattle.measurement.specs.Calls.{appends}
 use Rattle.measurement.specs.Lists.{AllFit, recordsIn, allClear, allInterpreted, allOctets, mayList}
 use Rattle.measurement.specs.Reports.{reportSort}
@@ -82,13 +82,14 @@ reports-back = list-back reportSort ReportFits reports-trip
 -- by one call of `reports::append` for each
 module _ (token : ℕ) (buffer : List ℕ) where
   pub reports-append-all : (xs : List Report) → AllFit ReportFits xs → mayList reportSort xs ≡ true
-      → length (bodyOctets reportSort 1 token xs) ≤ length buffer
+      → length (bodyOctets reportSort 1 token xs) ≤ longestBody → length (bodyOctets reportSort 1 token xs) ≤ length buffer
       → appends reportSort 1 token true xs 0 buffer
       ≡ record { used = accepted (length (bodyOctets reportSort 1 token xs)); octets = filled (bodyOctets reportSort 1 token xs) buffer }
   reports-append-all = append-all reportSort ReportFits reports-trip 1 token true refl buffer
 
   pub reports-append-back : (run : List ℕ) (xs : List Report) → Octets run → recordsIn reportSort run ≡ accepted xs
-      → allInterpreted reportSort xs ≡ true → allClear reportSort (elementsIn run) ≡ true → length (0 ∷ 1 ∷ token ∷ run) ≤ length buffer
+      → allInterpreted reportSort xs ≡ true → allClear reportSort (elementsIn run) ≡ true → length (0 ∷ 1 ∷ token ∷ run) ≤ longestBody
+      → length (0 ∷ 1 ∷ token ∷ run) ≤ length buffer
       → appends reportSort 1 token true xs 0 buffer
       ≡ record { used = accepted (length (0 ∷ 1 ∷ token ∷ run)); octets = filled (0 ∷ 1 ∷ token ∷ run) buffer }
   reports-append-back = append-back reportSort ReportFits reports-trip 1 token true refl buffer

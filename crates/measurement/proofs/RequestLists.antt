@@ -14,7 +14,7 @@ use Rattle.element.proofs.RequestLayout.{made}
 use Rattle.element.proofs.RequestTrip.{request-trip}
 use Rattle.octets.specs.Numbers.{Octets}
 use Rattle.walk.specs.Elements.{elementsIn}
-use Rattle.measurement.specs.Bodies.{bodyOctets}
+use Rattle.measurement.specs.Bodies.{longestBody, bodyOctets}
 use Rattle.measurement.specs.Calls.{appends}
 use Rattle.measurement.specs.Lists.{AllFit, recordsIn, allClear, allInterpreted, allOctets, mayList}
 use Rattle.measurement.specs.Requests.{requestSort}
@@ -62,13 +62,14 @@ requests-back = list-back requestSort RequestFits requests-trip
 -- by one call of `requests::append` for each; the token is not 0
 module _ (token : ℕ) (allowed : not (eqb token 0) ≡ true) (buffer : List ℕ) where
   pub requests-append-all : (xs : List Request) → AllFit RequestFits xs → mayList requestSort xs ≡ true
-      → length (bodyOctets requestSort 0 token xs) ≤ length buffer
+      → length (bodyOctets requestSort 0 token xs) ≤ longestBody → length (bodyOctets requestSort 0 token xs) ≤ length buffer
       → appends requestSort 0 token (not (eqb token 0)) xs 0 buffer
       ≡ record { used = accepted (length (bodyOctets requestSort 0 token xs)); octets = filled (bodyOctets requestSort 0 token xs) buffer }
   requests-append-all = append-all requestSort RequestFits requests-trip 0 token (not (eqb token 0)) allowed buffer
 
   pub requests-append-back : (run : List ℕ) (xs : List Request) → Octets run → recordsIn requestSort run ≡ accepted xs
-      → allInterpreted requestSort xs ≡ true → allClear requestSort (elementsIn run) ≡ true → length (0 ∷ 0 ∷ token ∷ run) ≤ length buffer
+      → allInterpreted requestSort xs ≡ true → allClear requestSort (elementsIn run) ≡ true → length (0 ∷ 0 ∷ token ∷ run) ≤ longestBody
+      → length (0 ∷ 0 ∷ token ∷ run) ≤ length buffer
       → appends requestSort 0 token (not (eqb token 0)) xs 0 buffer
       ≡ record { used = accepted (length (0 ∷ 0 ∷ token ∷ run)); octets = filled (0 ∷ 0 ∷ token ∷ run) buffer }
   requests-append-back = append-back requestSort RequestFits requests-trip 0 token (not (eqb token 0)) allowed buffer

@@ -3,13 +3,17 @@
 use mathlib.Core.Path.{_≡_}
 use mathlib.Core.Bool.{Bool, false, not, _&&_, _||_}
 use mathlib.Core.List.{List, [], _∷_, _++_}
-use Prim.Native.Nat.{ℕ, _≤_}
-use lib.Dec.{ltb, eqb}
+use Prim.Native.Nat.{ℕ, _+_, _≤_}
+use lib.Dec.{ltb, leb, eqb}
 use lib.ListN.{length, take, drop}
 use Rattle.answer.specs.Checks.{Outcome, refused, accepted, pick}
 use Rattle.octets.specs.Numbers.{octet}
 use Rattle.walk.specs.Elements.{elementsIn}
 use Rattle.measurement.specs.Lists.{Sort, recordsIn, allClear, allInterpreted, allOctets}
+
+-- how many octets a body may have (01, "Answer numbers": a frame has at most 2,336 octets, and 24 of them are the header)
+abbrev pub longestBody : ℕ
+longestBody = 2312
 
 -- a body's octets
 abbrev pub bodyOctets : {A : Type 0} → Sort A → ℕ → ℕ → List A → List ℕ
@@ -26,16 +30,16 @@ joins s a (refused r) = false
 joins s a (accepted before) = allInterpreted s before && not (s .repeats a before)
 
 module _ {A : Type 0} (s : Sort A) (action token : ℕ) (a : A) where
-  -- whether the record may be written behind what is there; `start` says that the token may start a body
-  unfoldable pub mayAppend : Bool → List ℕ → Bool
-  mayAppend start there =
-      s .may a && (start &&
-      (eqb (length there) 0 || (begins action token there
-      && (allClear s (elementsIn (drop 3 there)) && joins s a (recordsIn s (drop 3 there))))))
-
   -- the octets that are put behind what is there: with nothing there, the body's first three too
   unfoldable pub appended : List ℕ → List ℕ
   appended there = pick (eqb (length there) 0) (0 ∷ action ∷ token ∷ []) [] ++ s .octets a
+
+  -- whether the record may be written behind what is there; `start` says that the token may start a body
+  unfoldable pub mayAppend : Bool → List ℕ → Bool
+  mayAppend start there =
+      s .may a && (start && (leb (length there + length (appended there)) longestBody &&
+      (eqb (length there) 0 || (begins action token there
+      && (allClear s (elementsIn (drop 3 there)) && joins s a (recordsIn s (drop 3 there)))))))
 
 -- ---- the code's own term, which no public promise cites: octets that lie in front of others
 

@@ -163,11 +163,15 @@ pub fn survey(run: &[u8], index: usize) -> Surveyed
     }
 }
 
-// Whether a report may stand behind what is there.
+// Whether a report may stand behind what is there. The length is judged before the walk, so that nothing longer than a body is walked.
 fn may_append(there: &[u8], token: u8, report: Report) -> bool
     ensures { λ r. ⌜ r ≡ mayAppend reportSort 1 token report true (now (there .entry)) ⌝ }
 {
     if !measurement_report::may_write(report) {
+        return false;
+    }
+    let count = measurement_report::octet_count(report);
+    if !bodies::stays_short(there.len(), count) {
         return false;
     }
     if there.len() == 0 {

@@ -164,7 +164,7 @@ pub fn survey(run: &[u8], index: usize, token: u8) -> Surveyed
     }
 }
 
-// Whether a request may stand behind what is there.
+// Whether a request may stand behind what is there. The length is judged before the walk, so that nothing longer than a body is walked.
 fn may_append(there: &[u8], token: u8, request: Request) -> bool
     ensures { λ r. ⌜ r ≡ mayAppend requestSort 0 token request (not (eqb token 0)) (now (there .entry)) ⌝ }
 {
@@ -172,6 +172,10 @@ fn may_append(there: &[u8], token: u8, request: Request) -> bool
         return false;
     }
     if token == 0 {
+        return false;
+    }
+    let count = measurement_request::octet_count(request);
+    if !bodies::stays_short(there.len(), count) {
         return false;
     }
     if there.len() == 0 {

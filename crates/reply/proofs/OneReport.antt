@@ -4,7 +4,8 @@ use mathlib.Core.List.{List, [], _∷_, _++_, append-nil}
 use mathlib.Core.Path.{_≡_, refl, sym, ap, _∙_, subst}
 use Prim.Native.Nat.{ℕ, _+_, _≤_}
 use native.Mathlib.Omega.{arith}
-use borrow.Author.Tests.{le-ltb}
+use borrow.Author.Tests.{le-ltb, le-leb}
+use lib.Dec.{leb}
 use lib.ListN.{length, take}
 use Rattle.answer.proofs.Judged.{never, stop, past, done}
 use Rattle.answer.specs.Checks.{Outcome, refused, accepted}
@@ -12,7 +13,7 @@ use Rattle.answer.specs.declared.Refusal.{Refusal}
 use Rattle.element.proofs.ReportLayout.{within, counted}
 use Rattle.element.specs.MeasurementReport.{reportMay, reportOctets}
 use Rattle.element.specs.declared.measurement_report.Report.{Report}
-use Rattle.measurement.specs.Bodies.{bodyOctets, mayAppend, appended}
+use Rattle.measurement.specs.Bodies.{longestBody, bodyOctets, mayAppend, appended}
 use Rattle.measurement.specs.Lists.{allOctets}
 use Rattle.measurement.specs.Reports.{reportSort}
 use Rattle.octets.specs.Writing.{told, room, wrote, after, left, Written}
@@ -49,20 +50,24 @@ module _ (token : ℕ) (x : Report) where
   unfolding appended allOctets
   first-octets = ap (λ (xs : List ℕ). 0 ∷ 1 ∷ token ∷ xs) (sym (append-nil (reportOctets x)))
 
-  first-may : mayAppend reportSort 1 token x true [] ≡ reportMay x
-  unfolding mayAppend
-  first-may = and-true (reportMay x)
-
   pub short-body : length (x .densities) ≡ 8 → length body ≤ 27
   unfolding allOctets
   short-body eight =
       omega
       (arith, ap (λ (xs : List ℕ). length xs) (append-nil (reportOctets x)), counted (x .token) (x .kind) (x .densities) eight (x .matter), within (x .matter) .1)
 
+  -- a body of one report is short enough
+  first-short : length (x .densities) ≡ 8 → leb (0 + length (appended reportSort 1 token x [])) longestBody ≡ true
+  first-short eight = le-leb (0 + length (appended reportSort 1 token x [])) longestBody (omega (arith, ap length first-octets, short-body eight))
+
+  first-may : length (x .densities) ≡ 8 → mayAppend reportSort 1 token x true [] ≡ reportMay x
+  unfolding mayAppend
+  first-may eight = simp (first-short eight) (and-true (reportMay x))
+
   module _ (eight : length (x .densities) ≡ 8) (buffer exit : List ℕ) (answer : Wrote) (size : length buffer ≡ 27)
       (w : Written (mayAppend reportSort 1 token x true []) (appended reportSort 1 token x []) 0 buffer answer exit) where
     as-meant : Written (reportMay x) body 0 buffer answer exit
-    as-meant = written-as first-may first-octets w
+    as-meant = written-as (first-may eight) first-octets w
 
     enough : (m : Bool) → m ≡ true → accepted (length body) ≡ wrote m body 0 buffer
     unfolding wrote room
