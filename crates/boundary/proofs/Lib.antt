@@ -1,0 +1,4 @@
+pub mod Coded
+pub mod InARow
+pub mod Slots
+pub mod Unlaid

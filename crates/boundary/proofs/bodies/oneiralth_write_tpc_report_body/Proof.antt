@@ -1,0 +1,20 @@
+-- `oneiralth_write_tpc_report_body` meets its contract: the answer of what it calls, as a number.
+-- Assumes nothing.
+use mathlib.Core.Path.{subst}
+use borrow.Author.Needs.{needs}
+use denote.Ref.{now}
+use mathlib.Core.Bool.{true}
+use Rattle.action.specs.Singles.{tpcReportBody}
+use Rattle.element.specs.declared.tpc_report.TpcReport.{TpcReport}
+use Rattle.boundary.specs.Codes.{Put}
+use Rattle.boundary.proofs.Coded.{put-as}
+use Rattle.boundary.proofs.bodies.oneiralth_write_tpc_report_body.Statement.{statement}
+use Rattle.boundary.proofs.bodies.oneiralth_write_tpc_report_body.Tie as tie
+
+returns : tie.Need-returns
+returns c =
+    let w = c .before .before .before .write-tpc-report in
+    subst (λ (q : TpcReport). Put true (tpcReportBody (c .before .before .before .before .before .before .before .args .token) q) 0 (now (c .before .before .before .before .before .before .before .args .out)) (c .wrote .result) (w .last .1 .1 .0)) (c .before .before .before .before .before .tpc .ensures) (put-as _ _ _ _ _ _ _ (w .ensures) (c .wrote .ensures))
+
+pub oneiralth-write-tpc-report-body-spec : {M : Type 1} → statement M
+oneiralth-write-tpc-report-body-spec = tie.close (tie.spec (λ c κs. search needs) (λ c κs. search needs) (λ c κs. search needs) (λ c. search needs) returns)

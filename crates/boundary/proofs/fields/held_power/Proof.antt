@@ -1,0 +1,14 @@
+-- `held_power` meets its contract.
+-- Assumes nothing.
+use borrow.Author.Needs.{needs}
+use Rattle.boundary.proofs.fields.held_power.Statement.{statement}
+use Rattle.boundary.proofs.fields.held_power.Tie as tie
+
+returns : tie.Need-returns
+returns c = rw (c .enum-told .given .1)
+
+returns-2 : tie.Need-returns-2
+returns-2 c = rw (c .before .power .given .1)
+
+pub held-power-spec : {M : Type 1} → statement M
+held-power-spec = tie.close (tie.spec (λ c. search needs) (λ c. search needs) returns returns-2)

@@ -1,0 +1,34 @@
+// What programs in C and Rust call: functions on numbers and octets that keep nothing between calls (docs/BOUNDARY.md).
+mod bodies;
+mod codes;
+mod elements;
+mod fields;
+mod lists;
+mod measurements;
+mod numbers;
+mod reading;
+mod records;
+mod replies;
+mod reports;
+
+pub use bodies::oneiralth_append_report;
+pub use bodies::oneiralth_append_request;
+pub use bodies::oneiralth_write_channel_switch_body;
+pub use bodies::oneiralth_write_tpc_report_body;
+pub use bodies::oneiralth_write_tpc_request_body;
+pub use elements::oneiralth_write_channel_switch;
+pub use elements::oneiralth_write_power_constraint;
+pub use elements::oneiralth_write_quiet;
+pub use elements::oneiralth_write_report;
+pub use elements::oneiralth_write_request;
+pub use elements::oneiralth_write_tpc_report;
+pub use elements::oneiralth_write_tpc_request;
+pub use lists::oneiralth_list;
+pub use numbers::oneiralth_busy_fraction;
+pub use numbers::oneiralth_centre;
+pub use numbers::oneiralth_rpi_densities;
+pub use reading::oneiralth_read_frame;
+pub use reading::oneiralth_read_report;
+pub use reading::oneiralth_read_request;
+pub use replies::oneiralth_reply_to_measurement_request;
+pub use replies::oneiralth_reply_to_tpc_request;

@@ -1,0 +1,161 @@
+// A measurement element as its fields, one after the other at fixed places (docs/BOUNDARY.md). What it has not got is 0.
+ghost use mathlib.Core.Path.{_≡_};
+ghost use Rattle.boundary.specs.Records.{askedBy, requestFields, saidBy, reportFields};
+ghost use Rattle.element.specs.Span.{noSpan, spanOctets};
+use crate::fields;
+use element::Span;
+use element::measurement_report;
+use element::measurement_report::Report;
+use element::measurement_request;
+use element::measurement_request::Request;
+
+// What is asked, by the numbers that a writer takes.
+pub struct Asked {
+    pub asks: u8,
+    pub request: u8,
+    pub report: u8,
+    pub span: Span,
+}
+
+// What is said, by the numbers that a writer takes; the value is the map or the busy fraction.
+pub struct Said {
+    pub says: u8,
+    pub value: u8,
+    pub span: Span,
+}
+
+fn no_span() -> Span
+    ensures { λ r. ⌜ r ≡ noSpan ⌝ }
+{
+    Span {
+        channel: 0,
+        start: 0,
+        duration: 0,
+    }
+}
+
+fn asked_by(matter: measurement_request::Matter) -> Asked
+    ensures { λ r. ⌜ r ≡ askedBy matter ⌝ }
+{
+    match matter {
+        measurement_request::Matter::Enable { request, report } => Asked {
+            asks: 0,
+            request: fields::flag(request),
+            report: fields::flag(report),
+            span: no_span(),
+        },
+        measurement_request::Matter::Measure(span) => Asked {
+            asks: 1,
+            request: 0,
+            report: 0,
+            span,
+        },
+        measurement_request::Matter::Uninterpreted => Asked {
+            asks: 2,
+            request: 0,
+            report: 0,
+            span: no_span(),
+        },
+    }
+}
+
+// Channel, start and duration.
+fn span_fields(span: Span) -> [u8; 11]
+    ensures { λ r. ⌜ r ≡ spanOctets span ⌝ }
+{
+    let s = octets::octets64(span.start);
+    let d = octets::octets16(span.duration);
+    [
+        span.channel,
+        s[0],
+        s[1],
+        s[2],
+        s[3],
+        s[4],
+        s[5],
+        s[6],
+        s[7],
+        d[0],
+        d[1],
+    ]
+}
+
+pub fn of_request(request: Request) -> [u8; 16]
+    ensures { λ r. ⌜ r ≡ requestFields request ⌝ }
+{
+    let matter = request.matter;
+    let asked = asked_by(matter);
+    let s = span_fields(asked.span);
+    [
+        request.token,
+        request.kind,
+        asked.asks,
+        asked.request,
+        asked.report,
+        s[0],
+        s[1],
+        s[2],
+        s[3],
+        s[4],
+        s[5],
+        s[6],
+        s[7],
+        s[8],
+        s[9],
+        s[10],
+    ]
+}
+
+fn telling(says: u8, value: u8, span: Span) -> Said
+    ensures { λ r. ⌜ r ≡ record { says = says; value = value; span = span } ⌝ }
+{
+    Said { says, value, span }
+}
+
+fn said_by(matter: measurement_report::Matter) -> Said
+    ensures { λ r. ⌜ r ≡ saidBy matter ⌝ }
+{
+    match matter {
+        measurement_report::Matter::Late => telling(0, 0, no_span()),
+        measurement_report::Matter::Incapable => telling(1, 0, no_span()),
+        measurement_report::Matter::Refused => telling(2, 0, no_span()),
+        measurement_report::Matter::Basic { span, map } => telling(3, map, span),
+        measurement_report::Matter::Cca { span, busy } => telling(4, busy, span),
+        measurement_report::Matter::Rpi(span) => telling(5, 0, span),
+        measurement_report::Matter::Uninterpreted => telling(6, 0, no_span()),
+    }
+}
+
+pub fn of_report(report: Report) -> [u8; 23]
+    ensures { λ r. ⌜ r ≡ reportFields report ⌝ }
+{
+    let matter = report.matter;
+    let said = said_by(matter);
+    let s = span_fields(said.span);
+    let d = report.densities;
+    [
+        report.token,
+        report.kind,
+        said.says,
+        said.value,
+        s[0],
+        s[1],
+        s[2],
+        s[3],
+        s[4],
+        s[5],
+        s[6],
+        s[7],
+        s[8],
+        s[9],
+        s[10],
+        d[0],
+        d[1],
+        d[2],
+        d[3],
+        d[4],
+        d[5],
+        d[6],
+        d[7],
+    ]
+}
