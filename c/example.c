@@ -1,0 +1,60 @@
+/* Reads an announcement, replies to a TPC Request and makes the list of a capture of one block, each by the proved library. Writes what came out. */
+#include "oneiralth.h"
+
+#include <stdio.h>
+#include <string.h>
+
+static const uint8_t OWN[6] = {2, 0, 0, 0, 0, 1};
+static const uint8_t AP[6] = {2, 0, 0, 0, 0, 9};
+
+/* An action frame from the AP to the station; gives its length. */
+static size_t action(const uint8_t *body, size_t length, uint8_t *frame) {
+    memset(frame, 0, 24);
+    frame[0] = 0xD0;
+    memcpy(frame + 4, OWN, 6);
+    memcpy(frame + 10, AP, 6);
+    memcpy(frame + 16, AP, 6);
+    memcpy(frame + 24, body, length);
+    return 24 + length;
+}
+
+static void show_announcement(void) {
+    const uint8_t body[] = {0, 4, 37, 3, 1, 44, 2};
+    uint8_t frame[64], fields[ONEIRALTH_FRAME];
+    size_t length = action(body, sizeof body, frame);
+    int64_t answer = oneiralth_read_frame(frame, length, oneiralth_address(OWN), oneiralth_address(AP), 100, fields, sizeof fields);
+    printf("announcement: answer %d, kind %d, mode %d, channel %d, count %d\n", (int)answer, fields[0], fields[35], fields[36], fields[37]);
+    answer = oneiralth_read_frame(frame, length - 1, oneiralth_address(OWN), oneiralth_address(AP), 100, fields, sizeof fields);
+    printf("cut by an octet: answer %d\n", (int)answer);
+}
+
+static void show_reply(void) {
+    const uint8_t body[] = {0, 2, 7, 34, 0};
+    uint8_t frame[64], reply[64];
+    size_t length = action(body, sizeof body, frame);
+    int64_t answer = oneiralth_reply_to_tpc_request(frame, length, oneiralth_address(OWN), oneiralth_address(AP), (uint8_t)-3, 5, reply, sizeof reply);
+    printf("reply: %d octets, body", (int)answer);
+    for (int i = 24; i < answer; i++) printf(" %d", reply[i]);
+    printf("\nreply in 30 octets: answer %d\n",
+           (int)oneiralth_reply_to_tpc_request(frame, length, oneiralth_address(OWN), oneiralth_address(AP), 0, 0, reply, 30));
+}
+
+static void show_list(void) {
+    uint8_t block[512] = {18, 0, 4, 15, 0, 2, 0, 0, 0, 0, 1, 2, 0, 0, 0, 0, 9, 36, 100, 0};
+    uint8_t list[128];
+    unsigned sum = 1;
+    for (int i = 0; i < 510; i++) sum += block[i];
+    block[510] = sum & 255;
+    block[511] = sum >> 8 & 255;
+    int64_t answer = oneiralth_list(block, sizeof block, list, sizeof list);
+    printf("list: %d octets\n%.*s", (int)answer, (int)answer, (const char *)list);
+    printf("list in 10 octets: answer %d\n", (int)oneiralth_list(block, sizeof block, list, 10));
+}
+
+int main(void) {
+    show_announcement();
+    show_reply();
+    show_list();
+    printf("centre of 36: %d, of 201: %d\n", (int)oneiralth_centre(36), (int)oneiralth_centre(201));
+    return 0;
+}

@@ -1,0 +1,100 @@
+-- Each promise of the boundary leaves one outcome: the number that is given back, and every octet of the lent buffer. Assumes nothing.
+use mathlib.Core.Bool.{Bool}
+use mathlib.Core.List.{List}
+use mathlib.Core.Path.{_≡_, sym, _∙_}
+use Prim.Native.Nat.{ℕ}
+use denote.Ref.{now}
+use Rattle.answer.specs.Checks.{Outcome}
+use Rattle.boundary.specs.Codes.{Put, Given}
+use Rattle.boundary.proofs.oneiralth_read_frame as Read-frame
+use Rattle.boundary.proofs.oneiralth_read_request as Read-request
+use Rattle.boundary.proofs.oneiralth_read_report as Read-report
+use Rattle.boundary.proofs.oneiralth_write_power_constraint as Write-power-constraint
+use Rattle.boundary.proofs.oneiralth_write_tpc_request as Write-tpc-request
+use Rattle.boundary.proofs.oneiralth_write_tpc_report as Write-tpc-report
+use Rattle.boundary.proofs.oneiralth_write_channel_switch as Write-channel-switch
+use Rattle.boundary.proofs.oneiralth_write_quiet as Write-quiet
+use Rattle.boundary.proofs.oneiralth_write_request as Write-request
+use Rattle.boundary.proofs.oneiralth_write_report as Write-report
+use Rattle.boundary.proofs.oneiralth_write_tpc_request_body as Write-tpc-request-body
+use Rattle.boundary.proofs.oneiralth_write_tpc_report_body as Write-tpc-report-body
+use Rattle.boundary.proofs.oneiralth_write_channel_switch_body as Write-channel-switch-body
+use Rattle.boundary.proofs.oneiralth_append_request as Append-request
+use Rattle.boundary.proofs.oneiralth_append_report as Append-report
+use Rattle.boundary.proofs.oneiralth_reply_to_tpc_request as Reply-to-tpc-request
+use Rattle.boundary.proofs.oneiralth_reply_to_measurement_request as Reply-to-measurement-request
+use Rattle.boundary.proofs.oneiralth_busy_fraction as Busy-fraction
+use Rattle.boundary.proofs.oneiralth_rpi_densities as Rpi-densities
+use Rattle.boundary.proofs.oneiralth_centre as Centre
+use Rattle.boundary.proofs.oneiralth_list as List
+use Rattle.claims.specs.Outcomes.{OneResult, OneOutcome}
+use Rattle.claims.proofs.Same.{once}
+
+put-once : {may : Bool} {os : List ℕ} {at : ℕ} {buffer : List ℕ} {code code' : ℕ} {exit exit' : List ℕ} → Put may os at buffer code exit → Put may os at buffer code' exit' → (code ≡ code') × (exit ≡ exit')
+put-once p q = (p .answers ∙ sym (q .answers), p .leaves ∙ sym (q .leaves))
+
+given-once : {o : Outcome (List ℕ)} {buffer : List ℕ} {code code' : ℕ} {exit exit' : List ℕ} → Given o buffer code exit → Given o buffer code' exit' → (code ≡ code') × (exit ≡ exit')
+given-once p q = (p .answers ∙ sym (q .answers), p .leaves ∙ sym (q .leaves))
+
+pub boundary-read-frame : OneOutcome 2 Read-frame.Kinds.ps Read-frame.Kinds.r Read-frame.Reads.Post (λ κs e. now (e .1 .1 .1 .1 .0))
+boundary-read-frame κs a e f x y p q = given-once p q
+
+pub boundary-read-request : OneOutcome 2 Read-request.Kinds.ps Read-request.Kinds.r Read-request.Reads.Post (λ κs e. now (e .1 .1 .1 .1 .1 .0))
+boundary-read-request κs a e f x y p q = given-once p q
+
+pub boundary-read-report : OneOutcome 2 Read-report.Kinds.ps Read-report.Kinds.r Read-report.Reads.Post (λ κs e. now (e .1 .1 .1 .1 .1 .0))
+boundary-read-report κs a e f x y p q = given-once p q
+
+pub boundary-write-power-constraint : OneOutcome 1 Write-power-constraint.Kinds.ps Write-power-constraint.Kinds.r Write-power-constraint.Reads.Post (λ κs e. now (e .1 .0))
+boundary-write-power-constraint κs a e f x y p q = put-once p q
+
+pub boundary-write-tpc-request : OneOutcome 1 Write-tpc-request.Kinds.ps Write-tpc-request.Kinds.r Write-tpc-request.Reads.Post (λ κs e. now (e .0))
+boundary-write-tpc-request κs a e f x y p q = put-once p q
+
+pub boundary-write-tpc-report : OneOutcome 1 Write-tpc-report.Kinds.ps Write-tpc-report.Kinds.r Write-tpc-report.Reads.Post (λ κs e. now (e .1 .1 .0))
+boundary-write-tpc-report κs a e f x y p q = put-once p q
+
+pub boundary-write-channel-switch : OneOutcome 1 Write-channel-switch.Kinds.ps Write-channel-switch.Kinds.r Write-channel-switch.Reads.Post (λ κs e. now (e .1 .1 .1 .0))
+boundary-write-channel-switch κs a e f x y p q = put-once p q
+
+pub boundary-write-quiet : OneOutcome 1 Write-quiet.Kinds.ps Write-quiet.Kinds.r Write-quiet.Reads.Post (λ κs e. now (e .1 .1 .1 .1 .1 .0))
+boundary-write-quiet κs a e f x y p q = put-once p q
+
+pub boundary-write-request : OneOutcome 1 Write-request.Kinds.ps Write-request.Kinds.r Write-request.Reads.Post (λ κs e. now (e .1 .1 .1 .1 .1 .1 .1 .1 .0))
+boundary-write-request κs a e f x y p q = put-once p q
+
+pub boundary-write-report : OneOutcome 1 Write-report.Kinds.ps Write-report.Kinds.r Write-report.Reads.Post (λ κs e. now (e .1 .1 .1 .1 .1 .1 .1 .1 .0))
+boundary-write-report κs a e f x y p q = put-once p q
+
+pub boundary-write-tpc-request-body : OneOutcome 1 Write-tpc-request-body.Kinds.ps Write-tpc-request-body.Kinds.r Write-tpc-request-body.Reads.Post (λ κs e. now (e .1 .0))
+boundary-write-tpc-request-body κs a e f x y p q = put-once p q
+
+pub boundary-write-tpc-report-body : OneOutcome 1 Write-tpc-report-body.Kinds.ps Write-tpc-report-body.Kinds.r Write-tpc-report-body.Reads.Post (λ κs e. now (e .1 .1 .1 .0))
+boundary-write-tpc-report-body κs a e f x y p q = put-once p q
+
+pub boundary-write-channel-switch-body : OneOutcome 1 Write-channel-switch-body.Kinds.ps Write-channel-switch-body.Kinds.r Write-channel-switch-body.Reads.Post (λ κs e. now (e .1 .1 .1 .0))
+boundary-write-channel-switch-body κs a e f x y p q = put-once p q
+
+pub boundary-append-request : OneOutcome 1 Append-request.Kinds.ps Append-request.Kinds.r Append-request.Reads.Post (λ κs e. now (e .0))
+boundary-append-request κs a e f x y p q = put-once p q
+
+pub boundary-append-report : OneOutcome 1 Append-report.Kinds.ps Append-report.Kinds.r Append-report.Reads.Post (λ κs e. now (e .0))
+boundary-append-report κs a e f x y p q = put-once p q
+
+pub boundary-reply-to-tpc-request : OneOutcome 2 Reply-to-tpc-request.Kinds.ps Reply-to-tpc-request.Kinds.r Reply-to-tpc-request.Reads.Post (λ κs e. now (e .1 .1 .1 .1 .1 .0))
+boundary-reply-to-tpc-request κs a e f x y p q = given-once p q
+
+pub boundary-reply-to-measurement-request : OneOutcome 2 Reply-to-measurement-request.Kinds.ps Reply-to-measurement-request.Kinds.r Reply-to-measurement-request.Reads.Post (λ κs e. now (e .1 .1 .1 .1 .1 .1 .1 .1 .1 .1 .1 .1 .1 .1 .1 .0))
+boundary-reply-to-measurement-request κs a e f x y p q = given-once p q
+
+pub boundary-busy-fraction : OneResult 0 Busy-fraction.Kinds.ps Busy-fraction.Kinds.r Busy-fraction.Reads.Post
+boundary-busy-fraction κs a e f x y p q = once p q
+
+pub boundary-rpi-densities : OneOutcome 1 Rpi-densities.Kinds.ps Rpi-densities.Kinds.r Rpi-densities.Reads.Post (λ κs e. now (e .1 .1 .1 .1 .1 .1 .1 .1 .1 .0))
+boundary-rpi-densities κs a e f x y p q = given-once p q
+
+pub boundary-centre : OneResult 0 Centre.Kinds.ps Centre.Kinds.r Centre.Reads.Post
+boundary-centre κs a e f x y p q = once p q
+
+pub boundary-list : OneOutcome 2 List.Kinds.ps List.Kinds.r List.Reads.Post (λ κs e. now (e .1 .0))
+boundary-list κs a e f x y p q = put-once p q
