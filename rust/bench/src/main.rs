@@ -1,9 +1,12 @@
-//! Jobs over a capture on standard input that the list program is timed
-//! beside.
+//! Jobs that the proved code is timed beside, or by which it is timed.
 //!
-//! - `sum` adds up the octets, read through a buffer as large as the list
-//!   program's;
-//! - `list` is the twin's evening list, on standard output.
+//! - `sum` adds up the octets of standard input, read through a buffer as
+//!   large as the list program's;
+//! - `list` is the twin's evening list of standard input, on standard output;
+//! - `read-proved COUNT` and `read-twin COUNT` read so many frames with the
+//!   proved library and with the twin, and write how many were accepted.
+
+mod frames;
 
 use std::io::{self, Read, Write};
 
@@ -30,12 +33,23 @@ fn list() -> io::Result<()> {
     io::stdout().lock().write_all(&twin::list(&file))
 }
 
+/// How many of `count` frames, the samples over and over, are accepted.
+fn read(count: usize, accepts: impl Fn(&[u8]) -> bool) -> io::Result<()> {
+    let samples = frames::samples();
+    let accepted = (0..count).filter(|i| accepts(&samples[i % samples.len()])).count();
+    writeln!(io::stdout(), "{}", accepted)
+}
+
 fn main() -> io::Result<()> {
-    match std::env::args().nth(1).as_deref() {
+    let words: Vec<String> = std::env::args().skip(1).collect();
+    let count = words.get(1).and_then(|word| word.parse().ok()).unwrap_or(0);
+    match words.first().map(String::as_str) {
         Some("sum") => sum(),
         Some("list") => list(),
+        Some("read-proved") => read(count, frames::proved_accepts),
+        Some("read-twin") => read(count, frames::twin_accepts),
         _ => {
-            eprintln!("bench: 'sum' or 'list'");
+            eprintln!("bench: 'sum', 'list', 'read-proved COUNT' or 'read-twin COUNT'");
             std::process::exit(2);
         }
     }
