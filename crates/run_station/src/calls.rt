@@ -1,110 +1,62 @@
-// The calls of a station, each with its answer's number on the line, and the station as it is after them.
+// The calls that may change a station, each with its answer's number on the line, and the station after them.
 ghost use Rattle.station.specs.Validity.{Valid};
 use crate::say;
 use answer::Answer;
 use station::Station;
+use station::Stepped;
 
-pub fn take(station: Station, frame: &[u8]) -> Station
-    requires { ⌜ Valid station ⌝ }
-    ensures { λ r. ⌜ Valid r ⌝ }
-{
-    let stepped = station.take(frame);
-    let answer = stepped.answer;
-    let next = stepped.station;
-    say::octet(answer.number());
-    next
+// Of a call that only makes the scene ready nothing is told unless it is refused.
+fn tell(answer: Answer, always: bool) {
+    let number = answer.number();
+    if let Answer::Accepted = answer {
+        if !always {
+            return;
+        }
+    }
+    say::number(number as u64);
 }
 
-pub fn advance(station: Station, units: u32) -> Station
-    requires { ⌜ Valid station ⌝ }
+pub fn told(stepped: Stepped, always: bool) -> Station
+    requires { ⌜ Valid (stepped .station) ⌝ }
     ensures { λ r. ⌜ Valid r ⌝ }
 {
-    let stepped = station.advance(units);
     let answer = stepped.answer;
-    let next = stepped.station;
-    say::octet(answer.number());
-    next
+    tell(answer, always);
+    stepped.station
 }
 
-// The station at a moment, at most 65,535 TU later. The advance that brings it there is said only where it is refused, as it is for a
-// moment that is gone: the difference wraps, and is too long.
+// The station at a moment, by advances of which all but the last are the longest. None leads to a moment that is gone.
 pub fn at(station: Station, moment: u32) -> Station
     requires { ⌜ Valid station ⌝ }
     ensures { λ r. ⌜ Valid r ⌝ }
 {
-    let units = std::num::wrapping_sub_u32(moment, station.clock);
-    let stepped = station.advance(units);
-    let answer = stepped.answer;
-    let next = stepped.station;
-    if let Answer::Refused(refusal) = answer {
-        say::octet(refusal.number());
+    let clock = station.clock;
+    if moment < clock {
+        say::text(b" gone");
+        return station;
     }
-    next
-}
-
-// The station after so many advances of 65,535 TU. Nothing is said of them: one that is refused leaves the clock behind.
-pub fn far(station: Station, advances: u32) -> Station
-    requires { ⌜ Valid station ⌝ }
-    ensures { λ r. ⌜ Valid r ⌝ }
-{
     let mut next = station;
-    let mut i = 0;
-    while i < advances {
-        let stepped = next.advance(Station::LONGEST);
-        next = stepped.station;
-        i += 1;
+    let mut left = moment - clock;
+    while Station::LONGEST < left {
+        next = told(next.advance(Station::LONGEST), false);
+        left -= Station::LONGEST;
     }
-    next
+    told(next.advance(left), false)
 }
 
-pub fn ask(station: Station, units: u32)
-    requires { ⌜ Valid station ⌝ }
-{
-    let permission = station.ask(units);
-    say::octet(permission.number());
-}
-
-// Goes to a moment and asks there.
-pub fn ask_at(station: Station, moment: u32, units: u32) -> Station
+// Another station, by its interval and, behind that among the call's octets, the first octets of both addresses and the channel. Where its
+// start is refused the scene keeps the station that it has.
+pub fn start(station: Station, interval: u32, octets: [u8; 128], always: bool) -> Station
     requires { ⌜ Valid station ⌝ }
     ensures { λ r. ⌜ Valid r ⌝ }
 {
-    let next = at(station, moment);
-    ask(next, units);
-    next
-}
-
-// Goes from question to question: each two numbers are a moment and for how many TU is asked there.
-pub fn asks(station: Station, questions: &[u32]) -> Station
-    requires { ⌜ Valid station ⌝ }
-    ensures { λ r. ⌜ Valid r ⌝ }
-{
-    let count = questions.len() / 2;
-    let mut next = station;
-    let mut i = 0;
-    while i < count {
-        next = ask_at(next, questions[2 * i], questions[2 * i + 1]);
-        i += 1;
+    let own = [octets[2], 0, 0, 0, 0, 1];
+    let ap = [octets[3], 0, 0, 0, 0, 9];
+    let started = Station::start(own, ap, (interval % 65536) as u16, octets[4]);
+    let answer = started.answer;
+    tell(answer, always);
+    match answer {
+        Answer::Accepted => started.station,
+        Answer::Refused(_) => station,
     }
-    next
-}
-
-pub fn channel(station: Station) {
-    say::text(b" channel");
-    say::octet(station.channel);
-}
-
-// Goes to a moment and says the channel there.
-pub fn channel_at(station: Station, moment: u32) -> Station
-    requires { ⌜ Valid station ⌝ }
-    ensures { λ r. ⌜ Valid r ⌝ }
-{
-    let next = at(station, moment);
-    channel(next);
-    next
-}
-
-pub fn clock(station: Station) {
-    say::text(b" clock");
-    say::number(station.clock as u64);
 }

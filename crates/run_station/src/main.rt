@@ -1,73 +1,56 @@
-// Runs the station through raw octets: a line says what is tried and then the answer of each call that its words name. An advance
-// that only brings the clock to a moment has no number there, unless it is refused.
-// In the words a quiet is its count, period, duration and offset, and a switch is its mode, channel and count.
-mod asked;
-mod asks;
-mod beacons;
+// Runs the station through the scenes of standard input. A scene is a line: words, a colon, and calls with a bar between two of them. Its answer
+// is a line too: the words, the colon, and the answer of each call. A line that begins with # is a remark. In the words a quiet is its count,
+// period, duration and offset, and a switch is its mode, channel and count.
+//
+// A call is its kind and the numbers of that kind, which letters among them only name. Those that are left out are 0.
+//
+//   1 advance: units
+//   2 frame: how many octets it has, and the octets; zeros behind them, up to that number
+//   3 ask: units
+//   4 start: beacon interval, first octet of the own address, first octet of the AP's address, channel
+//   5 frame with a header: first octet of the header, octets behind the header
+//   6 frame with a header and timestamp 7, as a beacon: first octet of the header, octets behind the timestamp
+//   7 the moment that the clock is brought to, by advances
+//   8 start, as 4
+//   9 the channel
+//   10 the clock
+//   11 the latest Power Constraint
+//
+// Kinds 1 to 4 are those of a capture's records. Of 7 and 8, which only make a scene ready, nothing is told unless the station refuses it. Every
+// scene begins with a station that is started with beacon interval 100 on channel 36. A scene more needs no proof.
 mod calls;
-mod constraints;
 mod frames;
-mod intervals;
-mod limit;
-mod moments;
-mod quiets;
+mod kinds;
+mod line;
 mod say;
-mod starts;
-mod switches;
-mod unmoved;
+mod show;
 
 ghost use Rattle.station.specs.Validity.{Valid};
 use answer::Answer;
+use libc::STDIN_FILENO;
 use station::Station;
 
-const OWN: [u8; 6] = [2, 0, 0, 0, 0, 1];
-
-const AP: [u8; 6] = [2, 0, 0, 0, 0, 9];
-
-// Every scene begins with the same fresh station.
-fn scenes(fresh: Station)
+fn scenes(fresh: Station, text: &[u8])
     requires { ⌜ Valid fresh ⌝ }
 {
-    moments::run(fresh);
-    asks::run(fresh);
-    switches::run(fresh);
-    beacons::run(fresh);
-    quiets::run(fresh);
-    constraints::run(fresh);
-    unmoved::run(fresh);
-    limit::run(fresh);
-}
-
-fn with_interval_100() {
-    let started = Station::start(OWN, AP, 100, 36);
-    let answer = started.answer;
-    let fresh = started.station;
-    if let Answer::Accepted = answer {
-        scenes(fresh);
-    }
-}
-
-fn with_interval_1() {
-    let started = Station::start(OWN, AP, 1, 36);
-    let answer = started.answer;
-    let fresh = started.station;
-    if let Answer::Accepted = answer {
-        intervals::shortest(fresh);
-    }
-}
-
-fn with_interval_65535() {
-    let started = Station::start(OWN, AP, 65535, 36);
-    let answer = started.answer;
-    let fresh = started.station;
-    if let Answer::Accepted = answer {
-        intervals::longest(fresh);
+    let mut station = fresh;
+    let mut line = line::begun(true);
+    let mut i = 0;
+    while i < text.len() {
+        let c = text[i];
+        i += 1;
+        station = kinds::step(station, fresh, line, c);
+        line = line.take(c);
     }
 }
 
 fn main() {
-    starts::run();
-    with_interval_100();
-    with_interval_1();
-    with_interval_65535();
+    let mut text = io::large_buffer();
+    let count = io::read_full(STDIN_FILENO, &mut text);
+    let started = Station::start([2, 0, 0, 0, 0, 1], [2, 0, 0, 0, 0, 9], 100, 36);
+    let answer = started.answer;
+    let fresh = started.station;
+    if let Answer::Accepted = answer {
+        scenes(fresh, &text[..count]);
+    }
 }

@@ -9,17 +9,3 @@ pub fn number(n: u64) {
     text(b" ");
     io::print_decimal(STDOUT_FILENO, n);
 }
-
-pub fn octet(o: u8) {
-    number(o as u64);
-}
-
-// What is tried, in front of its answers.
-pub fn scene(words: &[u8]) {
-    text(words);
-    text(b":");
-}
-
-pub fn end() {
-    text(b"\n");
-}
