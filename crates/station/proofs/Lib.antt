@@ -3,3 +3,4 @@ pub mod Hearing
 pub mod InUse
 pub mod Keeping
 pub mod Slotting
+pub mod Ticks

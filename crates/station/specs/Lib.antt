@@ -4,5 +4,6 @@ pub mod Handing
 pub mod Starting
 pub mod Stations
 pub mod Taking
+pub mod Ticking
 pub mod Validity
 pub mod Waiting

@@ -7,6 +7,8 @@ mod taking;
 
 pub use asking::Permission;
 pub use clock::Stepped;
+pub use clock::Tick;
+pub use clock::tick_by;
 pub use pending::Pending;
 pub use starting::Started;
 ghost use mathlib.Core.Path.{_≡_};
