@@ -3,5 +3,6 @@ pub mod Cutting
 pub mod Fitting
 pub mod Recording
 pub mod Sounding
+pub mod Ticks
 pub mod Passes
 pub mod Wholes
