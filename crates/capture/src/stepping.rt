@@ -11,7 +11,7 @@ ghost use Rattle.capture.specs.Stepping.{stepTold, entryMalformed, StepF
 use crate::Lister;
 use answer::Refusal;
 use record::Entry;
-use station::Tick;
+use station::Advanced;
 use text::Word;
 
 // What changes more of a lister than its clock.
@@ -63,17 +63,17 @@ fn advance(lister: Lister, units: u16) -> Step
     }
     let station = lister.station;
     let pending = station.pending;
-    match station::tick_by(station.clock, pending, units as u32) {
-        Tick::Refused => {
+    match station::advance_clock(station.clock, pending, units as u32) {
+        Advanced::Refused => {
             let refusal = Refusal::PastClock;
             unchanged(lister, Word::Advance, refusal.number())
         }
-        Tick::Goes(moment) => Step::Told {
+        Advanced::Goes(moment) => Step::Told {
             word: Word::Advance,
             answer: 0,
             clock: moment,
         },
-        Tick::Switches {
+        Advanced::Switches {
             moment: _,
             channel: _,
         } => Step::Change(Change::Advance(units)),

@@ -1,9 +1,9 @@
+pub mod Advancing
 pub mod Asking
 pub mod Clock
 pub mod Handing
 pub mod Starting
 pub mod Stations
 pub mod Taking
-pub mod Ticking
 pub mod Validity
 pub mod Waiting

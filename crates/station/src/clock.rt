@@ -1,7 +1,7 @@
 // The clock (document 01, "The station"): it advances, and reaches a pending switch on the way.
 ghost use mathlib.Core.Path.{_≡_};
+ghost use Rattle.station.specs.Advancing.{clockAdvance};
 ghost use Rattle.station.specs.Clock.{clocked, advanceOf};
-ghost use Rattle.station.specs.Ticking.{tickOf};
 ghost use Rattle.station.specs.Validity.{Valid};
 use crate::Pending;
 use crate::Station;
@@ -9,34 +9,34 @@ use answer::Answer;
 use answer::Refusal;
 
 // What an advance comes to: it is refused, or the clock goes to a moment, with no switch reached by then or with this one.
-pub enum Tick {
+pub enum Advanced {
     Refused,
     Goes(u32),
     Switches { moment: u32, channel: u8 },
 }
 
 // An advance by what it asks of a station alone, since a station is long to copy and most advances change no more than its clock.
-pub fn tick_by(clock: u32, pending: Pending, units: u32) -> Tick
-    ensures { λ r. ⌜ r ≡ tickOf clock pending units ⌝ }
+pub fn advance_clock(clock: u32, pending: Pending, units: u32) -> Advanced
+    ensures { λ r. ⌜ r ≡ clockAdvance clock pending units ⌝ }
 {
     if Station::LONGEST < units {
-        return Tick::Refused;
+        return Advanced::Refused;
     }
     if Station::CLOCK_LIMIT - clock < units {
-        return Tick::Refused;
+        return Advanced::Refused;
     }
     let moment = clock + units;
     match pending {
-        Pending::Nothing => Tick::Goes(moment),
+        Pending::Nothing => Advanced::Goes(moment),
         Pending::Switch {
             at,
             mode: _,
             channel,
         } => {
             if (moment as u64) < at {
-                return Tick::Goes(moment);
+                return Advanced::Goes(moment);
             }
-            Tick::Switches { moment, channel }
+            Advanced::Switches { moment, channel }
         }
     }
 }
@@ -64,20 +64,20 @@ impl Station {
         ensures kept { λ r. ⌜ Valid (r .station) ⌝ }
     {
         let pending = self.pending;
-        match tick_by(self.clock, pending, units) {
-            Tick::Refused => {
+        match advance_clock(self.clock, pending, units) {
+            Advanced::Refused => {
                 let answer = Answer::Refused(Refusal::PastClock);
                 Stepped {
                     answer,
                     station: self,
                 }
             }
-            Tick::Goes(moment) => {
+            Advanced::Goes(moment) => {
                 let station = self.clocked(moment);
                 let answer = Answer::Accepted;
                 Stepped { answer, station }
             }
-            Tick::Switches { moment, channel } => {
+            Advanced::Switches { moment, channel } => {
                 let station = self.clocked(moment).switched(channel);
                 let answer = Answer::Accepted;
                 Stepped { answer, station }

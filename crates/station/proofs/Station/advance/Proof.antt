@@ -1,27 +1,27 @@
--- `Station::advance` meets its contract, and the station stays valid: it does what its tick says.
+-- `Station::advance` meets its contract, and the station stays valid: it does what `advance_clock` says.
 -- Assumes nothing.
 use mathlib.Core.Path.{_≡_, refl, sym, ap, _∙_, subst}
 use borrow.Author.Needs.{needs}
 use Rattle.answer.specs.Checks.{accepted}
 use Rattle.station.specs.Clock.{stepped, switched, advanceOf}
-use Rattle.station.specs.Ticking.{tickOf, ticked}
+use Rattle.station.specs.Advancing.{clockAdvance, advancedBy}
 use Rattle.station.specs.Validity.{Valid}
 use Rattle.station.specs.declared.Station.{Station}
 use Rattle.station.specs.declared.clock.Stepped.{Stepped}
-use Rattle.station.specs.declared.clock.Tick.{Tick}
-use Rattle.station.proofs.Ticks.{advanced}
+use Rattle.station.specs.declared.clock.Advanced.{Advanced}
+use Rattle.station.proofs.Advancing.{advanced}
 use Rattle.station.proofs.Station.advance.Statement.{statement}
 use Rattle.station.proofs.Station.advance.Tie as tie
 
--- a station that is what a tick makes of it
-does : (c : tie.After-tick-by) (k : Tick) (x : Stepped) → let a = c .before .args in c .tick-by .result ≡ k → x ≡ ticked (a .self) k → (x ≡ advanceOf (a .self) (a .units)) × Valid (x .station)
+-- a station that is what the advance of its clock makes of it
+does : (c : tie.After-advance-clock) (k : Advanced) (x : Stepped) → let a = c .before .args in c .advance-clock .result ≡ k → x ≡ advancedBy (a .self) k → (x ≡ advanceOf (a .self) (a .units)) × Valid (x .station)
 does c k x told e =
     let a = c .before .args in
-    let w = advanced (a .self) (a .units) k (sym (c .tick-by .ensures) ∙ told) (c .before .pre) in
+    let w = advanced (a .self) (a .units) k (sym (c .advance-clock .ensures) ∙ told) (c .before .pre) in
     (e ∙ w .0, subst (λ (y : Stepped). Valid (y .station)) (sym e) (w .1))
 
 returns : tie.Need-returns
-returns c = does (c .before .before) Tick.Refused _ (c .enum-told .given .1) refl
+returns c = does (c .before .before) Advanced.Refused _ (c .enum-told .given .1) refl
 
 returns-2 : tie.Need-returns-2
 returns-2 c =
