@@ -1,5 +1,5 @@
 // What the list says of a record that changes the station (document 01, "Capture blocks and the evening list"): its word, its answer, and the
-// lister before its line.
+// station after it.
 ghost use mathlib.Core.Path.{_≡_};
 ghost use mathlib.Core.Bool.{true};
 ghost use Rattle.record.specs.Entries.{starting, settingsOf, advancing, hearing};
@@ -14,6 +14,7 @@ use answer::Refusal;
 use station::Station;
 use text::Word;
 
+// The lister before the line that tells this word and this answer.
 pub struct Answered {
     pub lister: Lister,
     pub word: Word,

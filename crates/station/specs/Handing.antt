@@ -1,7 +1,6 @@
 -- Taking a frame as the code is handed it: the Quiet elements beside the frame. No public promise cites these.
 use mathlib.Core.Bool.{Bool, true, false}
 use mathlib.Core.List.{List}
-use Prim.Native.Nat.{ℕ}
 use Rattle.answer.specs.Checks.{pick}
 use Rattle.beacon.specs.declared.MaybePower.{MaybePower}
 use Rattle.beacon.specs.declared.MaybeSwitch.{MaybeSwitch}

@@ -12,14 +12,11 @@ use Rattle.record.specs.Entries.{entryMeans}
 use Rattle.record.specs.Found.{follow, Within}
 use Rattle.record.specs.Records.{recordsIn}
 use Rattle.record.specs.declared.Found.{Found}
-use Rattle.text.specs.declared.words.Word.{Word}
-use Rattle.capture.specs.Following.{Follows}
 use Rattle.capture.specs.Listers.{oneLineMore}
 use Rattle.capture.specs.Lists.{noted, isMalformed}
 use Rattle.capture.specs.Stepping.{clockedAt, stepTold, entryMalformed, StepFits}
 use Rattle.capture.specs.declared.lister.Lister.{Lister}
 use Rattle.capture.specs.declared.noting.Answered.{Answered}
-use Rattle.capture.specs.declared.stepping.Change.{Change}
 use Rattle.capture.specs.declared.stepping.Step.{Step}
 use Rattle.capture.proofs.Recording.{Inv, Written, same-malformed, begins, same-size, size-after, at-end, last-line, cut-line, bad-line, next-line}
 use Rattle.capture.proofs.listing.put_records.Statement.{statement}

@@ -4,7 +4,7 @@ use mathlib.Core.Path.{_≡_, refl, sym, ap, _∙_, subst}
 use borrow.Author.Needs.{needs}
 use Rattle.answer.specs.Checks.{accepted}
 use Rattle.station.specs.Clock.{stepped, switched, advanceOf}
-use Rattle.station.specs.Advancing.{clockAdvance, advancedBy}
+use Rattle.station.specs.Advancing.{advancedBy}
 use Rattle.station.specs.Validity.{Valid}
 use Rattle.station.specs.declared.Station.{Station}
 use Rattle.station.specs.declared.clock.Stepped.{Stepped}
