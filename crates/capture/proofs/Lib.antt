@@ -1,7 +1,8 @@
+pub mod Advancing
 pub mod Answering
 pub mod Cutting
 pub mod Fitting
+pub mod Passes
 pub mod Recording
 pub mod Sounding
-pub mod Passes
 pub mod Wholes

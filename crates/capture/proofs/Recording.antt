@@ -12,9 +12,10 @@ use Rattle.octets.specs.Writing.{left}
 use Rattle.record.specs.Entries.{Noted, malformed, starting, advancing, hearing, asking, entryTold, entryMeans}
 use Rattle.record.specs.Records.{Records, end, cut, more, recordsIn}
 use Rattle.record.specs.declared.entry.Entry.{Entry}
-use Rattle.capture.specs.Following.{lineFor, entryMalformed, Sound, Follows, Listed}
+use Rattle.capture.specs.Following.{lineFor, Sound, Follows, Listed}
 use Rattle.capture.specs.Listers.{oneLineMore}
 use Rattle.capture.specs.Lists.{Told, nothing, line, before, badRecord, noted, isMalformed, recorded}
+use Rattle.capture.specs.Stepping.{entryMalformed}
 use Rattle.capture.specs.declared.lister.Lister.{Lister}
 use Rattle.capture.specs.declared.listing.Put.{Put}
 use Rattle.capture.specs.declared.noting.Answered.{Answered}

@@ -12,7 +12,7 @@ use Rattle.station.specs.Starting as Starting
 use Rattle.station.specs.declared.Station.{Station}
 use Rattle.station.specs.declared.starting.Started.{Started}
 use Rattle.text.specs.declared.words.Word.{Word}
-use Rattle.capture.specs.Following.{Sound, Follows}
+use Rattle.capture.specs.Following.{Follows}
 use Rattle.capture.specs.Listers.{without, following}
 use Rattle.capture.specs.Lists.{line, started}
 use Rattle.capture.specs.declared.lister.Lister.{Lister}
@@ -23,9 +23,6 @@ sound-without l =
 
 pub sound-following : (l : Lister) (s : Station) → Valid s → Follows l (following l s)
 sound-following l s v = record { sound = record { followed = λ e. v; idle = λ e. clash e }; same-lines = refl; same-blocks = refl; same-damaged = refl }
-
-pub sound-same : (l : Lister) → Sound l → Follows l l
-sound-same l s = record { sound = s; same-lines = refl; same-blocks = refl; same-damaged = refl }
 
 -- the answer of a start, and the station behind it
 module _ (l : Lister) (o : Outcome Station) (x : Started) (e : x ≡ Starting.started o) where

@@ -1,9 +1,8 @@
 -- The code's own terms: a line before it is written, and what every record leaves of the lister. No public promise cites these.
-use mathlib.Core.Bool.{Bool, true, false}
+use mathlib.Core.Bool.{true, false}
 use mathlib.Core.Path.{_≡_}
 use Prim.Native.Nat.{ℕ, _+_, _≤_}
 use lib.ListN.{length}
-use Rattle.record.specs.declared.entry.Entry.{Entry}
 use Rattle.station.specs.Starting.{blank}
 use Rattle.station.specs.Validity.{Valid}
 use Rattle.capture.specs.Lists.{Told, line}
@@ -12,13 +11,6 @@ use Rattle.capture.specs.declared.noting.Answered.{Answered}
 
 abbrev pub lineFor : Answered → Told
 lineFor a = line (a .lister) (a .word) (a .answer)
-
-abbrev pub entryMalformed : Entry → Bool
-entryMalformed Entry.Malformed = true
-entryMalformed Entry.Start = false
-entryMalformed (Entry.Advance n) = false
-entryMalformed Entry.Frame = false
-entryMalformed (Entry.Ask n) = false
 
 -- the station is one that its calls have made, or there is none
 pub record Sound (l : Lister) : Type 0 where

@@ -3,3 +3,4 @@ pub mod Following
 pub mod Listers
 pub mod Lists
 pub mod Passing
+pub mod Stepping

@@ -3,6 +3,7 @@ mod feeding;
 mod lister;
 mod listing;
 mod noting;
+mod stepping;
 mod whole;
 
 pub use feeding::Feed;

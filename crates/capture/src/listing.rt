@@ -6,14 +6,18 @@ ghost use lib.ListN.{length, drop};
 ghost use Rattle.measurement.proofs.OneCall.{filled};
 ghost use Rattle.octets.specs.Writing.{left};
 ghost use Rattle.record.specs.Records.{recordsIn};
+ghost use Rattle.text.specs.Lines.{lineOf};
 ghost use Rattle.capture.specs.Following.{Sound, lineFor, Listed};
 ghost use Rattle.capture.specs.Listers.{oneLineMore};
 ghost use Rattle.capture.specs.Lists.{recorded};
 use crate::Lister;
 use crate::noting;
 use crate::noting::Answered;
+use crate::stepping;
+use crate::stepping::Step;
 use record::Found;
 use text::Text;
+use text::Word;
 
 // The lister, and how many octets of the buffer are lines by now.
 pub struct Put {
@@ -33,6 +37,15 @@ pub fn put_text(text: Text, out: &mut [u8], count: usize) -> usize
     count + (Text::ROOM - from)
 }
 
+// The line of this number, behind the lines before it: how many octets there are then.
+fn put_numbered(number: u64, word: Word, answer: u8, out: &mut [u8], count: usize) -> usize
+    requires { ⌜ count + 64 ≤ length (now out) ⌝ }
+    ensures { λ r. ⌜ (r ≡ count + length (lineOf number word answer)) × (r ≤ count + 64) ⌝ }
+    ensures { λ _. ⌜ now (out .exit) ≡ left true (lineOf number word answer) count (now (out .entry)) ⌝ }
+{
+    put_text(text::line(number, word, answer), out, count)
+}
+
 // The line that tells a record's answer, behind the lines before it.
 pub fn put_line(answered: Answered, out: &mut [u8], count: usize) -> Put
     requires { ⌜ (count + 64 ≤ length (now out)) × (answered .lister .lines ≤ 9223372036854775807) ⌝ }
@@ -43,8 +56,7 @@ pub fn put_line(answered: Answered, out: &mut [u8], count: usize) -> Put
     let before = answered.lister;
     let word = answered.word;
     let lines = before.lines + 1;
-    let line = text::line(lines, word, answered.answer);
-    let count = put_text(line, out, count);
+    let count = put_numbered(lines, word, answered.answer, out, count);
     let lister = Lister { lines, ..before };
     Put { lister, count }
 }
@@ -72,13 +84,26 @@ pub fn put_records(lister: Lister, used: &[u8], out: &mut [u8]) -> Put
             }
             Found::Whole { kind, start, end } => {
                 let contents = &used[start..end];
-                let entry = record::entry_of(kind, contents);
-                let put = put_line(noting::note(next, entry, contents), out, count);
-                if noting::is_malformed(entry) {
-                    return put;
+                match stepping::step_by(next, record::entry_of(kind, contents)) {
+                    Step::Malformed => {
+                        return put_line(noting::malformed(next), out, count);
+                    }
+                    Step::Told {
+                        word,
+                        answer,
+                        clock,
+                    } => {
+                        // In place: a lister is long to copy.
+                        next.lines += 1;
+                        next.station.clock = clock;
+                        count = put_numbered(next.lines, word, answer, out, count);
+                    }
+                    Step::Change(change) => {
+                        let put = put_line(noting::note(next, change, contents), out, count);
+                        next = put.lister;
+                        count = put.count;
+                    }
                 }
-                next = put.lister;
-                count = put.count;
                 at = end;
             }
         }

@@ -1,14 +1,16 @@
-// What the list says of a record (document 01, "Capture blocks and the evening list"): its word, its answer, and the station after it.
+// What the list says of a record that changes the station (document 01, "Capture blocks and the evening list"): its word, its answer, and the
+// station after it.
 ghost use mathlib.Core.Path.{_≡_};
 ghost use mathlib.Core.Bool.{true};
-ghost use Rattle.record.specs.Entries.{starting, settingsOf, advancing, hearing, asking, entryTold};
-ghost use Rattle.capture.specs.Following.{Sound, Follows, lineFor, entryMalformed};
-ghost use Rattle.capture.specs.Lists.{badRecord, noStation, noted};
+ghost use Rattle.record.specs.Entries.{starting, settingsOf, advancing, hearing};
+ghost use Rattle.capture.specs.Following.{Sound, Follows, lineFor};
+ghost use Rattle.capture.specs.Lists.{badRecord, noted};
+ghost use Rattle.capture.specs.Stepping.{changeNotes, ChangeFits};
 use crate::Lister;
 use crate::lister;
+use crate::stepping::Change;
 use answer::Answer;
 use answer::Refusal;
-use record::Entry;
 use station::Station;
 use text::Word;
 
@@ -58,29 +60,13 @@ fn start(lister: Lister, contents: &[u8]) -> Answered
     }
 }
 
-// A record that comes with no station started.
-fn unstarted(lister: Lister, word: Word) -> Answered
-    requires { ⌜ Sound lister ⌝ }
-    ensures { λ r. ⌜ lineFor r ≡ noStation lister word ⌝ }
-    ensures { λ r. ⌜ Follows lister (r .lister) ⌝ }
-{
-    let refusal = Refusal::NoStation;
-    Answered {
-        lister,
-        word,
-        answer: refusal.number(),
-    }
-}
-
-// An advance, by the station if there is one.
+// An advance that reaches a switch.
 fn advance(lister: Lister, units: u16) -> Answered
     requires { ⌜ Sound lister ⌝ }
+    requires { ⌜ lister .active ≡ true ⌝ }
     ensures { λ r. ⌜ lineFor r ≡ noted lister (advancing units) ⌝ }
     ensures { λ r. ⌜ Follows lister (r .lister) ⌝ }
 {
-    if !lister.active {
-        return unstarted(lister, Word::Advance);
-    }
     let station = lister.station;
     let stepped = station.advance(units as u32);
     let answer = stepped.answer;
@@ -92,15 +78,13 @@ fn advance(lister: Lister, units: u16) -> Answered
     }
 }
 
-// A frame, by the station if there is one.
+// A frame.
 fn frame(lister: Lister, contents: &[u8]) -> Answered
     requires { ⌜ Sound lister ⌝ }
+    requires { ⌜ lister .active ≡ true ⌝ }
     ensures { λ r. ⌜ lineFor r ≡ noted lister (hearing (now (contents .entry))) ⌝ }
     ensures { λ r. ⌜ Follows lister (r .lister) ⌝ }
 {
-    if !lister.active {
-        return unstarted(lister, Word::Frame);
-    }
     let station = lister.station;
     let stepped = station.take(contents);
     let answer = stepped.answer;
@@ -112,48 +96,16 @@ fn frame(lister: Lister, contents: &[u8]) -> Answered
     }
 }
 
-// A question, to the station if there is one.
-fn ask(lister: Lister, units: u16) -> Answered
+// Any change of the station.
+pub fn note(lister: Lister, change: Change, contents: &[u8]) -> Answered
     requires { ⌜ Sound lister ⌝ }
-    ensures { λ r. ⌜ lineFor r ≡ noted lister (asking units) ⌝ }
+    requires { ⌜ ChangeFits lister change ⌝ }
+    ensures { λ r. ⌜ lineFor r ≡ noted lister (changeNotes (now (contents .entry)) change) ⌝ }
     ensures { λ r. ⌜ Follows lister (r .lister) ⌝ }
 {
-    if !lister.active {
-        return unstarted(lister, Word::Ask);
-    }
-    let station = lister.station;
-    let permission = station.ask(units as u32);
-    Answered {
-        lister,
-        word: Word::Ask,
-        answer: permission.number(),
-    }
-}
-
-// Whether the rest of the block is dropped after a record.
-pub fn is_malformed(entry: Entry) -> bool
-    ensures { λ r. ⌜ r ≡ entryMalformed entry ⌝ }
-{
-    match entry {
-        Entry::Malformed => true,
-        Entry::Start => false,
-        Entry::Advance(_) => false,
-        Entry::Frame => false,
-        Entry::Ask(_) => false,
-    }
-}
-
-// Any record, by what it notes.
-pub fn note(lister: Lister, entry: Entry, contents: &[u8]) -> Answered
-    requires { ⌜ Sound lister ⌝ }
-    ensures { λ r. ⌜ lineFor r ≡ noted lister (entryTold (now (contents .entry)) entry) ⌝ }
-    ensures { λ r. ⌜ Follows lister (r .lister) ⌝ }
-{
-    match entry {
-        Entry::Malformed => malformed(lister),
-        Entry::Start => start(lister, contents),
-        Entry::Advance(units) => advance(lister, units),
-        Entry::Frame => frame(lister, contents),
-        Entry::Ask(units) => ask(lister, units),
+    match change {
+        Change::Start => start(lister, contents),
+        Change::Frame => frame(lister, contents),
+        Change::Advance(units) => advance(lister, units),
     }
 }

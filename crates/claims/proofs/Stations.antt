@@ -15,6 +15,7 @@ use Rattle.station.proofs.Station.ask as Ask
 use Rattle.station.proofs.Station.start as Start
 use Rattle.station.proofs.Station.take as Take
 use Rattle.station.proofs.asking.Permission.number as Permission-number
+use Rattle.station.proofs.advance_clock as Advance-clock
 use Rattle.station.proofs.pending.Pending.comes_before as Comes-before
 use Rattle.station.proofs.pending.Pending.silences as Silences
 use Rattle.station.proofs.pending.Pending.up_to as Up-to
@@ -35,6 +36,9 @@ take κs a e f x y p q = once (p .0) (q .0)
 
 pub advance : OneResult 0 Advance.Kinds.ps Advance.Kinds.r Advance.Reads.Post
 advance κs a e f x y p q = once (p .0) (q .0)
+
+pub advance-clock : OneResult 0 Advance-clock.Kinds.ps Advance-clock.Kinds.r Advance-clock.Reads.Post
+advance-clock κs a e f x y p q = once p q
 
 pub ask : OneResult 0 Ask.Kinds.ps Ask.Kinds.r Ask.Reads.Post
 ask κs a e f x y p q = once p q

@@ -46,7 +46,7 @@ module _ (s : Station) where
   -- what the code makes of what it is handed, for a frame of each kind
   kind-heard : (k : Kind) (toAll : Bool) (g : Frame) → ofKind toAll k .reading ≡ Reading.Is g
       → heardAs s g (take (ofKind toAll k .count) (ofKind toAll k .quiets)) ≡ heard s k
-  unfolding told
+  unfolding told heardAs
   kind-heard (beacon t) toAll g e = rw (← is-frame e, in-slots (t .said .quiets))
   kind-heard (probeResponse t) toAll g e = rw (← is-frame e, in-slots (t .said .quiets))
   kind-heard (action (requests token rs)) toAll g e = rw (← is-frame e)

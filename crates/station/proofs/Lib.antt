@@ -1,3 +1,4 @@
+pub mod Advancing
 pub mod Answers
 pub mod Hearing
 pub mod InUse

@@ -1,3 +1,4 @@
+pub mod Advancing
 pub mod Asking
 pub mod Clock
 pub mod Handing

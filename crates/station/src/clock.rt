@@ -1,11 +1,45 @@
 // The clock (document 01, "The station"): it advances, and reaches a pending switch on the way.
 ghost use mathlib.Core.Path.{_≡_};
-ghost use Rattle.station.specs.Clock.{reachOf, advanceOf};
+ghost use Rattle.station.specs.Advancing.{clockAdvance};
+ghost use Rattle.station.specs.Clock.{clocked, advanceOf};
 ghost use Rattle.station.specs.Validity.{Valid};
 use crate::Pending;
 use crate::Station;
 use answer::Answer;
 use answer::Refusal;
+
+// What an advance comes to: it is refused, or the clock goes to a moment, with no switch reached by then or with this one.
+pub enum Advanced {
+    Refused,
+    Goes(u32),
+    Switches { moment: u32, channel: u8 },
+}
+
+// An advance by what it asks of a station alone, since a station is long to copy and most advances change no more than its clock.
+pub fn advance_clock(clock: u32, pending: Pending, units: u32) -> Advanced
+    ensures { λ r. ⌜ r ≡ clockAdvance clock pending units ⌝ }
+{
+    if Station::LONGEST < units {
+        return Advanced::Refused;
+    }
+    if Station::CLOCK_LIMIT - clock < units {
+        return Advanced::Refused;
+    }
+    let moment = clock + units;
+    match pending {
+        Pending::Nothing => Advanced::Goes(moment),
+        Pending::Switch {
+            at,
+            mode: _,
+            channel,
+        } => {
+            if (moment as u64) < at {
+                return Advanced::Goes(moment);
+            }
+            Advanced::Switches { moment, channel }
+        }
+    }
+}
 
 // The answer, and the station after the call: the same as before where the call was refused.
 pub struct Stepped {
@@ -14,27 +48,13 @@ pub struct Stepped {
 }
 
 impl Station {
-    // The clock goes to a moment.
-    fn reach(self, moment: u32) -> Station
-        ensures { λ r. ⌜ r ≡ reachOf self moment ⌝ }
+    // The clock tells another moment.
+    fn clocked(self, moment: u32) -> Station
+        ensures { λ r. ⌜ r ≡ clocked self moment ⌝ }
     {
-        let pending = self.pending;
-        let then = Station {
+        Station {
             clock: moment,
             ..self
-        };
-        match pending {
-            Pending::Nothing => then,
-            Pending::Switch {
-                at,
-                mode: _,
-                channel,
-            } => {
-                if (moment as u64) < at {
-                    return then;
-                }
-                then.switched(channel)
-            }
         }
     }
 
@@ -43,18 +63,25 @@ impl Station {
         ensures { λ r. ⌜ r ≡ advanceOf self units ⌝ }
         ensures kept { λ r. ⌜ Valid (r .station) ⌝ }
     {
-        let refused = Stepped {
-            answer: Answer::Refused(Refusal::PastClock),
-            station: self,
-        };
-        if Station::LONGEST < units {
-            return refused;
+        let pending = self.pending;
+        match advance_clock(self.clock, pending, units) {
+            Advanced::Refused => {
+                let answer = Answer::Refused(Refusal::PastClock);
+                Stepped {
+                    answer,
+                    station: self,
+                }
+            }
+            Advanced::Goes(moment) => {
+                let station = self.clocked(moment);
+                let answer = Answer::Accepted;
+                Stepped { answer, station }
+            }
+            Advanced::Switches { moment, channel } => {
+                let station = self.clocked(moment).switched(channel);
+                let answer = Answer::Accepted;
+                Stepped { answer, station }
+            }
         }
-        if Station::CLOCK_LIMIT - self.clock < units {
-            return refused;
-        }
-        let station = self.reach(self.clock + units);
-        let answer = Answer::Accepted;
-        Stepped { answer, station }
     }
 }

@@ -6,7 +6,9 @@ mod starting;
 mod taking;
 
 pub use asking::Permission;
+pub use clock::Advanced;
 pub use clock::Stepped;
+pub use clock::advance_clock;
 pub use pending::Pending;
 pub use starting::Started;
 ghost use mathlib.Core.Path.{_≡_};

@@ -1,43 +1,50 @@
--- `Station::advance` meets its contract, and the station stays valid.
+-- `Station::advance` meets its contract, and the station stays valid: it does what `advance_clock` says.
 -- Assumes nothing.
-use mathlib.Core.Path.{sym, ap, _∙_, subst}
-use Prim.Native.Nat.{_+_}
+use mathlib.Core.Path.{_≡_, refl, sym, ap, _∙_, subst}
 use borrow.Author.Needs.{needs}
-use borrow.Author.Tests.{lt-ltb, le-ltb}
-use native.Mathlib.Omega.{arith}
-use Rattle.answer.proofs.Judged.{past, stop, done}
 use Rattle.answer.specs.Checks.{accepted}
-use Rattle.station.specs.Clock.{stepped, advanceMeans}
-use Rattle.station.specs.Stations.{clockLimit}
+use Rattle.station.specs.Clock.{stepped, switched, advanceOf}
+use Rattle.station.specs.Advancing.{advancedBy}
 use Rattle.station.specs.Validity.{Valid}
 use Rattle.station.specs.declared.Station.{Station}
-use Rattle.station.proofs.Keeping.{valid-reach}
+use Rattle.station.specs.declared.clock.Stepped.{Stepped}
+use Rattle.station.specs.declared.clock.Advanced.{Advanced}
+use Rattle.station.proofs.Advancing.{advanced}
 use Rattle.station.proofs.Station.advance.Statement.{statement}
 use Rattle.station.proofs.Station.advance.Tie as tie
 
+-- a station that is what the advance of its clock makes of it
+does : (c : tie.After-advance-clock) (k : Advanced) (x : Stepped) → let a = c .before .args in c .advance-clock .result ≡ k → x ≡ advancedBy (a .self) k → (x ≡ advanceOf (a .self) (a .units)) × Valid (x .station)
+does c k x told e =
+    let a = c .before .args in
+    let w = advanced (a .self) (a .units) k (sym (c .advance-clock .ensures) ∙ told) (c .before .pre) in
+    (e ∙ w .0, subst (λ (y : Stepped). Valid (y .station)) (sym e) (w .1))
+
 returns : tie.Need-returns
-unfolding advanceMeans
-returns c = (ap (stepped (c .before .args .self)) (stop _ _ _ (lt-ltb _ _ (c .if1 .taken))), c .before .pre)
+returns c = does (c .before .before) Advanced.Refused _ (c .enum-told .given .1) refl
 
 returns-2 : tie.Need-returns-2
-unfolding advanceMeans
 returns-2 c =
-    let a = c .before .before .before .args in (
-      ap (stepped (a .self)) (past _ _ _ (le-ltb _ _ (c .before .before .if1 .left)) (stop _ _ _ (lt-ltb clockLimit (a .self .clock + a .units) (omega arith)))),
-      c .before .before .before .pre,
-    )
+    let k = c .before .before .before .before in
+    does k _ _ (c .before .before .moment .given .1) (ap (λ (s : Station). stepped (k .before .args .self) (accepted s)) (c .clocked .ensures))
 
 returns-3 : tie.Need-returns-3
-unfolding advanceMeans
 returns-3 c =
-    let a = c .before .before .before .before .before .args in (
-      ap (λ (s : Station). stepped (a .self) (accepted s)) (c .reach .ensures)
-          ∙ ap (stepped (a .self))
-          (past _ _ _ (le-ltb _ _ (c .before .before .before .before .if1 .left))
-          (past _ _ _ (le-ltb clockLimit (a .self .clock + a .units) (omega arith)) (done _))),
-      subst Valid (sym (c .reach .ensures)) (valid-reach _ _ (c .before .before .before .before .before .pre)),
-    )
+    let k = c .before .before .before .before .before in
+    let m = c .before .before .before .moment2 .given in
+    does k _ _ (m .1) (ap (λ (s : Station). stepped (k .before .args .self) (accepted s)) (c .switched .ensures ∙ ap (λ (s : Station). switched s (m .0 .1 .0)) (c .before .clocked2 .ensures)))
 
 pub advance-spec : {M : Type 1} → statement M
 advance-spec =
-    tie.close (tie.spec returns (λ c. search needs) returns-2 (λ c. search needs) (λ c κs. search needs) returns-3)
+    tie.close
+    (tie.spec
+    (λ c κs. search needs)
+    (λ c. search needs)
+    (λ c. search needs)
+    (λ c κs. search needs)
+    (λ c. search needs)
+    (λ c κs. search needs)
+    (λ c κs. search needs)
+    returns
+    returns-2
+    returns-3)

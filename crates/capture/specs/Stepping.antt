@@ -1,0 +1,48 @@
+-- The code's own terms: what a record comes to. No public promise cites these.
+use mathlib.Core.Bool.{Bool, true, false}
+use mathlib.Core.List.{List}
+use mathlib.Core.Path.{_≡_}
+use Prim.Native.Nat.{ℕ}
+use Rattle.record.specs.Entries.{Noted, starting, advancing, hearing, settingsOf}
+use Rattle.record.specs.declared.entry.Entry.{Entry}
+use Rattle.station.specs.Clock.{clocked}
+use Rattle.capture.specs.Following.{Sound}
+use Rattle.capture.specs.Lists.{Told, line, badRecord, noted}
+use Rattle.capture.specs.declared.lister.Lister.{Lister}
+use Rattle.capture.specs.declared.stepping.Change.{Change}
+use Rattle.capture.specs.declared.stepping.Step.{Step}
+
+-- the lister with its station's clock at t
+abbrev pub clockedAt : Lister → ℕ → Lister
+clockedAt l t = record { lines = l .lines; blocks = l .blocks; damaged = l .damaged; active = l .active; station = clocked (l .station) t }
+
+-- what a change notes, with these contents
+abbrev pub changeNotes : List ℕ → Change → Noted
+changeNotes c Change.Start = starting (settingsOf c)
+changeNotes c Change.Frame = hearing c
+changeNotes c (Change.Advance n) = advancing n
+
+abbrev pub stepTold : List ℕ → Lister → Step → Told
+stepTold c l Step.Malformed = badRecord l
+stepTold c l (Step.Told word answer t) = line (clockedAt l t) word answer
+stepTold c l (Step.Change x) = noted l (changeNotes c x)
+
+-- a change but a start has a station
+abbrev pub ChangeFits : Lister → Change → Type 0
+ChangeFits l Change.Start = Unit {0}
+ChangeFits l Change.Frame = l .active ≡ true
+ChangeFits l (Change.Advance n) = l .active ≡ true
+
+-- whether the rest of the block is dropped
+abbrev pub entryMalformed : Entry → Bool
+entryMalformed Entry.Malformed = true
+entryMalformed Entry.Start = false
+entryMalformed (Entry.Advance n) = false
+entryMalformed Entry.Frame = false
+entryMalformed (Entry.Ask n) = false
+
+-- a malformed record and no other drops the rest, and the lister stays sound
+abbrev pub StepFits : Lister → Bool → Step → Type 0
+StepFits l bad Step.Malformed = bad ≡ true
+StepFits l bad (Step.Told word answer t) = (bad ≡ false) × Sound (clockedAt l t)
+StepFits l bad (Step.Change x) = (bad ≡ false) × ChangeFits l x

@@ -1,0 +1,122 @@
+// What a record comes to (document 01, "Capture blocks and the evening list"), told without the lister that it leaves: a lister is long to
+// copy, and most records change its clock at most.
+ghost use mathlib.Core.Path.{_≡_};
+ghost use mathlib.Core.Bool.{false};
+ghost use mathlib.Core.List.{List};
+ghost use Prim.Native.Nat.{ℕ};
+ghost use Rattle.record.specs.Entries.{advancing, hearing, asking, entryTold};
+ghost use Rattle.capture.specs.Following.{Sound};
+ghost use Rattle.capture.specs.Lists.{line, noStation, noted};
+ghost use Rattle.capture.specs.Stepping.{stepTold, entryMalformed, StepFits};
+use crate::Lister;
+use answer::Refusal;
+use record::Entry;
+use station::Advanced;
+use text::Word;
+
+// What changes more of a lister than its clock.
+pub enum Change {
+    Start,
+    Frame,
+    Advance(u16),
+}
+
+pub enum Step {
+    // There is no station after it, and the rest of the block is dropped.
+    Malformed,
+    // This line, and the clock at this moment.
+    Told { word: Word, answer: u8, clock: u32 },
+    Change(Change),
+}
+
+// A line, and nothing changes.
+fn unchanged(lister: Lister, word: Word, answer: u8) -> Step
+    requires { ⌜ Sound lister ⌝ }
+    ensures { λ r. ⌜ ((c : List ℕ) → stepTold c lister r ≡ line lister word answer) ⌝ }
+    ensures { λ r. ⌜ StepFits lister false r ⌝ }
+{
+    Step::Told {
+        word,
+        answer,
+        clock: lister.station.clock,
+    }
+}
+
+// A record that comes with no station started.
+fn unstarted(lister: Lister, word: Word) -> Step
+    requires { ⌜ Sound lister ⌝ }
+    ensures { λ r. ⌜ ((c : List ℕ) → stepTold c lister r ≡ noStation lister word) ⌝ }
+    ensures { λ r. ⌜ StepFits lister false r ⌝ }
+{
+    let refusal = Refusal::NoStation;
+    unchanged(lister, word, refusal.number())
+}
+
+// An advance, by the station if there is one.
+fn advance(lister: Lister, units: u16) -> Step
+    requires { ⌜ Sound lister ⌝ }
+    ensures { λ r. ⌜ ((c : List ℕ) → stepTold c lister r ≡ noted lister (advancing units)) ⌝ }
+    ensures { λ r. ⌜ StepFits lister false r ⌝ }
+{
+    if !lister.active {
+        return unstarted(lister, Word::Advance);
+    }
+    let station = lister.station;
+    let pending = station.pending;
+    match station::advance_clock(station.clock, pending, units as u32) {
+        Advanced::Refused => {
+            let refusal = Refusal::PastClock;
+            unchanged(lister, Word::Advance, refusal.number())
+        }
+        Advanced::Goes(moment) => Step::Told {
+            word: Word::Advance,
+            answer: 0,
+            clock: moment,
+        },
+        Advanced::Switches {
+            moment: _,
+            channel: _,
+        } => Step::Change(Change::Advance(units)),
+    }
+}
+
+// A frame, for the station if there is one.
+fn frame(lister: Lister) -> Step
+    requires { ⌜ Sound lister ⌝ }
+    ensures { λ r. ⌜ ((c : List ℕ) → stepTold c lister r ≡ noted lister (hearing c)) ⌝ }
+    ensures { λ r. ⌜ StepFits lister false r ⌝ }
+{
+    if !lister.active {
+        return unstarted(lister, Word::Frame);
+    }
+    Step::Change(Change::Frame)
+}
+
+// A question, to the station if there is one.
+fn ask(lister: Lister, units: u16) -> Step
+    requires { ⌜ Sound lister ⌝ }
+    ensures { λ r. ⌜ ((c : List ℕ) → stepTold c lister r ≡ noted lister (asking units)) ⌝ }
+    ensures { λ r. ⌜ StepFits lister false r ⌝ }
+{
+    if !lister.active {
+        return unstarted(lister, Word::Ask);
+    }
+    let station = lister.station;
+    let permission = station.ask(units as u32);
+    unchanged(lister, Word::Ask, permission.number())
+}
+
+// Any record, by what it notes.
+pub fn step_by(lister: Lister, entry: Entry) -> Step
+    requires { ⌜ Sound lister ⌝ }
+    ensures { λ r. ⌜ ((c : List ℕ) → stepTold c lister r ≡ noted lister (entryTold c entry)) ⌝ }
+    ensures { λ r. ⌜ StepFits lister (entryMalformed entry) r ⌝ }
+{
+    match entry {
+        Entry::Malformed => Step::Malformed,
+        Entry::Start => Step::Change(Change::Start),
+        Entry::Advance(units) => advance(lister, units),
+        Entry::Frame => frame(lister),
+        Entry::Ask(units) => ask(lister, units),
+    }
+}
