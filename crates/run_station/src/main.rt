@@ -5,7 +5,7 @@
 // A call is its kind and the numbers of that kind, which letters among them only name. Those that are left out are 0.
 //
 //   1 advance: units
-//   2 frame: how many octets it has, and the octets; zeros behind them, up to that number
+//   2 frame: how many octets it has, and the octets, which are cut there or followed by zeros
 //   3 ask: units
 //   4 start: beacon interval, first octet of the own address, first octet of the AP's address, channel
 //   5 frame with a header: first octet of the header, octets behind the header
@@ -16,8 +16,9 @@
 //   10 the clock
 //   11 the latest Power Constraint
 //
-// Kinds 1 to 4 are those of a capture's records. Of 7 and 8, which only make a scene ready, nothing is told unless the station refuses it. Every
-// scene begins with a station that is started with beacon interval 100 on channel 36. A scene more needs no proof.
+// Kinds 1 to 4 are those of a capture's records. Of 7 and 8, which only make a scene ready, nothing is told unless the station refuses them. What
+// cannot be run is told in words: a moment that is gone, a kind that is unknown, a call that is too long, with more than 128 numbers. Every scene
+// begins with a station that is started with beacon interval 100 on channel 36. A scene more needs no proof.
 mod calls;
 mod frames;
 mod kinds;
