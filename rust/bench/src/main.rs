@@ -4,7 +4,8 @@
 //!   large as the list program's;
 //! - `list` is the twin's evening list of standard input, on standard output;
 //! - `read-proved COUNT` and `read-twin COUNT` read so many frames with the
-//!   proved library and with the twin, and write how many were accepted.
+//!   proved library and with the twin, and write how many were accepted;
+//! - `pcap COUNT` writes the same frames as a file that Wireshark reads.
 
 mod frames;
 
@@ -40,6 +41,25 @@ fn read(count: usize, accepts: impl Fn(&[u8]) -> bool) -> io::Result<()> {
     writeln!(io::stdout(), "{}", accepted)
 }
 
+/// A file of link type 105, which is 802.11 frames as they are.
+fn pcap(count: usize) -> io::Result<()> {
+    let samples = frames::samples();
+    let mut out = io::BufWriter::new(io::stdout().lock());
+    let head = [0xA1B2_C3D4_u32, 0x0004_0002, 0, 0, 65_535, 105];
+    for word in head {
+        out.write_all(&word.to_le_bytes())?;
+    }
+    for i in 0..count {
+        let frame = &samples[i % samples.len()];
+        let length = (frame.len() as u32).to_le_bytes();
+        out.write_all(&[0; 8])?;
+        out.write_all(&length)?;
+        out.write_all(&length)?;
+        out.write_all(frame)?;
+    }
+    out.flush()
+}
+
 fn main() -> io::Result<()> {
     let words: Vec<String> = std::env::args().skip(1).collect();
     let count = words.get(1).and_then(|word| word.parse().ok()).unwrap_or(0);
@@ -48,8 +68,9 @@ fn main() -> io::Result<()> {
         Some("list") => list(),
         Some("read-proved") => read(count, frames::proved_accepts),
         Some("read-twin") => read(count, frames::twin_accepts),
+        Some("pcap") => pcap(count),
         _ => {
-            eprintln!("bench: 'sum', 'list', 'read-proved COUNT' or 'read-twin COUNT'");
+            eprintln!("bench: 'sum', 'list', 'read-proved COUNT', 'read-twin COUNT' or 'pcap COUNT'");
             std::process::exit(2);
         }
     }
