@@ -1,0 +1,264 @@
+//! Comparisons, and the count of what they reached.
+//!
+//! A run that compares equal answers shows little if some answer was never
+//! among them. So each call has the numbers that it can give, and the run
+//! fails unless it gave every one of them, and none besides.
+
+use crate::lend::Left;
+use crate::rng::Rng;
+use std::fmt::Debug;
+
+/// The numbers of the document's table, with 0 for accepted.
+const NUMBERS: usize = 21;
+/// The answers to an ask.
+const ASKS: usize = 6;
+/// So many differences of a subject are told; the others are counted.
+const TOLD: u64 = 3;
+
+/// The calls of the library, and the lines that a list can have.
+#[derive(Clone, Copy)]
+pub enum Call {
+    ReadFrame,
+    ReadElement,
+    WriteFree,
+    WriteElement,
+    WriteBody,
+    ReplyTpc,
+    ReplyMeasurement,
+    Number,
+    List,
+    StartLine,
+    AdvanceLine,
+    FrameLine,
+    AskLine,
+    RecordLine,
+    BlockLine,
+}
+
+/// A call's name in the table, and the numbers that it can give.
+struct Can(&'static str, &'static [u8]);
+
+/// In the order of `Call`. Nowhere but in lists can 14, 15, 17, 19 and 20
+/// occur, since no other call has a clock to advance, a station to start or a
+/// block to read.
+const CAN: [Can; 15] = [
+    // Not 13: the safe call lends a buffer of its own, which is long enough.
+    // Not 16, 18: neither an index nor a reply is asked for.
+    Can("read", &[0, 1, 2, 3, 4, 5, 6, 7, 8, 9, 10, 11, 12]),
+    // The frame's own refusal, or 16 for the index.
+    Can("index", &[0, 1, 2, 3, 4, 5, 6, 7, 8, 9, 10, 11, 12, 16]),
+    // Elements 32, 34 and 35 and the TPC Report body. Not 16: the rules forbid
+    // no value of theirs.
+    Can("free", &[0, 13]),
+    // Elements 37, 38, 39 and 40. A writer reads nothing, so what the reader
+    // would refuse with 8 to 10 is 16.
+    Can("element", &[0, 13, 16]),
+    // The bodies of actions 0, 1, 2 and 4; the same holds of them.
+    Can("body", &[0, 13, 16]),
+    // Not 5 to 12: past check 4 a frame that is refused is one to which no
+    // reply is due, 18.
+    Can("tpc", &[0, 1, 2, 3, 4, 13, 16, 18]),
+    Can("measure", &[0, 1, 2, 3, 4, 13, 16, 18]),
+    // Not 13: nothing is lent, or a buffer of the safe call's own.
+    Can("number", &[0, 16]),
+    // The call as such: what stands in a capture is told by lines.
+    Can("list", &[0, 13]),
+    // Not 19: a start needs no station. A start of another length is 20.
+    Can("start", &[0, 15]),
+    // 14 for the clock's limit alone: two octets hold no more than 65,535.
+    Can("advance", &[0, 14, 19]),
+    // Not 2: a record has at most 508 octets, so a frame in it at most 505.
+    Can("frame", &[0, 1, 3, 4, 5, 6, 7, 8, 9, 10, 11, 12, 19]),
+    // The answers to an ask have a table of their own, in which all six occur,
+    // 5 for asks of 0 alone: two octets hold no more than 65,535.
+    Can("ask", &[19]),
+    Can("record", &[20]),
+    Can("block", &[17]),
+];
+
+/// What a subject has compared so far.
+struct Subject {
+    name: &'static str,
+    seed: u64,
+    cases: u64,
+    differences: u64,
+}
+
+/// The count of a whole run.
+pub struct Count {
+    subjects: Vec<Subject>,
+    answers: [[u64; NUMBERS]; CAN.len()],
+    asks: [u64; ASKS],
+}
+
+impl Count {
+    pub fn new() -> Count {
+        Count {
+            subjects: Vec::new(),
+            answers: [[0; NUMBERS]; CAN.len()],
+            asks: [0; ASKS],
+        }
+    }
+
+    /// Begins a subject, and gives the generator of its seed.
+    pub fn begin(&mut self, name: &'static str, seed: u64) -> Rng {
+        self.subjects.push(Subject {
+            name,
+            seed,
+            cases: 0,
+            differences: 0,
+        });
+        Rng::new(seed)
+    }
+
+    /// Notes that a call gave this number. One that is not in the table is no
+    /// number of the twin, so it is told as a difference.
+    pub fn note(&mut self, call: Call, number: u8) {
+        if let Some(place) = self.answers[call as usize].get_mut(usize::from(number)) {
+            *place += 1;
+        }
+    }
+
+    /// Notes the answer to an ask.
+    pub fn note_ask(&mut self, number: u8) {
+        if let Some(place) = self.asks.get_mut(usize::from(number)) {
+            *place += 1;
+        }
+    }
+
+    /// Compares what a call gave back.
+    pub fn values<T: PartialEq + Debug>(
+        &mut self,
+        call: Call,
+        library: &Result<T, u8>,
+        twin: &Result<T, u8>,
+        input: impl FnOnce() -> String,
+    ) {
+        self.note(call, library.as_ref().err().copied().unwrap_or(0));
+        self.compare(library, twin, input);
+    }
+
+    /// Compares what a call left in the buffer that it was lent. That a refusal
+    /// leaves every octet as it was is asked of the library by itself too, so
+    /// that it does not rest on the twin.
+    pub fn buffers(
+        &mut self,
+        call: Call,
+        library: &Left,
+        twin: &Left,
+        input: impl FnOnce() -> String,
+    ) {
+        self.note(call, library.answer.err().unwrap_or(0));
+        let kept = library.answer.is_ok() || library.is_as_before();
+        self.compare(&(library, kept), &(twin, true), input);
+    }
+
+    /// One case. The input is asked for only where there is something to tell.
+    pub fn compare<T: PartialEq + Debug>(
+        &mut self,
+        library: &T,
+        twin: &T,
+        input: impl FnOnce() -> String,
+    ) {
+        let subject = self.subjects.last_mut().expect("a subject was begun");
+        subject.cases += 1;
+        if library == twin {
+            return;
+        }
+        subject.differences += 1;
+        if subject.differences <= TOLD {
+            println!(
+                "DIFFERS: {}, seed {:#x}, case {}",
+                subject.name, subject.seed, subject.cases
+            );
+            println!("  input:   {}", input());
+            println!("  library: {:?}", library);
+            println!("  twin:    {:?}", twin);
+        }
+    }
+
+    /// Prints the tables, and what is wrong with them; whether all is well.
+    pub fn conclude(&self) -> bool {
+        self.print_cases();
+        self.print_answers();
+        let mut well = true;
+        for subject in &self.subjects {
+            if subject.differences != 0 {
+                println!(
+                    "FAILED: {} cases of {} differ",
+                    subject.differences, subject.name
+                );
+                well = false;
+            }
+        }
+        for fault in self.faults() {
+            println!("FAILED: {}", fault);
+            well = false;
+        }
+        well
+    }
+
+    fn print_cases(&self) {
+        for subject in &self.subjects {
+            println!("{:<10}{:>9} cases compared", subject.name, subject.cases);
+        }
+    }
+
+    /// A line for each number: how often in all, then by call. A dash stands
+    /// where the call cannot give the number.
+    fn print_answers(&self) {
+        print!("\nanswer     all");
+        for Can(name, _) in &CAN {
+            print!("{:>8}", name);
+        }
+        println!();
+        for number in 0..NUMBERS {
+            let all: u64 = self.answers.iter().map(|answers| answers[number]).sum();
+            print!("{:>6}{:>8}", number, all);
+            for (Can(_, can), answers) in CAN.iter().zip(&self.answers) {
+                if answers[number] != 0 || can.contains(&(number as u8)) {
+                    print!("{:>8}", answers[number]);
+                } else {
+                    print!("{:>8}", "-");
+                }
+            }
+            println!();
+        }
+        println!("\n   ask     all");
+        for (answer, times) in self.asks.iter().enumerate() {
+            println!("{:>6}{:>8}", answer, times);
+        }
+    }
+
+    /// Numbers that were not reached, or that a call should not have given.
+    fn faults(&self) -> Vec<String> {
+        let mut faults = Vec::new();
+        for (Can(name, can), answers) in CAN.iter().zip(&self.answers) {
+            for (number, &times) in answers.iter().enumerate() {
+                match (can.contains(&(number as u8)), times) {
+                    (true, 0) => faults.push(format!("'{}' never gave {}", name, number)),
+                    (true, _) | (false, 0) => {}
+                    (false, _) => faults.push(format!("'{}' gave {}", name, number)),
+                }
+            }
+        }
+        for (answer, &times) in self.asks.iter().enumerate() {
+            if times == 0 {
+                faults.push(format!("no ask was answered by {}", answer));
+            }
+        }
+        faults
+    }
+}
+
+/// Where the run was, should one side panic.
+impl Drop for Count {
+    fn drop(&mut self) {
+        if let (true, Some(subject)) = (std::thread::panicking(), self.subjects.last()) {
+            println!(
+                "PANICKED: {}, seed {:#x}, behind case {}",
+                subject.name, subject.seed, subject.cases
+            );
+        }
+    }
+}

@@ -1,0 +1,477 @@
+//! Frames: the kind, every field, every measurement element by its index, and
+//! refusals.
+
+use crate::builder::{
+    action, element, header, measured, mutate, notice, padding, quiet, soup, Builder, Stage,
+    ACTION, ALL_ONES, BEACON, HEADER, LONGEST, PROBE_RESPONSE,
+};
+use crate::count::{Call, Count};
+use crate::lend::hex;
+use crate::pairs;
+use crate::rng::Rng;
+
+const SEED: u64 = 0x8021_1000_2003_0001;
+
+/// Frames built at random; each is then changed and cut as well.
+const BUILT: usize = 110_000;
+/// Bodies at random behind a header that is right.
+const SOUPS: usize = 250_000;
+
+pub fn run(count: &mut Count) {
+    let mut rng = count.begin("frames", SEED);
+    header_octets(count);
+    addresses(count);
+    body_octets(count);
+    element_lengths(count);
+    intervals(count);
+    repeated_elements(count);
+    sizes(count, &mut rng);
+    full_frames(count, &mut rng);
+    built(count, &mut rng);
+    soups(count, &mut rng);
+}
+
+fn input(stage: &Stage, frame: &[u8]) -> String {
+    format!(
+        "frame {}, own {}, AP {}, B {:04x}",
+        hex(frame),
+        hex(&stage.own),
+        hex(&stage.ap),
+        stage.interval
+    )
+}
+
+/// Compares a frame, and its measurement elements up to one past the last.
+/// An element of a frame of another kind is 16, and one of a refused frame is
+/// that frame's refusal (docs/DECISIONS.md, "Frames").
+pub fn compare(count: &mut Count, stage: &Stage, frame: &[u8]) {
+    let settings = stage.settings();
+    let library = oneiralth::read_frame(frame, settings);
+    let twin = twin::read_frame(frame, stage.own, stage.ap, stage.interval);
+    let twin = twin.as_ref().map_err(|&refusal| refusal);
+    count.values(
+        Call::ReadFrame,
+        &library,
+        &twin.map(pairs::received),
+        || input(stage, frame),
+    );
+    let (requests, reports) = match twin.map(|received| &received.frame) {
+        Ok(twin::Frame::MeasurementRequest { requests, .. }) => (requests.len(), 0),
+        Ok(twin::Frame::MeasurementReport { reports, .. }) => (0, reports.len()),
+        _ => (0, 0),
+    };
+    for index in indices(requests) {
+        let library = oneiralth::read_request(frame, settings, index);
+        let twin = twin.and_then(|received| received.frame.request(index).map(pairs::request));
+        count.values(Call::ReadElement, &library, &twin, || {
+            format!("request {:x} of {}", index, input(stage, frame))
+        });
+    }
+    for index in indices(reports) {
+        let library = oneiralth::read_report(frame, settings, index);
+        let twin = twin.and_then(|received| received.frame.report(index).map(pairs::report));
+        count.values(Call::ReadElement, &library, &twin, || {
+            format!("report {:x} of {}", index, input(stage, frame))
+        });
+    }
+}
+
+/// The indices that are asked for of so many elements: each of a few, of many
+/// the first, the last and some between, always one past the last, and for
+/// frames with elements the greatest number that there is.
+fn indices(elements: usize) -> Vec<usize> {
+    let mut indices: Vec<usize> = (0..=elements)
+        .filter(|&index| index < 12 || index + 6 > elements || index % 16 == 0)
+        .collect();
+    if elements > 0 {
+        indices.push(usize::MAX);
+    }
+    indices
+}
+
+/// A frame of each kind with some of everything in it, for sweeps.
+fn samples(stage: &Stage) -> Vec<Vec<u8>> {
+    let elements = [
+        element(40, &quiet(1, 2, 300, 4)),
+        element(32, &[7]),
+        element(38, &[0]),
+        element(37, &[1, 200, 3]),
+        element(35, &[255, 128]),
+        element(40, &quiet(255, 0, 1, stage.interval - 1)),
+    ]
+    .concat();
+    let requests = [
+        element(
+            38,
+            &measured([1, 0b1100, 0], 200, 0x0102_0304_0506_0708, 0x0A0B),
+        ),
+        element(38, &[2, 0b1010, 3]),
+        element(38, &[3, 0, 9, 4, 5]),
+        element(38, &measured([4, 0, 2], 36, 0, 1)),
+    ]
+    .concat();
+    let basic = [measured([1, 0, 0], 1, 2, 3), vec![0b1111]].concat();
+    let cca = [measured([1, 0b1000, 1], 200, 2, 3), vec![255]].concat();
+    let rpi = [measured([0, 0, 2], 9, 8, 7), vec![1, 2, 3, 4, 5, 6, 7, 8]].concat();
+    let reports = [
+        element(39, &basic),
+        element(39, &[0, 0b100, 77]),
+        element(39, &cca),
+        element(39, &[6, 0, 200, 1]),
+        element(39, &rpi),
+    ]
+    .concat();
+    vec![
+        notice(stage, BEACON, &elements),
+        notice(stage, PROBE_RESPONSE, &elements),
+        action(stage, &[&[0, 0, 5][..], &requests].concat()),
+        action(stage, &[&[0, 1, 0][..], &reports].concat()),
+        action(stage, &[0, 2, 9, 34, 0]),
+        action(stage, &[0, 3, 0, 35, 2, 128, 127]),
+        action(stage, &[0, 4, 37, 3, 0, 200, 0]),
+    ]
+}
+
+/// Every value of each octet of the header but the addresses.
+fn header_octets(count: &mut Count) {
+    let stage = Stage::usual(100);
+    for sample in samples(&stage) {
+        for place in [0, 1, 2, 3, 22, 23] {
+            for value in 0..=255 {
+                let mut frame = sample.clone();
+                frame[place] = value;
+                compare(count, &stage, &frame);
+            }
+        }
+    }
+}
+
+/// Each address with each bit changed, and the addresses in each other's
+/// places, for stations of several addresses.
+fn addresses(count: &mut Count) {
+    let usual = Stage::usual(100);
+    let group = [0x01, 0, 0, 0, 0, 0x80];
+    for stage in [
+        usual,
+        Stage {
+            own: ALL_ONES,
+            ..usual
+        },
+        Stage {
+            ap: ALL_ONES,
+            ..usual
+        },
+        Stage {
+            own: usual.ap,
+            ..usual
+        },
+        Stage {
+            own: group,
+            ap: group,
+            ..usual
+        },
+        Stage {
+            own: [0; 6],
+            ..usual
+        },
+    ] {
+        for sample in samples(&stage) {
+            for bit in 0..18 * 8 {
+                for da in [stage.own, ALL_ONES] {
+                    let mut frame = sample.clone();
+                    frame[4..10].copy_from_slice(&da);
+                    frame[4 + bit / 8] ^= 1 << (bit % 8);
+                    compare(count, &stage, &frame);
+                }
+            }
+            let all = [stage.own, stage.ap, ALL_ONES, usual.own, usual.ap, [0; 6]];
+            for da in all {
+                for sa in all {
+                    for bssid in all {
+                        let mut frame = sample.clone();
+                        frame[4..10].copy_from_slice(&da);
+                        frame[10..16].copy_from_slice(&sa);
+                        frame[16..22].copy_from_slice(&bssid);
+                        compare(count, &stage, &frame);
+                    }
+                }
+            }
+        }
+    }
+}
+
+/// Every value of each octet of the body, and each sample cut at every length:
+/// categories, actions, tokens, modes, types, channels, maps, lengths.
+fn body_octets(count: &mut Count) {
+    let stage = Stage::usual(100);
+    for sample in samples(&stage) {
+        for place in HEADER..sample.len() {
+            for value in 0..=255 {
+                let mut frame = sample.clone();
+                frame[place] = value;
+                compare(count, &stage, &frame);
+            }
+        }
+        for length in 0..=sample.len() {
+            compare(count, &stage, &sample[..length]);
+        }
+    }
+}
+
+/// Each ID in each place, with every length, and with contents that are as
+/// long as it says, or one octet shorter or longer.
+fn element_lengths(count: &mut Count) {
+    let stage = Stage::usual(100);
+    let openings: [Vec<u8>; 6] = [
+        notice(&stage, BEACON, &[]),
+        action(&stage, &[0, 0, 1]),
+        action(&stage, &[0, 1, 1]),
+        action(&stage, &[0, 2, 1]),
+        action(&stage, &[0, 3, 1]),
+        action(&stage, &[0, 4]),
+    ];
+    // Token 1, each mode that decides a length, types 0 to 3; the other octets
+    // are small enough to be allowed everywhere.
+    let mut heads = Vec::new();
+    for mode in [0, 1, 2, 3, 4, 6] {
+        for kind in [0, 1, 2, 3] {
+            heads.push([1, mode, kind]);
+        }
+    }
+    for opening in &openings {
+        for id in [0, 32, 34, 35, 36, 37, 38, 39, 40, 255] {
+            // The head matters to measurement elements alone.
+            let heads = if id == 38 || id == 39 {
+                &heads[..]
+            } else {
+                &heads[..1]
+            };
+            for head in heads {
+                for length in 0..=255usize {
+                    if heads.len() > 1 && (27..254).contains(&length) {
+                        continue;
+                    }
+                    for more in 0..3 {
+                        let mut contents = head.to_vec();
+                        contents.resize(256, 1);
+                        contents.truncate((length + more).saturating_sub(1));
+                        let mut frame = opening.clone();
+                        frame.extend_from_slice(&[id, length as u8]);
+                        frame.extend_from_slice(&contents);
+                        compare(count, &stage, &frame);
+                    }
+                }
+            }
+        }
+    }
+}
+
+/// Beacons of each interval against stations of each, and Quiet offsets around
+/// the limit.
+fn intervals(count: &mut Count) {
+    let all = [
+        0, 1, 2, 99, 100, 101, 255, 256, 25_600, 32_767, 65_534, 65_535,
+    ];
+    for interval in all {
+        let stage = Stage::usual(interval);
+        for other in all {
+            let mut frame = notice(&stage, BEACON, &[40, 0]);
+            frame[HEADER + 8..HEADER + 10].copy_from_slice(&other.to_le_bytes());
+            compare(count, &stage, &frame);
+            compare(count, &stage, &frame[..HEADER + 12]);
+            compare(count, &stage, &frame[..HEADER + 11]);
+        }
+        let below = interval.wrapping_sub(1);
+        for offset in [0, 1, below, interval, interval.wrapping_add(1), 65_535] {
+            for quiet_count in [0, 1, 255] {
+                for period in [0, 255] {
+                    for duration in [0, 1, 65_535] {
+                        let contents = quiet(quiet_count, period, duration, offset);
+                        let frame = notice(&stage, PROBE_RESPONSE, &element(40, &contents));
+                        compare(count, &stage, &frame);
+                    }
+                }
+            }
+        }
+    }
+}
+
+/// One to ten Quiet elements, each told by its offset, with elements that may
+/// come once and come twice before, among or behind them.
+fn repeated_elements(count: &mut Count) {
+    let stage = Stage::usual(100);
+    for quiets in 0..=10u8 {
+        let quiets: Vec<Vec<u8>> = (0..quiets)
+            .map(|place| element(40, &quiet(1 + place, place, 500, u16::from(place))))
+            .collect();
+        compare(count, &stage, &notice(&stage, BEACON, &quiets.concat()));
+        for once in [
+            vec![32, 1, 3],
+            vec![35, 2, 4, 5],
+            vec![37, 3, 0, 6, 7],
+            vec![33, 1, 8],
+        ] {
+            for first in 0..=quiets.len() {
+                for second in first..=quiets.len() {
+                    let mut elements = quiets.clone();
+                    elements.insert(second, once.clone());
+                    elements.insert(first, once.clone());
+                    compare(count, &stage, &notice(&stage, BEACON, &elements.concat()));
+                }
+            }
+        }
+    }
+}
+
+/// Frames of every length up to past the longest: zeros, beacons that are all
+/// right, and Measurement Reports that are until the octets run out.
+fn sizes(count: &mut Count, rng: &mut Rng) {
+    let stage = Stage::usual(100);
+    let pad = padding(rng, LONGEST + 10);
+    let beacon = notice(&stage, BEACON, &pad);
+    let mut report = action(&stage, &[0, 1, 7]);
+    while report.len() < LONGEST + 10 {
+        report.extend_from_slice(&element(39, &[7, 1, 7]));
+    }
+    for length in 0..=LONGEST + 4 {
+        // A frame with a fault in its header: over the length limit that is
+        // found first, under it second.
+        let mut other = beacon[..length].to_vec();
+        if let Some(first) = other.first_mut() {
+            *first ^= 1;
+        }
+        compare(count, &stage, &other);
+        compare(count, &stage, &beacon[..length]);
+        if length % 3 == 0 || length + 8 > LONGEST {
+            compare(count, &stage, &report[..length]);
+        }
+    }
+    for length in [65_535, 65_536, 65_560, 131_072] {
+        compare(count, &stage, &vec![0x80; length]);
+    }
+}
+
+/// Frames that have the longest length exactly and are accepted, one octet
+/// less and one more; and every element of theirs by its index.
+fn full_frames(count: &mut Count, rng: &mut Rng) {
+    let stage = Stage::at_random(rng);
+    for length in [LONGEST - 1, LONGEST, LONGEST + 1] {
+        let open = notice(&stage, BEACON, &[]);
+        let pad = padding(rng, length - open.len());
+        compare(count, &stage, &notice(&stage, BEACON, &pad));
+        for spare in [5, 8, 11, 100] {
+            // So many octets for a last element of a type over 2.
+            let mut requests = action(&stage, &[0, 0, 255]);
+            let mut token = 0;
+            while requests.len() + 16 + spare <= length {
+                token += 1;
+                let contents = measured([token, 0, token % 3], token, u64::from(token), 1);
+                requests.extend_from_slice(&element(38, &contents));
+            }
+            let rest = length - requests.len() - 2;
+            let last = [vec![255, 0, 3], rng.octets(rest - 3)].concat();
+            requests.extend_from_slice(&element(38, &last));
+            every_element(count, &stage, &requests);
+            let mut reports = action(&stage, &[0, 1, 0]);
+            while reports.len() + 5 + spare <= length {
+                let excuse = rng.pick(&[1, 2, 4]);
+                reports.extend_from_slice(&element(39, &[rng.octet(), excuse, rng.octet()]));
+            }
+            let rest = length - reports.len() - 2;
+            let last = [vec![0, 0, 3], rng.octets(rest - 3)].concat();
+            reports.extend_from_slice(&element(39, &last));
+            every_element(count, &stage, &reports);
+        }
+    }
+}
+
+/// As `compare`, but with every index up to well past the last.
+fn every_element(count: &mut Count, stage: &Stage, frame: &[u8]) {
+    compare(count, stage, frame);
+    let settings = stage.settings();
+    let twin = twin::read_frame(frame, stage.own, stage.ap, stage.interval);
+    let twin = twin.as_ref().map_err(|&refusal| refusal);
+    for index in 0..LONGEST / 5 + 5 {
+        let library = oneiralth::read_request(frame, settings, index);
+        let twin_request =
+            twin.and_then(|received| received.frame.request(index).map(pairs::request));
+        count.values(Call::ReadElement, &library, &twin_request, || {
+            format!("request {:x} of {}", index, input(stage, frame))
+        });
+        let library = oneiralth::read_report(frame, settings, index);
+        let twin_report = twin.and_then(|received| received.frame.report(index).map(pairs::report));
+        count.values(Call::ReadElement, &library, &twin_report, || {
+            format!("report {:x} of {}", index, input(stage, frame))
+        });
+    }
+}
+
+/// Frames built at random: without fault, with some, changed, extended, and
+/// cut, short ones at every length.
+fn built(count: &mut Count, rng: &mut Rng) {
+    for _ in 0..BUILT {
+        let stage = Stage::at_random(rng);
+        let faults = rng.pick(&[0, 0, 60, 25, 10]);
+        let frame = Builder { rng, stage, faults }.frame();
+        compare(count, &stage, &frame);
+        for _ in 0..4 {
+            let mut changed = frame.clone();
+            mutate(rng, &mut changed);
+            compare(count, &stage, &changed);
+        }
+        let mut longer = frame.clone();
+        let more = rng.pick(&[1, 2, 3, 30, LONGEST]);
+        longer.extend_from_slice(&soup(rng, more));
+        compare(count, &stage, &longer);
+        // A cut header is 1 whatever else there is, which the sweeps have shown.
+        let first = HEADER.min(frame.len());
+        if frame.len() < 100 && rng.one_in(3) {
+            for length in first..frame.len() {
+                compare(count, &stage, &frame[..length]);
+            }
+        } else {
+            for _ in 0..4 {
+                let length = first + rng.place(frame.len() - first + 1);
+                compare(count, &stage, &frame[..length]);
+            }
+        }
+        // The same frame as another station hears it.
+        let other = Stage::at_random(rng);
+        for elsewhere in [
+            Stage {
+                own: other.own,
+                ..stage
+            },
+            Stage {
+                interval: other.interval,
+                ..stage
+            },
+        ] {
+            compare(count, &elsewhere, &frame);
+        }
+    }
+}
+
+/// Octets at random behind a header that is right, so that a body of any sort
+/// is met, and alone.
+fn soups(count: &mut Count, rng: &mut Rng) {
+    for _ in 0..SOUPS {
+        let stage = Stage::at_random(rng);
+        let length = rng.pick(&[1, 4, 12, 24, 60, 60, 300]);
+        let length = rng.place(length + 1);
+        let octets = soup(rng, length);
+        let frame = match rng.below(6) {
+            0 => octets,
+            1 => notice(&stage, rng.pick(&[BEACON, PROBE_RESPONSE]), &octets),
+            2 => action(&stage, &[&[0, rng.below(5) as u8][..], &octets].concat()),
+            3 => action(&stage, &[&[0, rng.below(4) as u8, 1][..], &octets].concat()),
+            _ => {
+                let subtype = rng.pick(&[BEACON, PROBE_RESPONSE, ACTION]);
+                let mut frame = header(&stage, subtype, rng.pick(&[stage.own, ALL_ONES]));
+                frame.extend_from_slice(&octets);
+                frame
+            }
+        };
+        compare(count, &stage, &frame);
+    }
+}

@@ -1,0 +1,35 @@
+//! The proved library and the twin, an independent implementation of the same
+//! document, called with the same octets: every answer must be the same, and
+//! so must every octet of a lent buffer, on a refusal too.
+//!
+//! All cases come from fixed seeds, so each run is the same run. It prints how
+//! many cases were compared and how often each number was the answer; it fails
+//! if anything differs, or if a number that can occur did not.
+
+mod bodies;
+mod builder;
+mod captures;
+mod count;
+mod elements;
+mod frames;
+mod lend;
+mod numbers;
+mod pairs;
+mod replies;
+mod rng;
+mod tape;
+
+use count::Count;
+
+fn main() {
+    let mut count = Count::new();
+    frames::run(&mut count);
+    elements::run(&mut count);
+    bodies::run(&mut count);
+    replies::run(&mut count);
+    numbers::run(&mut count);
+    captures::run(&mut count);
+    if !count.conclude() {
+        std::process::exit(1);
+    }
+}
