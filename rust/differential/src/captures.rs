@@ -22,7 +22,7 @@ const CHANGED: usize = 15_000;
 /// Evenings of some thousand records.
 const LONG: usize = 400;
 /// The beacon intervals of evenings that reach the clock's limit. That limit is
-/// 65,537 times 65,535, so it is a TBTT of the first two.
+/// 65,537 times 65,535, so it is a TBTT for some of them.
 const AT_THE_LIMIT: [u16; 10] = [
     65_535, 1, 65_534, 100, 32_768, 65_535, 2, 255, 65_535, 10_000,
 ];
@@ -232,8 +232,9 @@ fn blocks(count: &mut Count, rng: &mut Rng) {
         .chain((1101..=65_535).step_by(173))
         .chain([65_535])
     {
+        let held = &many[..usize::from(used).min(ROOM)];
         for filler in [0, 255] {
-            let capture = [&first[..], &block(used, &many, filler), &first].concat();
+            let capture = [&first[..], &block(used, held, filler), &first].concat();
             compare(count, &capture);
         }
     }
@@ -268,8 +269,8 @@ fn blocks(count: &mut Count, rng: &mut Rng) {
     }
 }
 
-/// Every kind with lengths of all sorts, each as the only record, behind
-/// others, and as the last in a block that is full to the last octet.
+/// Every kind with lengths of all sorts, among other records, and as the last
+/// in a block that is full to the last octet or should have one or two more.
 fn records(count: &mut Count, rng: &mut Rng) {
     let stage = Stage::usual(100);
     let first = sound(&[start(&stage, 36)]);

@@ -38,22 +38,25 @@ pub enum Call {
 /// A call's name in the table, and the numbers that it can give.
 struct Can(&'static str, &'static [u8]);
 
-/// In the order of `Call`. Nowhere but in lists can 14, 15, 17, 19 and 20
-/// occur, since no other call has a clock to advance, a station to start or a
-/// block to read.
+/// In the order of `Call`, with what cannot occur and why. All numbers occur
+/// somewhere. 14, 15, 17, 19 and 20 do in the lines of lists alone, since no
+/// other call has a clock to advance, a station to start or a block to read;
+/// 18 in replies alone; 1 to 12 where frames are read.
 const CAN: [Can; 15] = [
     // Not 13: the safe call lends a buffer of its own, which is long enough.
-    // Not 16, 18: neither an index nor a reply is asked for.
+    // Not 16: no index is asked for.
     Can("read", &[0, 1, 2, 3, 4, 5, 6, 7, 8, 9, 10, 11, 12]),
-    // The frame's own refusal, or 16 for the index.
+    // The frame's own refusal, or 16 for the index. Not 13, as above.
     Can("index", &[0, 1, 2, 3, 4, 5, 6, 7, 8, 9, 10, 11, 12, 16]),
     // Elements 32, 34 and 35 and the TPC Report body. Not 16: the rules forbid
     // no value of theirs.
     Can("free", &[0, 13]),
-    // Elements 37, 38, 39 and 40. A writer reads nothing, so what the reader
-    // would refuse with 8 to 10 is 16.
+    // Elements 37, 38, 39 and 40. Not 9: what the reader would refuse so, a
+    // writer refuses with 16.
     Can("element", &[0, 13, 16]),
-    // The bodies of actions 0, 1, 2 and 4; the same holds of them.
+    // The bodies of actions 0, 1, 2 and 4. Not 2, 6 to 10: a body that would be
+    // too long, a token that repeats, or something wrong with the body to which
+    // an element is to be appended, is 16 as well.
     Can("body", &[0, 13, 16]),
     // Not 5 to 12: past check 4 a frame that is refused is one to which no
     // reply is due, 18.
@@ -61,17 +64,20 @@ const CAN: [Can; 15] = [
     Can("measure", &[0, 1, 2, 3, 4, 13, 16, 18]),
     // Not 13: nothing is lent, or a buffer of the safe call's own.
     Can("number", &[0, 16]),
-    // The call as such: what stands in a capture is told by lines.
+    // The call as such. Nothing in a capture makes it refuse: that is told by
+    // lines.
     Can("list", &[0, 13]),
     // Not 19: a start needs no station. A start of another length is 20.
     Can("start", &[0, 15]),
     // 14 for the clock's limit alone: two octets hold no more than 65,535.
     Can("advance", &[0, 14, 19]),
-    // Not 2: a record has at most 508 octets, so a frame in it at most 505.
+    // Not 2: a record has at most 508 octets, so a frame in it at most 505. Not
+    // 13, 16, 18: a station that takes a frame writes nothing.
     Can("frame", &[0, 1, 3, 4, 5, 6, 7, 8, 9, 10, 11, 12, 19]),
     // The answers to an ask have a table of their own, in which all six occur,
     // 5 for asks of 0 alone: two octets hold no more than 65,535.
     Can("ask", &[19]),
+    // These two words stand for one refusal each.
     Can("record", &[20]),
     Can("block", &[17]),
 ];

@@ -41,14 +41,25 @@ fn input(stage: &Stage, frame: &[u8]) -> String {
     )
 }
 
+/// What the twin read.
+type Reading<'a> = Result<&'a twin::Received, u8>;
+
 /// Compares a frame, and its measurement elements up to one past the last.
-/// An element of a frame of another kind is 16, and one of a refused frame is
-/// that frame's refusal (docs/DECISIONS.md, "Frames").
 pub fn compare(count: &mut Count, stage: &Stage, frame: &[u8]) {
-    let settings = stage.settings();
-    let library = oneiralth::read_frame(frame, settings);
-    let twin = twin::read_frame(frame, stage.own, stage.ap, stage.interval);
-    let twin = twin.as_ref().map_err(|&refusal| refusal);
+    compare_with(count, stage, frame, indices);
+}
+
+/// Compares a frame, and its measurement elements by the indices that are
+/// chosen for so many.
+fn compare_with(
+    count: &mut Count,
+    stage: &Stage,
+    frame: &[u8],
+    indices: impl Fn(usize) -> Vec<usize>,
+) {
+    let library = oneiralth::read_frame(frame, stage.settings());
+    let received = twin::read_frame(frame, stage.own, stage.ap, stage.interval);
+    let twin: Reading<'_> = received.as_ref().map_err(|&refusal| refusal);
     count.values(
         Call::ReadFrame,
         &library,
@@ -61,19 +72,30 @@ pub fn compare(count: &mut Count, stage: &Stage, frame: &[u8]) {
         _ => (0, 0),
     };
     for index in indices(requests) {
-        let library = oneiralth::read_request(frame, settings, index);
-        let twin = twin.and_then(|received| received.frame.request(index).map(pairs::request));
-        count.values(Call::ReadElement, &library, &twin, || {
-            format!("request {:x} of {}", index, input(stage, frame))
-        });
+        request_at(count, stage, frame, twin, index);
     }
     for index in indices(reports) {
-        let library = oneiralth::read_report(frame, settings, index);
-        let twin = twin.and_then(|received| received.frame.report(index).map(pairs::report));
-        count.values(Call::ReadElement, &library, &twin, || {
-            format!("report {:x} of {}", index, input(stage, frame))
-        });
+        report_at(count, stage, frame, twin, index);
     }
+}
+
+/// The request at an index. One of a frame of another kind is 16, and one of a
+/// refused frame is that frame's refusal (docs/DECISIONS.md, "Frames").
+fn request_at(count: &mut Count, stage: &Stage, frame: &[u8], twin: Reading<'_>, index: usize) {
+    let library = oneiralth::read_request(frame, stage.settings(), index);
+    let twin = twin.and_then(|received| received.frame.request(index).map(pairs::request));
+    count.values(Call::ReadElement, &library, &twin, || {
+        format!("request {:x} of {}", index, input(stage, frame))
+    });
+}
+
+/// The report at an index, in the same way.
+fn report_at(count: &mut Count, stage: &Stage, frame: &[u8], twin: Reading<'_>, index: usize) {
+    let library = oneiralth::read_report(frame, stage.settings(), index);
+    let twin = twin.and_then(|received| received.frame.report(index).map(pairs::report));
+    count.values(Call::ReadElement, &library, &twin, || {
+        format!("report {:x} of {}", index, input(stage, frame))
+    });
 }
 
 /// The indices that are asked for of so many elements: each of a few, of many
@@ -385,25 +407,10 @@ fn full_frames(count: &mut Count, rng: &mut Rng) {
     }
 }
 
-/// As `compare`, but with every index up to well past the last.
+/// As `compare`, but with every index up to some past the most elements that a
+/// frame can have.
 fn every_element(count: &mut Count, stage: &Stage, frame: &[u8]) {
-    compare(count, stage, frame);
-    let settings = stage.settings();
-    let twin = twin::read_frame(frame, stage.own, stage.ap, stage.interval);
-    let twin = twin.as_ref().map_err(|&refusal| refusal);
-    for index in 0..LONGEST / 5 + 5 {
-        let library = oneiralth::read_request(frame, settings, index);
-        let twin_request =
-            twin.and_then(|received| received.frame.request(index).map(pairs::request));
-        count.values(Call::ReadElement, &library, &twin_request, || {
-            format!("request {:x} of {}", index, input(stage, frame))
-        });
-        let library = oneiralth::read_report(frame, settings, index);
-        let twin_report = twin.and_then(|received| received.frame.report(index).map(pairs::report));
-        count.values(Call::ReadElement, &library, &twin_report, || {
-            format!("report {:x} of {}", index, input(stage, frame))
-        });
-    }
+    compare_with(count, stage, frame, |_| (0..LONGEST / 5 + 5).collect());
 }
 
 /// Frames built at random: without fault, with some, changed, extended, and
