@@ -393,7 +393,7 @@ fn read_body_back<S: Sort>(count: &mut Count, dialog: u8, kept: &[S::Record], bo
         let stage = Stage::usual(100);
         frames::compare(count, &stage, &action(&stage, body));
         let expected = Some((dialog, kept.to_vec()));
-        count.compare(&S::read(body), &expected, || {
+        count.twin_gives(&S::read(body), &expected, || {
             format!("read back from {}", hex(body))
         });
     }
@@ -417,8 +417,8 @@ fn long_bodies<S: Sort>(count: &mut Count, rng: &mut Rng) {
         let next = records.len();
         let mut front = vec![0; LONGEST_BODY - short_of];
         let written = S::write(9, &records, &mut front);
-        count.compare(&written, &Ok(front.len()), || {
-            format!("the twin's body of {} octets", LONGEST_BODY - short_of)
+        count.twin_gives(&written, &Ok(front.len()), || {
+            format!("a body of {} octets", LONGEST_BODY - short_of)
         });
         frames::compare(count, &stage, &action(&stage, &front));
         for record in [S::shortest(next), S::longest(next), S::sound(rng, next)] {

@@ -174,8 +174,8 @@ fn example(count: &mut Count) {
         in_length(count, &capture, list.as_bytes(), length);
     }
     let twin = twin::list(&capture);
-    count.compare(&twin, &list.as_bytes().to_vec(), || {
-        "the twin's list of the document's example".to_string()
+    count.twin_gives(&twin, &list.as_bytes().to_vec(), || {
+        "the document's example".to_string()
     });
 }
 

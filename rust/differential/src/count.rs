@@ -159,16 +159,50 @@ impl Count {
         self.compare(&(library, kept), &(twin, true), input);
     }
 
-    /// One case. The input is asked for only where there is something to tell.
+    /// Compares what the library reads with the record that was written.
+    pub fn read_back<T: PartialEq + Debug>(
+        &mut self,
+        call: Call,
+        library: &Result<T, u8>,
+        record: T,
+        input: impl FnOnce() -> String,
+    ) {
+        self.note(call, library.as_ref().err().copied().unwrap_or(0));
+        self.case(("library", library), ("record", &Ok(record)), input);
+    }
+
+    /// Compares what the twin gives with what it must give, by the document or
+    /// by what was written: the twin is no judge where it is wrong itself.
+    pub fn twin_gives<T: PartialEq + Debug>(
+        &mut self,
+        twin: &T,
+        expected: &T,
+        input: impl FnOnce() -> String,
+    ) {
+        self.case(("twin", twin), ("expected", expected), input);
+    }
+
+    /// Compares what the two sides give.
     pub fn compare<T: PartialEq + Debug>(
         &mut self,
         library: &T,
         twin: &T,
         input: impl FnOnce() -> String,
     ) {
+        self.case(("library", library), ("twin", twin), input);
+    }
+
+    /// One case: two values, each with the name of what gave it. The input is
+    /// asked for only where there is something to tell.
+    fn case<T: PartialEq + Debug>(
+        &mut self,
+        one: (&str, &T),
+        other: (&str, &T),
+        input: impl FnOnce() -> String,
+    ) {
         let subject = self.subjects.last_mut().expect("a subject was begun");
         subject.cases += 1;
-        if library == twin {
+        if one.1 == other.1 {
             return;
         }
         subject.differences += 1;
@@ -177,9 +211,9 @@ impl Count {
                 "DIFFERS: {}, seed {:#x}, case {}",
                 subject.name, subject.seed, subject.cases
             );
-            println!("  input:   {}", input());
-            println!("  library: {:?}", library);
-            println!("  twin:    {:?}", twin);
+            println!("  input: {}", input());
+            println!("  {}: {:?}", one.0, one.1);
+            println!("  {}: {:?}", other.0, other.1);
         }
     }
 

@@ -76,7 +76,7 @@ where
 pub fn read_back(count: &mut Count, stage: &Stage, octets: &[u8], expected: Received) {
     frames::compare(count, stage, octets);
     let library = oneiralth::read_frame(octets, stage.settings());
-    count.values(Call::ReadFrame, &library, &Ok(expected), || {
+    count.read_back(Call::ReadFrame, &library, expected, || {
         format!("read back from {}", hex(octets))
     });
 }
@@ -306,12 +306,9 @@ fn requests(count: &mut Count, rng: &mut Rng) {
             let frame = action(&stage, &[&[0, 0, 9][..], &element].concat());
             frames::compare(count, &stage, &frame);
             let library = oneiralth::read_request(&frame, stage.settings(), 0);
-            count.values(
-                Call::ReadElement,
-                &library,
-                &Ok(pairs::request(record)),
-                || format!("read back from {}", hex(&frame)),
-            );
+            count.read_back(Call::ReadElement, &library, pairs::request(record), || {
+                format!("read back from {}", hex(&frame))
+            });
         }
     }
     let record = twin::Request {
@@ -453,12 +450,9 @@ fn reports(count: &mut Count, rng: &mut Rng) {
             let frame = action(&stage, &[&[0, 1, 0][..], &element].concat());
             frames::compare(count, &stage, &frame);
             let library = oneiralth::read_report(&frame, stage.settings(), 0);
-            count.values(
-                Call::ReadElement,
-                &library,
-                &Ok(pairs::report(record)),
-                || format!("read back from {}", hex(&frame)),
-            );
+            count.read_back(Call::ReadElement, &library, pairs::report(record), || {
+                format!("read back from {}", hex(&frame))
+            });
         }
     }
     for _ in 0..40 {
