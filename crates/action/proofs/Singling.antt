@@ -2,13 +2,13 @@
 use mathlib.Core.Path.{_≡_, refl, sym, ap, _∙_}
 use mathlib.Core.Bool.{Bool, true, false}
 use mathlib.Core.List.{List, [], _∷_}
-use Prim.Native.Nat.{ℕ, zero, suc, _<_, _≤_}
+use Prim.Native.Nat.{ℕ, _<_, _≤_}
 use native.Mathlib.Omega.{arith}
 use lib.Dec.{leb}
 use lib.ListN.{length, take, drop, length-drop}
 use Rattle.answer.specs.Checks.{Outcome, refused, accepted, pick, andThen}
 use Rattle.answer.specs.declared.Refusal.{Refusal}
-use Rattle.walk.specs.Elements.{Elements, end, cutHeader, cutContents, more, elementsIn, elementsBehind}
+use Rattle.walk.specs.Elements.{Elements, cutContents, more, elementsIn, elementsBehind}
 use Rattle.walk.proofs.Walking.{at-end, headed}
 use Rattle.action.specs.Places.{between}
 use Rattle.action.specs.Singles.{Sole, sole, alone, single}

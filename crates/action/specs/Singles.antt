@@ -1,6 +1,6 @@
 -- Bodies of one element (01, "Octets": actions 2, 3 and 4 have one 34, 35 or 37). Absent (7), header cut (6), wrong element (7),
 -- contents cut (6), length and value (8, 9), and left-over octets last (7).
-use mathlib.Core.Bool.{Bool, not}
+use mathlib.Core.Bool.{not}
 use mathlib.Core.List.{List, [], _∷_, _++_}
 use Prim.Native.Nat.{ℕ}
 use lib.Dec.{eqb}

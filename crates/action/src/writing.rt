@@ -1,5 +1,4 @@
 // Writers of the bodies of one element.
-ghost use mathlib.Core.Path.{_≡_};
 ghost use mathlib.Core.Bool.{true, not};
 ghost use lib.Dec.{eqb};
 ghost use Rattle.element.specs.ChannelSwitch.{switchMay};

@@ -3,7 +3,7 @@ use mathlib.Core.Path.{_≡_, refl, subst}
 use mathlib.Core.Bool.{Bool, true, false}
 use mathlib.Core.List.{List, [], _∷_}
 use Rattle.answer.specs.declared.Refusal.{Refusal}
-use Rattle.answer.specs.Checks.{Outcome, refused, accepted, Check, _⇒_, pick, checked, judged, andThen}
+use Rattle.answer.specs.Checks.{Outcome, refused, accepted, Check, pick, checked, andThen}
 use Rattle.answer.proofs.Judged.{never, passed, stands}
 
 -- whatever is accepted has the property

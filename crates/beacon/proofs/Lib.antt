@@ -1,6 +1,6 @@
 pub mod Allowing
 pub mod Saying
 pub mod Slots
-pub mod Steps
+pub mod Walking
 pub mod Taking
 pub mod Witness

@@ -1,26 +1,22 @@
 -- Laws of what elements say: by their IDs, and what a body says behind its fixed fields.
 -- Assumes nothing.
-use mathlib.Core.Path.{_≡_, refl, sym, ap, subst, _∙_}
-use mathlib.Core.Bool.{Bool, true, false}
-use mathlib.Core.List.{List, [], _∷_}
+use mathlib.Core.Path.{_≡_, refl, sym, ap, _∙_}
+use mathlib.Core.List.{List}
 use Prim.Native.Nat.{ℕ, _≤_, _<_}
-use native.Mathlib.Omega.{arith}
-use borrow.Author.Tests.{eq-eqb, ne-eqb, lt-ltb, le-ltb, leb-false}
-use lib.Dec.{eqb}
+use borrow.Author.Tests.{eq-eqb, ne-eqb, lt-ltb, le-ltb}
 use lib.ListN.{length, drop}
-use Rattle.answer.specs.Checks.{Outcome, refused, accepted, _⇒_, pick, judged, andThen}
+use Rattle.answer.specs.Checks.{Outcome, refused, accepted, andThen}
 use Rattle.answer.specs.declared.Refusal.{Refusal}
-use Rattle.answer.proofs.Judged.{past, stop, through, passed, kept, never}
+use Rattle.answer.proofs.Judged.{past, stop, through}
 use Rattle.element.specs.ChannelSwitch.{switchMeans}
 use Rattle.element.specs.PowerConstraint.{powerMeans}
 use Rattle.element.specs.Quiet.{quietMeans}
 use Rattle.element.specs.TpcReport.{tpcReportMeans}
 use Rattle.octets.specs.Numbers.{number}
 use Rattle.walk.specs.Elements.{Elements, more, elementsIn}
-use Rattle.beacon.specs.Beacons.{Said, nothing, quietLimit, addPower, addReport, addSwitch, addQuiet, takes, says, beaconMeans, toldWith}
+use Rattle.beacon.specs.Beacons.{Said, nothing, addPower, addReport, addSwitch, addQuiet, takes, says, beaconMeans, toldWith}
 use Rattle.beacon.specs.Laid.{settled, laid}
 use Rattle.beacon.specs.declared.Heard.{Heard}
-use Rattle.beacon.proofs.Slots.{one-more}
 
 -- ---- an element by its ID
 

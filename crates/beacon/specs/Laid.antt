@@ -1,5 +1,5 @@
 -- What a body says, as the code hands it out: Quiet elements in slots, the rest of which are blank. A refusal leaves all blank.
-use mathlib.Core.List.{List, [], _∷_, _++_}
+use mathlib.Core.List.{List, _++_}
 use Prim.Native.Nat.{ℕ, _-_}
 use lib.ListN.{length, replicate}
 use Rattle.answer.specs.Checks.{Outcome, refused, accepted}

@@ -1,3 +1,4 @@
 pub mod Allowed
 pub mod Beacons
 pub mod Laid
+pub mod Steps

@@ -1,23 +1,18 @@
 // Beacon and Probe Response bodies (document 01, "Answer numbers" and "Octets"; 802.11h 7.2.3.1 and 7.2.3.9).
+mod adding;
+
 ghost use mathlib.Core.Path.{_≡_};
-ghost use Prim.Native.Nat.{ℕ, _≤_};
-ghost use lib.ListN.{length};
-ghost use Rattle.answer.specs.Checks.{refused, andThen};
-ghost use Rattle.element.specs.ChannelSwitch.{switchMeans};
-ghost use Rattle.element.specs.PowerConstraint.{powerMeans};
-ghost use Rattle.element.specs.Quiet.{quietMeans};
-ghost use Rattle.element.specs.TpcReport.{tpcReportMeans};
-ghost use Rattle.beacon.specs.Beacons.{Said, quietLimit, addPower, addReport, addSwitch, addQuiet, takes, beaconMeans};
-ghost use Rattle.beacon.specs.Laid.{blank, laidSaid, settled, laid};
+ghost use Rattle.answer.specs.Checks.{refused};
+ghost use Rattle.beacon.specs.Beacons.{beaconMeans};
+ghost use Rattle.beacon.specs.Laid.{laid};
+ghost use Rattle.beacon.specs.Steps.{noticed};
+use crate::adding::Once;
+use crate::adding::Step;
 use answer::Answer;
 use answer::Refusal;
-use element::channel_switch;
 use element::channel_switch::ChannelSwitch;
-use element::power_constraint;
 use element::power_constraint::PowerConstraint;
-use element::quiet;
 use element::quiet::Quiet;
-use element::tpc_report;
 use element::tpc_report::TpcReport;
 use walk::Found;
 
@@ -57,145 +52,46 @@ pub struct Heard {
     pub count: usize,
 }
 
-// An answer with nothing beside it but the fixed fields.
-fn silence(answer: Answer, timestamp: u64, capability: u16) -> Heard
-    ensures { λ r. ⌜ r ≡ blank answer timestamp capability ⌝ }
+// What a slot holds that is not in use.
+const NO_QUIET: Quiet = Quiet {
+    count: 0,
+    period: 0,
+    duration: 0,
+    offset: 0,
+};
+
+fn noticed(timestamp: u64, capability: u16, once: Once) -> Notice
+    ensures { λ r. ⌜ r ≡ noticed timestamp capability once ⌝ }
 {
-    let quiet = Quiet {
-        count: 0,
-        period: 0,
-        duration: 0,
-        offset: 0,
-    };
-    let notice = Notice {
+    let power = once.power;
+    let report = once.report;
+    let switch = once.switch;
+    Notice {
         timestamp,
         capability,
-        power: MaybePower::Absent,
-        report: MaybeReport::Absent,
-        switch: MaybeSwitch::Absent,
-    };
-    let quiets = [quiet; QUIETS];
-    Heard {
-        answer,
-        notice,
-        quiets,
-        count: 0,
+        power,
+        report,
+        switch,
     }
 }
 
 fn refused(refusal: Refusal) -> Heard
     ensures { λ r. ⌜ r ≡ laid (refused refusal) ⌝ }
 {
-    silence(Answer::Refused(refusal), 0, 0)
-}
-
-// Element 32 added to what was heard; a second one is a repeat.
-fn take_power(heard: Heard, contents: &[u8]) -> Heard
-    ensures { λ r. ⌜ ((t c : ℕ) (said : Said) → heard ≡ laidSaid t c said → r ≡ settled t c (andThen (powerMeans (now (contents .entry))) (addPower said))) ⌝ }
-{
-    match power_constraint::read(contents) {
-        power_constraint::Reading::Refused(refusal) => refused(refusal),
-        power_constraint::Reading::Is(power) => {
-            let notice = heard.notice;
-            let before = notice.power;
-            match before {
-                MaybePower::Is(_) => refused(Refusal::Repeated),
-                MaybePower::Absent => {
-                    let next = Notice {
-                        power: MaybePower::Is(power),
-                        ..notice
-                    };
-                    Heard {
-                        notice: next,
-                        ..heard
-                    }
-                }
-            }
-        }
-    }
-}
-
-// Element 35 added to what was heard; a second one is a repeat.
-fn take_report(heard: Heard, contents: &[u8]) -> Heard
-    ensures { λ r. ⌜ ((t c : ℕ) (said : Said) → heard ≡ laidSaid t c said → r ≡ settled t c (andThen (tpcReportMeans (now (contents .entry))) (addReport said))) ⌝ }
-{
-    match tpc_report::read(contents) {
-        tpc_report::Reading::Refused(refusal) => refused(refusal),
-        tpc_report::Reading::Is(report) => {
-            let notice = heard.notice;
-            let before = notice.report;
-            match before {
-                MaybeReport::Is(_) => refused(Refusal::Repeated),
-                MaybeReport::Absent => {
-                    let next = Notice {
-                        report: MaybeReport::Is(report),
-                        ..notice
-                    };
-                    Heard {
-                        notice: next,
-                        ..heard
-                    }
-                }
-            }
-        }
-    }
-}
-
-// Element 37 added to what was heard; a second one is a repeat.
-fn take_switch(heard: Heard, contents: &[u8]) -> Heard
-    ensures { λ r. ⌜ ((t c : ℕ) (said : Said) → heard ≡ laidSaid t c said → r ≡ settled t c (andThen (switchMeans (now (contents .entry))) (addSwitch said))) ⌝ }
-{
-    match channel_switch::read(contents) {
-        channel_switch::Reading::Refused(refusal) => refused(refusal),
-        channel_switch::Reading::Is(switch) => {
-            let notice = heard.notice;
-            let before = notice.switch;
-            match before {
-                MaybeSwitch::Is(_) => refused(Refusal::Repeated),
-                MaybeSwitch::Absent => {
-                    let next = Notice {
-                        switch: MaybeSwitch::Is(switch),
-                        ..notice
-                    };
-                    Heard {
-                        notice: next,
-                        ..heard
-                    }
-                }
-            }
-        }
-    }
-}
-
-// Element 40 added in the next slot; one more than there are slots is one too many.
-fn take_quiet(heard: Heard, contents: &[u8], interval: u16) -> Heard
-    ensures { λ r. ⌜ ((t c : ℕ) (said : Said) → length (said .quiets) ≤ quietLimit → heard ≡ laidSaid t c said → r ≡ settled t c (andThen (quietMeans interval (now (contents .entry))) (addQuiet said))) ⌝ }
-{
-    match quiet::read(contents, interval) {
-        quiet::Reading::Refused(refusal) => refused(refusal),
-        quiet::Reading::Is(quiet) => {
-            let slot = heard.count;
-            if QUIETS <= slot {
-                return refused(Refusal::TooManyQuiets);
-            }
-            let mut next = heard;
-            next.quiets[slot] = quiet;
-            next.count = slot + 1;
-            next
-        }
-    }
-}
-
-// A whole element, by its ID; others are skipped.
-fn take(heard: Heard, id: u8, contents: &[u8], interval: u16) -> Heard
-    ensures { λ r. ⌜ ((t c : ℕ) (said : Said) → length (said .quiets) ≤ quietLimit → heard ≡ laidSaid t c said → r ≡ settled t c (takes interval id (now (contents .entry)) said)) ⌝ }
-{
-    match id {
-        power_constraint::ID => take_power(heard, contents),
-        tpc_report::ID => take_report(heard, contents),
-        channel_switch::ID => take_switch(heard, contents),
-        quiet::ID => take_quiet(heard, contents, interval),
-        _ => heard,
+    let notice = Notice {
+        timestamp: 0,
+        capability: 0,
+        power: MaybePower::Absent,
+        report: MaybeReport::Absent,
+        switch: MaybeSwitch::Absent,
+    };
+    let answer = Answer::Refused(refusal);
+    let quiets = [NO_QUIET; QUIETS];
+    Heard {
+        answer,
+        notice,
+        quiets,
+        count: 0,
     }
 }
 
@@ -209,16 +105,26 @@ pub fn read(body: &[u8], interval: u16) -> Heard
     if octets::number16(body, 8) != interval {
         return refused(Refusal::OtherInterval);
     }
-    let mut heard = silence(
-        Answer::Accepted,
-        octets::number64(body, 0),
-        octets::number16(body, 10),
-    );
+    let mut once = Once {
+        power: MaybePower::Absent,
+        report: MaybeReport::Absent,
+        switch: MaybeSwitch::Absent,
+    };
+    let mut quiets = [NO_QUIET; QUIETS];
+    let mut count = 0;
     let mut at = 12;
     loop {
         match walk::element_at(body, at) {
             Found::End => {
-                return heard;
+                let timestamp = octets::number64(body, 0);
+                let capability = octets::number16(body, 10);
+                let notice = noticed(timestamp, capability, once);
+                return Heard {
+                    answer: Answer::Accepted,
+                    notice,
+                    quiets,
+                    count,
+                };
             }
             Found::CutHeader => {
                 return refused(Refusal::ElementCut);
@@ -227,10 +133,17 @@ pub fn read(body: &[u8], interval: u16) -> Heard
                 return refused(Refusal::ElementCut);
             }
             Found::Whole { id, start, end } => {
-                heard = take(heard, id, &body[start..end], interval);
-                let answer = heard.answer;
-                if let Answer::Refused(_) = answer {
-                    return heard;
+                match adding::step_by(once, count, id, &body[start..end], interval) {
+                    Step::Refused(refusal) => {
+                        return refused(refusal);
+                    }
+                    Step::Once(next) => {
+                        once = next;
+                    }
+                    Step::Quiet(quiet) => {
+                        quiets[count] = quiet;
+                        count += 1;
+                    }
                 }
                 at = end;
             }

@@ -4,7 +4,7 @@ use mathlib.Core.List.{List, [], _∷_, _++_, append-assoc, append-nil}
 use mathlib.Core.Path.{_≡_, refl, sym, ap, _∙_}
 use Prim.Native.Nat.{ℕ, zero, suc, _+_, _*_, _<_, _≤_}
 use native.Mathlib.Omega.{arith}
-use lib.ListN.{length, take, drop, getD, length-append, length-take, drop-of-length-le}
+use lib.ListN.{length, take, getD, length-append, length-take, drop-of-length-le}
 use lib.Seq.{take-all}
 use Rattle.element.specs.Quiet.{quietContents}
 use Rattle.element.specs.declared.quiet.Quiet.{Quiet}

@@ -3,11 +3,11 @@ use mathlib.Core.List.{List}
 use mathlib.Core.Path.{_≡_, refl}
 use Prim.Native.Nat.{ℕ}
 use native.Mathlib.Omega.{arith}
-use Rattle.answer.specs.Checks.{Outcome, refused, accepted, andThen}
+use Rattle.answer.specs.Checks.{Outcome, refused, accepted}
 use Rattle.answer.specs.declared.Answer.{Answer}
 use Rattle.answer.specs.declared.Refusal.{Refusal}
-use Rattle.element.specs.MeasurementReport.{reportLaid}
-use Rattle.element.specs.declared.measurement_report.Report.{Report}
+use Rattle.measure.specs.MeasurementReport.{reportLaid}
+use Rattle.measure.specs.declared.measurement_report.Report.{Report}
 use Rattle.fraction.specs.Fractions.{laid}
 
 -- the answer alone

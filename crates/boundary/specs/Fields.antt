@@ -1,5 +1,5 @@
 -- A frame as its fields, one after the other at fixed places (docs/BOUNDARY.md). What a kind has not got is 0.
-use mathlib.Core.Bool.{Bool, true, false}
+use mathlib.Core.Bool.{Bool}
 use mathlib.Core.List.{List, [], _∷_, _++_}
 use Prim.Native.Nat.{ℕ}
 use Rattle.answer.specs.Checks.{Outcome, refused, accepted, pick}

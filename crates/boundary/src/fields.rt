@@ -2,7 +2,7 @@
 ghost use mathlib.Core.Path.{_≡_};
 ghost use Rattle.beacon.specs.declared.MaybeReport.{MaybeReport};
 ghost use Rattle.element.specs.Quiet.{quietContents};
-ghost use Rattle.boundary.specs.Fields.{flag, fields, noNotice, reporting, announcing, fieldsOf, heldPower, heldReport, heldSwitch, headFields, quietFields};
+ghost use Rattle.boundary.specs.Fields.{flag, fields, noNotice, fieldsOf, heldPower, heldReport, heldSwitch, headFields, quietFields};
 use beacon::MaybePower;
 use beacon::MaybeReport;
 use beacon::MaybeSwitch;

@@ -1,6 +1,5 @@
 // Frames and measurement elements, put as fields at fixed places (docs/BOUNDARY.md), from the front of the buffer on.
 ghost use mathlib.Core.Bool.{true};
-ghost use mathlib.Core.Path.{_≡_};
 ghost use mathlib.Core.List.{_++_};
 ghost use Rattle.answer.specs.Checks.{andThen, accepted};
 ghost use Rattle.frame.specs.Frames.{frameMeans, elementOf, requestIn, reportIn};
@@ -15,9 +14,9 @@ use crate::fields::Fields;
 use crate::records;
 use answer::Answer;
 use answer::Refusal;
-use element::measurement_request;
 use element::quiet::Quiet;
 use frame::Reading;
+use measure::measurement_request;
 use octets::Wrote;
 
 // How many octets the fields of a frame are: the head's 38, and six for each of eight Quiet elements.

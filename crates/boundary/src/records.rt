@@ -1,13 +1,13 @@
 // A measurement element as its fields, one after the other at fixed places (docs/BOUNDARY.md). What it has not got is 0.
 ghost use mathlib.Core.Path.{_≡_};
 ghost use Rattle.boundary.specs.Records.{askedBy, requestFields, saidBy, reportFields};
-ghost use Rattle.element.specs.Span.{noSpan, spanOctets};
+ghost use Rattle.measure.specs.Span.{noSpan, spanOctets};
 use crate::fields;
-use element::Span;
-use element::measurement_report;
-use element::measurement_report::Report;
-use element::measurement_request;
-use element::measurement_request::Request;
+use measure::Span;
+use measure::measurement_report;
+use measure::measurement_report::Report;
+use measure::measurement_request;
+use measure::measurement_request::Request;
 
 // What is asked, by the numbers that a writer takes.
 pub struct Asked {

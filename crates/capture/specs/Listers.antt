@@ -1,6 +1,6 @@
 -- What the lister keeps from block to block (01, "Capture blocks and the evening list"): how many lines, blocks and damaged blocks there were, and
 -- the station that is followed, if one is started.
-use mathlib.Core.Bool.{Bool, true, false}
+use mathlib.Core.Bool.{true, false}
 use mathlib.Core.Path.{_≡_}
 use Prim.Native.Nat.{ℕ, _+_, _*_, _≤_}
 use Rattle.station.specs.Starting.{blank}

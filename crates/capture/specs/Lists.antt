@@ -10,7 +10,6 @@ use Rattle.block.specs.Blocks.{usedPart, blockMeans}
 use Rattle.block.specs.declared.Block.{Block}
 use Rattle.record.specs.Entries.{Noted, malformed, starting, advancing, hearing, asking, entryMeans}
 use Rattle.record.specs.Records.{Records, end, cut, more, recordsIn}
-use Rattle.record.specs.declared.entry.Settings.{Settings}
 use Rattle.station.specs.Asking.{permissionNumber, permissionOf}
 use Rattle.station.specs.Clock.{advanceOf}
 use Rattle.station.specs.Starting.{startMeans}

@@ -1,6 +1,6 @@
 // What the lister keeps from block to block.
 ghost use mathlib.Core.Path.{_≡_};
-ghost use Rattle.capture.specs.Listers.{fresh, without, following, oneLineMore, oneBlockMore, Fits};
+ghost use Rattle.capture.specs.Listers.{fresh, without, following, Fits};
 use station::Station;
 
 pub struct Lister {

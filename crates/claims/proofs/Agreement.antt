@@ -1,13 +1,13 @@
 -- The record agrees with the history, field by field, whatever the calls (00, demand 3). Assumes nothing.
 use mathlib.Core.Bool.{true, false}
-use mathlib.Core.List.{List, [], _∷_, _++_}
-use mathlib.Core.Logic.{_⊎_, inl, inr, ⊎-elim}
+use mathlib.Core.List.{List, [], _∷_}
+use mathlib.Core.Logic.{inl, ⊎-elim}
 use mathlib.Core.Path.{_≡_, refl, sym, ap, _∙_, subst}
 use Prim.Native.Nat.{ℕ, _+_, _*_, _/_, _<_, _≤_}
 use native.Mathlib.Omega.{arith}
-use borrow.Author.Tests.{ltb-true, ltb-false, eqb-true, eqb-false, le-ltb}
+use borrow.Author.Tests.{ltb-true, ltb-false, eqb-true, eqb-false}
 use lib.Dec.{ltb, eqb}
-use lib.ListN.{length, take, length-map}
+use lib.ListN.{length, length-map}
 use lib.Seq.{take-at}
 use Rattle.answer.proofs.Booleans.{neither}
 use Rattle.answer.proofs.Judged.{never}
@@ -16,9 +16,7 @@ use Rattle.beacon.specs.Allowed.{QuietsAllowed}
 use Rattle.beacon.specs.Beacons.{Said}
 use Rattle.beacon.specs.declared.MaybePower.{MaybePower}
 use Rattle.beacon.specs.declared.MaybeSwitch.{MaybeSwitch}
-use Rattle.element.specs.Quiet.{quietForbids}
 use Rattle.element.specs.declared.channel_switch.ChannelSwitch.{ChannelSwitch}
-use Rattle.element.specs.declared.power_constraint.PowerConstraint.{PowerConstraint}
 use Rattle.element.specs.declared.quiet.Quiet.{Quiet}
 use Rattle.frame.proofs.Allowing.{frame-allowed}
 use Rattle.frame.specs.Actions.{Body, requests, reports, tpcRequest, tpcReport, switch}
@@ -26,15 +24,14 @@ use Rattle.frame.specs.Allowed.{KindAllowed}
 use Rattle.frame.specs.Frames.{Kind, beacon, probeResponse, action, Sent, frameMeans}
 use Rattle.schedule.proofs.FirstUnit.{either}
 use Rattle.schedule.specs.Schedules.{setBy}
-use Rattle.schedule.specs.declared.Schedule.{Schedule}
 use Rattle.station.specs.Clock.{switched, clocked, met, reachOf, advanceMeans, advanceOf}
 use Rattle.station.specs.Stations.{inUse}
 use Rattle.station.specs.Taking.{schedulesOf, rescheduled, constrained, announced, announcedIf, told, heard, takeMeans, takeOf}
 use Rattle.station.specs.declared.Station.{Station}
 use Rattle.station.specs.declared.pending.Pending.{Pending}
-use Rattle.claims.specs.Histories.{Settings, Call, frame, advance, ask, History, tooFar, clockAfter, Hears, Says, announcementIn, Tells, Announces, Constrains, Latest, Throughout}
+use Rattle.claims.specs.Histories.{Settings, Call, frame, advance, ask, History, clockAfter, Hears, Says, announcementIn, Tells, Announces, Latest, Throughout}
 use Rattle.claims.specs.Records.{recordAfter, Agrees}
-use Rattle.claims.specs.Standing.{NoAnnouncement, Awaits, Switches, at-once, reached, NoSwitch, ChannelIs, PowerIs, PendingIs, Sets, SetsEach, SchedulesAre}
+use Rattle.claims.specs.Standing.{NoAnnouncement, Switches, at-once, reached, NoSwitch, ChannelIs, PowerIs, PendingIs, SetsEach, SchedulesAre}
 use Rattle.claims.proofs.CountingTbtts.{counting}
 use Rattle.claims.proofs.OneSaying.{no-switch-said, hears-one}
 use Rattle.claims.proofs.Others.{channel-changes, power-gone, schedules-gone, channel-stays, power-stays, schedules-stay, power-kept, no-constraint, schedules-replaced}

@@ -1,7 +1,6 @@
 -- Each answer to a question, by the history (00, demand 3; 01, "The station"). Assumes nothing.
 use mathlib.Core.Bool.{Bool, true, false}
-use mathlib.Core.List.{List, [], _∷_}
-use mathlib.Core.Logic.{_⊎_, inl, inr, ⊎-elim, _↔_}
+use mathlib.Core.Logic.{inl, inr, ⊎-elim, _↔_}
 use mathlib.Core.Path.{_≡_, refl, sym, ap, _∙_, subst}
 use Prim.Native.Nat.{ℕ, _+_, _<_, _≤_}
 use native.Mathlib.Nat.{le-refl, eq-or-lt-of-le}
@@ -9,17 +8,16 @@ use native.Mathlib.Omega.{arith}
 use borrow.Author.Tests.{lt-ltb, le-ltb, ltb-true, ltb-false, eq-eqb, ne-eqb, eqb-true, eqb-false}
 use lib.Dec.{ltb, eqb}
 use Rattle.answer.proofs.Booleans.{clash}
-use Rattle.answer.specs.Checks.{pick}
 use Rattle.element.specs.declared.channel_switch.ChannelSwitch.{ChannelSwitch}
 use Rattle.schedule.proofs.FirstUnit.{either}
-use Rattle.station.specs.Asking.{permissionNumber, Case, firstOf, quietIn, permissionOf}
+use Rattle.station.specs.Asking.{firstOf, quietIn, permissionOf}
 use Rattle.station.specs.Stations.{inUse}
 use Rattle.station.specs.Waiting.{silences, upTo, comesBefore}
 use Rattle.station.specs.declared.Station.{Station}
 use Rattle.station.specs.declared.asking.Permission.{Permission}
 use Rattle.station.specs.declared.pending.Pending.{Pending}
 use Rattle.claims.specs.Histories.{Settings, History, clockAfter}
-use Rattle.claims.specs.OpenUnits.{QuietUnit, Open, AllOpen, Waits, QuietLater, SwitchWithin, RightLength, Applies}
+use Rattle.claims.specs.OpenUnits.{QuietUnit, AllOpen, Waits, QuietLater, SwitchWithin, Applies}
 use Rattle.claims.specs.Records.{Agrees}
 use Rattle.claims.specs.Standing.{Awaits, PendingIs}
 use Rattle.claims.proofs.OneSaying.{announced-one, pending-one}

@@ -1,11 +1,11 @@
 -- A schedule covers the units that the Quiet element which sets it covers (01, "The station"). Assumes nothing.
-use mathlib.Core.Logic.{_⊎_, inl, inr, ⊎-elim}
-use mathlib.Core.Path.{_≡_, refl, sym, ap, _∙_}
+use mathlib.Core.Logic.{inl, inr, ⊎-elim}
+use mathlib.Core.Path.{_≡_, ap, _∙_}
 use Prim.Native.Nat.{ℕ, zero, suc, _+_, _*_, _/_, _<_, _≤_}
 use native.Mathlib.Nat.{add-mul, mul-assoc, mul-le-mul-right}
 use native.Mathlib.Omega.{arith}
 use Rattle.element.specs.declared.quiet.Quiet.{Quiet}
-use Rattle.schedule.specs.Schedules.{Run, Covers}
+use Rattle.schedule.specs.Schedules.{Covers}
 use Rattle.schedule.specs.declared.Schedule.{Schedule}
 use Rattle.claims.specs.Histories.{Settings}
 use Rattle.claims.specs.OpenUnits.{CoversUnit}

@@ -2,7 +2,7 @@
 -- history speaks of, and each question is answered as the history says. Assumes nothing.
 use mathlib.Core.Bool.{true, false}
 use mathlib.Core.List.{List, [], _∷_}
-use mathlib.Core.Logic.{_⊎_, inl, inr, ⊎-elim, _↔_}
+use mathlib.Core.Logic.{⊎-elim, _↔_}
 use mathlib.Core.Path.{_≡_, refl, sym, ap, _∙_, subst}
 use Prim.Native.Nat.{ℕ, _≤_}
 use native.Mathlib.Omega.{arith}
@@ -20,7 +20,7 @@ use Rattle.station.specs.declared.Station.{Station}
 use Rattle.station.specs.declared.asking.Permission.{Permission}
 use Rattle.station.specs.declared.clock.Stepped.{Stepped}
 use Rattle.station.specs.declared.starting.Started.{Started}
-use Rattle.claims.specs.Histories.{Settings, Call, frame, advance, ask, History}
+use Rattle.claims.specs.Histories.{Settings, frame, advance, ask, History}
 use Rattle.claims.specs.OpenUnits.{AllOpen, Applies}
 use Rattle.claims.specs.Records.{recordAfter, Agrees}
 use Rattle.claims.specs.Runs.{Starts, Takes, Advances, Asks, Ran}

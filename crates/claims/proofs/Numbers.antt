@@ -1,6 +1,6 @@
 -- What holds of the leaves' numbers, at every width and every number of times. Assumes nothing.
-use mathlib.Core.Path.{_≡_, refl}
-use mathlib.Core.List.{List, [], _∷_, map}
+use mathlib.Core.Path.{_≡_}
+use mathlib.Core.List.{List, map}
 use Prim.Native.Nat.{ℕ, _+_, _-_, _*_, _<_, _≤_, _^_}
 use lib.IntN.{ℤ}
 use lib.ListN.{length}

@@ -1,8 +1,6 @@
 -- Each promise of the frame layer leaves one outcome: the walk, headers, beacons, action bodies, measurement bodies and frames.
 -- Assumes nothing.
-use mathlib.Core.Path.{_≡_, refl, sym, ap, _∙_}
-use mathlib.Core.List.{List}
-use Prim.Native.Nat.{ℕ}
+use mathlib.Core.Path.{_≡_, refl}
 use denote.Ref.{now}
 use Rattle.action.proofs.«open» as Open
 use Rattle.action.proofs.read_channel_switch as Read-channel-switch
@@ -16,7 +14,7 @@ use Rattle.action.specs.declared.opening.Opening.{Opening}
 use Rattle.answer.specs.Checks.{Outcome, refused, accepted}
 use Rattle.beacon.proofs.read as Beacon-read
 use Rattle.element.specs.ChannelSwitch.{switchTold}
-use Rattle.element.specs.MeasurementRequest.{requestTold}
+use Rattle.measure.specs.MeasurementRequest.{requestTold}
 use Rattle.element.specs.TpcReport.{tpcReportTold}
 use Rattle.element.specs.TpcRequest.{tpcRequestTold}
 use Rattle.frame.proofs.read as Frame-read

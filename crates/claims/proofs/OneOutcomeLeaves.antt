@@ -1,6 +1,5 @@
 -- Each promise of the leaves, `answer`, `octets`, `channel` and `fraction`, leaves one outcome. Assumes nothing.
-use mathlib.Core.Path.{_≡_, refl, sym, ap, _∙_}
-use mathlib.Core.List.{List}
+use mathlib.Core.Path.{_≡_, refl}
 use Prim.Native.Nat.{ℕ}
 use denote.Ref.{now}
 use Rattle.answer.proofs.Answer.number as Answer-number

@@ -1,13 +1,12 @@
 -- The promise of the element walk leaves one outcome: what follows a place says what stands there, and where. Assumes nothing.
 use mathlib.Core.Path.{_≡_, refl, sym, ap, _∙_}
 use mathlib.Core.List.{List}
-use Prim.Native.Nat.{ℕ, _+_, _-_, _≤_}
+use Prim.Native.Nat.{ℕ, _-_, _≤_}
 use native.Mathlib.Omega.{arith}
 use denote.Ref.{now}
 use lib.ListN.{length, take, drop, length-drop}
 use lib.Seq.{length-take-le}
 use Rattle.walk.proofs.element_at as Element-at
-use Rattle.walk.specs.Elements.{Elements, end, cutHeader, cutContents, more, elementsIn}
 use Rattle.walk.specs.Found.{follow, Within}
 use Rattle.walk.specs.declared.Found.{Found}
 use Rattle.claims.specs.Outcomes.{OneResult}

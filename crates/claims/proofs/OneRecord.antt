@@ -1,10 +1,10 @@
 -- The history says everything: there is one valid record that agrees with it. Assumes nothing.
 use mathlib.Core.List.{List, [], _∷_, _++_}
-use mathlib.Core.Logic.{_⊎_, inl, inr}
+use mathlib.Core.Logic.{inl, inr}
 use mathlib.Core.Path.{_≡_, refl, sym, ap, ap₂, _∙_, subst}
 use Prim.Native.Nat.{ℕ, _-_, _≤_}
 use native.Mathlib.Omega.{arith}
-use lib.ListN.{length, take, drop, replicate, take-append-drop}
+use lib.ListN.{length, replicate, take-append-drop}
 use lib.Seq.{length-take-le}
 use Rattle.beacon.specs.Beacons.{Said, quietLimit}
 use Rattle.beacon.specs.declared.MaybePower.{MaybePower}

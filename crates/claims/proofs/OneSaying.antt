@@ -1,6 +1,6 @@
 -- A call says one thing only: the kind, what it tells and what it announces; and so does a history. Assumes nothing.
-use mathlib.Core.List.{List, [], _∷_}
-use mathlib.Core.Logic.{_⊎_, inl, inr}
+use mathlib.Core.List.{[], _∷_}
+use mathlib.Core.Logic.{inl, inr}
 use mathlib.Core.Path.{_≡_, refl, sym, ap, _∙_, subst}
 use Prim.Native.Nat.{ℕ, _≤_}
 use native.Mathlib.Omega.{arith}
@@ -13,7 +13,7 @@ use Rattle.element.specs.declared.power_constraint.PowerConstraint.{PowerConstr
 use Rattle.frame.specs.Frames.{Kind, beacon, probeResponse, action, Sent}
 use Rattle.station.specs.declared.pending.Pending.{Pending}
 use Rattle.claims.specs.Histories.{Settings, Call, frame, advance, ask, History, clockAfter, Hears, Says, announcementIn, Tells, Announces, Constrains, Latest, Throughout}
-use Rattle.claims.specs.Standing.{NoAnnouncement, LastAnnounced, Awaits, Switches, at-once, reached, NoSwitch, Counts, ChannelIs, LastConstrained, PowerIs, PendingIs, SchedulesAre}
+use Rattle.claims.specs.Standing.{NoAnnouncement, LastAnnounced, Switches, at-once, reached, NoSwitch, Counts, ChannelIs, LastConstrained, PowerIs, PendingIs}
 use Rattle.claims.specs.Tbtts.{CountedTo}
 use Rattle.claims.proofs.CountingTbtts.{one-moment}
 

@@ -1,6 +1,6 @@
 -- Channel, constraint and schedules after one call more, by whether it brings a switch. Assumes nothing.
 use mathlib.Core.List.{List, [], _∷_}
-use mathlib.Core.Logic.{_⊎_, inl, inr}
+use mathlib.Core.Logic.{inl, inr}
 use mathlib.Core.Path.{_≡_, refl, sym, ap, _∙_}
 use Prim.Native.Nat.{ℕ}
 use Rattle.beacon.specs.Beacons.{Said}

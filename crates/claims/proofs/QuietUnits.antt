@@ -1,16 +1,15 @@
 -- The record's schedules cover a unit exactly if the history says that it is quiet. Assumes nothing.
-use mathlib.Core.Bool.{Bool, true, false, _||_}
+use mathlib.Core.Bool.{true, false, _||_}
 use mathlib.Core.List.{List, [], _∷_, List·Memᴰ, List·Memᴰ·head, List·Memᴰ·tail, List·Memᴰ·not-nil, List·Memᴰ·cases-cons}
-use mathlib.Core.Logic.{_⊎_, inl, inr, ⊎-elim}
+use mathlib.Core.Logic.{inl, inr, ⊎-elim}
 use mathlib.Core.Path.{_≡_, refl, sym, ap, _∙_, subst}
-use Prim.Native.Nat.{ℕ, _+_, _-_, _<_, _≤_}
+use Prim.Native.Nat.{ℕ, _-_, _<_, _≤_}
 use native.Mathlib.Omega.{arith}
 use borrow.Author.Tests.{eqb-false}
 use lib.Dec.{eqb}
 use Rattle.answer.proofs.Booleans.{clash, neither, or-go, or-stop}
-use Rattle.beacon.specs.Allowed.{QuietsAllowed, Allowed}
+use Rattle.beacon.specs.Allowed.{QuietsAllowed}
 use Rattle.beacon.specs.Beacons.{Said}
-use Rattle.element.specs.Quiet.{quietForbids}
 use Rattle.element.specs.declared.quiet.Quiet.{Quiet}
 use Rattle.frame.proofs.Allowing.{frame-allowed}
 use Rattle.frame.specs.Allowed.{KindAllowed}
@@ -21,8 +20,8 @@ use Rattle.schedule.specs.Schedules.{Covers, covered}
 use Rattle.schedule.specs.Units.{someUnit}
 use Rattle.schedule.specs.declared.Schedule.{Schedule}
 use Rattle.station.specs.Asking.{quietIn}
-use Rattle.claims.specs.Histories.{Settings, Call, frame, advance, ask, History, clockAfter, Says, Tells, Latest}
-use Rattle.claims.specs.OpenUnits.{CoversUnit, QuietUnit}
+use Rattle.claims.specs.Histories.{Settings, Call, frame, advance, ask, History, Says, Tells, Latest}
+use Rattle.claims.specs.OpenUnits.{QuietUnit}
 use Rattle.claims.specs.Standing.{Counts, Sets, SetsEach, SchedulesAre}
 use Rattle.claims.proofs.CoveredUnits.{covers-unit, unit-covers}
 use Rattle.claims.proofs.OneSaying.{counts-one}

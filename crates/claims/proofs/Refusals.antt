@@ -1,12 +1,12 @@
 -- Demand 1, as far as it goes yet: a refused write puts no byte into its buffer, whatever the writer, and a refused frame is nothing
 -- but its refusal. Assumes nothing.
-use mathlib.Core.Path.{_≡_, refl, sym, ap, _∙_}
+use mathlib.Core.Path.{_≡_, sym, ap, _∙_}
 use mathlib.Core.Bool.{Bool, false}
 use mathlib.Core.List.{List, []}
 use Prim.Native.Nat.{ℕ}
 use Rattle.answer.specs.Checks.{Outcome, refused}
 use Rattle.answer.specs.declared.Refusal.{Refusal}
-use Rattle.frame.specs.Frames.{Sent, frameMeans}
+use Rattle.frame.specs.Frames.{frameMeans}
 use Rattle.frame.specs.Laid.{received, frameLaid}
 use Rattle.frame.specs.declared.Reading.{Reading}
 use Rattle.frame.specs.declared.Received.{Received}

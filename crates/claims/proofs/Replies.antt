@@ -8,14 +8,18 @@ use Rattle.answer.specs.Checks.{Outcome, refused, accepted, andThen}
 use Rattle.answer.specs.declared.Refusal.{Refusal}
 use Rattle.octets.specs.Writing.{told, wrote, after, left}
 use Rattle.octets.specs.declared.writing.Wrote.{Wrote}
+use Rattle.owed.proofs.report_for as Report-for
 use Rattle.reply.proofs.to_measurement_request as To-measurement-request
 use Rattle.reply.proofs.to_tpc_request as To-tpc-request
 use Rattle.reply.specs.Replies.{leftBy, Replied}
-use Rattle.claims.specs.Outcomes.{OneOutcome}
+use Rattle.claims.specs.Outcomes.{OneOutcome, OneResult}
 use Rattle.claims.proofs.Same.{once, told-once, answer, answer-told}
 
 replied-once : {o : Outcome (List ℕ)} {buffer : List ℕ} {x y : Wrote} {e f : List ℕ} → Replied o buffer x e → Replied o buffer y f → (x ≡ y) × (e ≡ f)
 replied-once p q = (told-once told answer answer-told (p .answers) (q .answers), once (p .leaves) (q .leaves))
+
+pub report-for : OneResult 0 Report-for.Kinds.ps Report-for.Kinds.r Report-for.Reads.Post
+report-for κs a e f x y p q = once p q
 
 pub to-tpc-request : OneOutcome 2 To-tpc-request.Kinds.ps To-tpc-request.Kinds.r To-tpc-request.Reads.Post (λ κs e. now (e .1 .1 .1 .1 .0))
 to-tpc-request κs a e f x y p q = replied-once p q

@@ -1,31 +1,31 @@
 -- A reply, read from the other side, is the record that was meant; what it carries; and each due request has a reply (01, "Replies").
 -- Assumes nothing.
-use mathlib.Core.Bool.{Bool, true, false, not, _&&_, _||_}
-use mathlib.Core.List.{List, [], _∷_, _++_}
+use mathlib.Core.Bool.{Bool, true, false, not}
+use mathlib.Core.List.{List, [], _∷_}
 use mathlib.Core.Path.{_≡_, refl, sym, ap, _∙_, subst}
-use Prim.Native.Nat.{ℕ, _+_, _<_, _≤_}
+use Prim.Native.Nat.{ℕ, _≤_}
 use native.Mathlib.Omega.{arith}
 use borrow.Author.Tests.{le-ltb, ne-eqb, eq-eqb, not-false}
-use lib.Dec.{ltb, eqb}
-use lib.ListN.{length, drop, replicate}
-use Rattle.answer.proofs.Booleans.{clash, or-go, and-go, and-stop}
+use lib.Dec.{eqb}
+use lib.ListN.{length, replicate}
+use Rattle.answer.proofs.Booleans.{clash, and-go, and-stop}
 use Rattle.answer.proofs.Judged.{past, done, passed, kept, never}
 use Rattle.answer.specs.Checks.{Outcome, refused, accepted, _⇒_, pick, judged, andThen}
 use Rattle.answer.specs.declared.Refusal.{Refusal}
 use Rattle.action.specs.Singles.{tpcReportBody}
-use Rattle.element.specs.MeasurementReport.{ReportFits, reportMay}
+use Rattle.measure.specs.MeasurementReport.{ReportFits, reportMay}
 use Rattle.element.specs.TpcReport.{TpcReportFits, tpcReportOctets}
-use Rattle.element.specs.declared.measurement_report.Matter.{Matter}
-use Rattle.element.specs.declared.measurement_report.Report.{Report}
-use Rattle.element.specs.declared.measurement_request.Matter as Asked
-use Rattle.element.specs.declared.measurement_request.Request.{Request}
-use Rattle.element.specs.declared.span.Span.{Span}
+use Rattle.measure.specs.declared.measurement_report.Matter.{Matter}
+use Rattle.measure.specs.declared.measurement_report.Report.{Report}
+use Rattle.measure.specs.declared.measurement_request.Matter as Asked
+use Rattle.measure.specs.declared.measurement_request.Request.{Request}
+use Rattle.measure.specs.declared.span.Span.{Span}
 use Rattle.element.specs.declared.tpc_report.TpcReport.{TpcReport}
 use Rattle.fraction.specs.Fractions.{busyOf, densitiesOf}
 use Rattle.frame.proofs.ActionTrip.{action-trip}
 use Rattle.frame.specs.Actions.{Body, requests, reports, tpcRequest, tpcReport, switch, actionMeans, actionOctets, actionMay, ActionFits}
-use Rattle.frame.specs.Frames.{Kind, action, Sent, frameMeans}
-use Rattle.header.specs.Headers.{Head, same, da, sa, toAll, foreignHeader, foreignAddress, headerMeans}
+use Rattle.frame.specs.Frames.{action, frameMeans}
+use Rattle.header.specs.Headers.{same, toAll, foreignHeader, foreignAddress, headerMeans}
 use Rattle.header.specs.declared.Subtype.{Subtype}
 use Rattle.measurement.specs.Bodies.{bodyOctets}
 use Rattle.measurement.specs.Lists.{nth, mayAll, mayList}
@@ -33,15 +33,15 @@ use Rattle.measurement.specs.Reports.{reportSort}
 use Rattle.octets.specs.Numbers.{bit, octet}
 use Rattle.octets.specs.Writing.{told, wrote}
 use Rattle.octets.specs.declared.writing.Wrote.{Wrote}
-use Rattle.reply.proofs.Findings.{rpiWith}
+use Rattle.owed.proofs.Findings.{rpiWith}
 use Rattle.reply.proofs.Framed.{six, room-answer}
 use Rattle.reply.proofs.OneReport.{body, short-body}
 use Rattle.reply.specs.Due.{dueMeans}
 use Rattle.reply.specs.Frames.{replyFrame}
 use Rattle.reply.specs.Replies.{tpcReply, measurementAnswer, measurementReply, Replied}
-use Rattle.reply.specs.Reports.{plain, busyReport, rpiReport, foundReport, isLate, begun, byMatter, reportFor}
-use Rattle.reply.specs.declared.reporting.Finding.{Finding}
-use Rattle.reply.specs.declared.reporting.Readings.{Readings}
+use Rattle.owed.specs.Reports.{plain, busyReport, rpiReport, foundReport, isLate, begun, byMatter, reportFor}
+use Rattle.owed.specs.declared.Finding.{Finding}
+use Rattle.owed.specs.declared.Readings.{Readings}
 use Rattle.claims.specs.Exchanged.{exchanged}
 
 -- ---- the header

@@ -20,12 +20,11 @@ use Rattle.schedule.specs.Schedules.{covered}
 use Rattle.schedule.specs.Units.{someUnit}
 use Rattle.station.specs.Asking.{firstOf, quietIn, permissionOf}
 use Rattle.station.specs.Clock.{advanceMeans}
-use Rattle.station.specs.Stations.{inUse}
 use Rattle.station.specs.Taking.{announced, told, takeMeans}
 use Rattle.station.specs.declared.pending.Pending.{Pending}
 use Rattle.walk.specs.Elements.{elementsBehind, elementsIn}
-use Rattle.claims.specs.Histories.{Call, frame, advance, ask, History}
-use Rattle.claims.specs.Moments.{Moment, asking, AllRight, ours, heard, beaconOf, quiet, switchSoon, announcement}
+use Rattle.claims.specs.Histories.{frame, advance}
+use Rattle.claims.specs.Moments.{Moment, asking, AllRight, ours, heard, beaconOf, quiet, announcement}
 use Rattle.claims.specs.Records.{recordAfter}
 
 -- Quiet with this count: period 0, duration 10, offset 20

@@ -1,7 +1,7 @@
 -- Which units are open, by the history, read unit by unit (00, demand 3), and the answers to a question (01, "The station": "First that
 -- applies: 5 n is 0 or over 65,535; 1 a mode-1 switch is pending; 2 t is quiet; 3 some covered unit after t and before the pending
 -- switch, if any, is quiet; 4 the switch lies before t + n; 0 granted").
-use mathlib.Core.List.{List, List·Memᴰ}
+use mathlib.Core.List.{List·Memᴰ}
 use mathlib.Core.Logic.{_⊎_}
 use mathlib.Core.Path.{_≡_}
 use Prim.Native.Nat.{ℕ, _+_, _*_, _<_, _≤_}

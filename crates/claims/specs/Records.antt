@@ -6,7 +6,7 @@ use Rattle.station.specs.Clock.{advanceOf}
 use Rattle.station.specs.Stations.{fresh, inUse}
 use Rattle.station.specs.Taking.{takeOf}
 use Rattle.station.specs.declared.Station.{Station}
-use Rattle.claims.specs.Histories.{Settings, Call, frame, advance, ask, History, clockAfter}
+use Rattle.claims.specs.Histories.{Settings, frame, advance, ask, History, clockAfter}
 use Rattle.claims.specs.Standing.{ChannelIs, PowerIs, PendingIs, SchedulesAre}
 
 module _ (s : Settings) where

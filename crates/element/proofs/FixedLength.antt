@@ -1,12 +1,12 @@
 -- Elements of one length: the ways through `fixed`, and demand 2 for all of them at once. Assumes nothing.
-use mathlib.Core.Path.{_≡_, refl, sym, ap, subst, _∙_}
+use mathlib.Core.Path.{_≡_, sym, ap, subst, _∙_}
 use mathlib.Core.Bool.{Bool, true, false, not}
-use mathlib.Core.List.{List, [], _∷_}
+use mathlib.Core.List.{List}
 use Prim.Native.Nat.{ℕ}
 use borrow.Author.Tests.{eq-eqb, ne-eqb, eqb-true, not-true, not-false}
 use lib.Dec.{eqb}
 use lib.ListN.{length}
-use Rattle.answer.specs.Checks.{Outcome, refused, accepted, checked}
+use Rattle.answer.specs.Checks.{refused, accepted, checked}
 use Rattle.answer.specs.declared.Refusal.{Refusal}
 use Rattle.answer.proofs.Judged.{passed, kept}
 use Rattle.octets.specs.Numbers.{Octets}

@@ -1,8 +1,2 @@
 pub mod FixedLength
-pub mod Histogram
-pub mod ReportLayout
-pub mod ReportTrip
-pub mod RequestLayout
-pub mod RequestTrip
 pub mod RoundTrips
-pub mod SpanTrip

@@ -1,13 +1,10 @@
 -- Demand 2 for the elements of one length (01, "Octets"). Assumes nothing.
-use mathlib.Core.Path.{_≡_, refl, ap₂, _∙_}
+use mathlib.Core.Path.{refl, ap₂, _∙_}
 use mathlib.Core.Bool.{true, false}
-use mathlib.Core.List.{List, [], _∷_, _++_}
+use mathlib.Core.List.{[], _∷_, _++_}
 use Prim.Native.Nat.{ℕ}
 use lib.ListN.{length}
-use mir.Syntax.{w8}
-use mir.Val.{SFits}
 use Rattle.octets.specs.Numbers.{Octets, octet}
-use Rattle.octets.specs.Signed.{signedOf}
 use Rattle.octets.proofs.JoinSplit.{join-split, split-number, number-bound, all-from}
 use Rattle.octets.proofs.TwosComplement.{octet-signed, signed-octet, signed-fits}
 use Rattle.element.specs.ChannelSwitch.{switchIn, switchForbids, switchMeans, switchContents, switchMay}

@@ -1,9 +1,6 @@
 pub mod ChannelSwitch
 pub mod Elements
-pub mod MeasurementReport
-pub mod MeasurementRequest
 pub mod PowerConstraint
 pub mod Quiet
-pub mod Span
 pub mod TpcReport
 pub mod TpcRequest

@@ -1,5 +1,5 @@
 -- Element 34, TPC Request (01, "Octets"; 7.3.2.17): length 0, so there is nothing in it to read.
-use mathlib.Core.Bool.{Bool, true, false}
+use mathlib.Core.Bool.{false}
 use mathlib.Core.List.{List, []}
 use Prim.Native.Nat.{ℕ}
 use Rattle.answer.specs.Checks.{Outcome, refused, accepted}

@@ -10,8 +10,8 @@ use Rattle.answer.specs.Checks.{accepted}
 use Rattle.answer.proofs.Booleans.{both}
 use Rattle.element.specs.ChannelSwitch.{switchMeans, switchContents, switchMay, switchOctets}
 use Rattle.element.specs.Elements.{RoundTrip}
-use Rattle.element.specs.MeasurementReport.{ReportFits}
-use Rattle.element.specs.MeasurementRequest.{RequestFits}
+use Rattle.measure.specs.MeasurementReport.{ReportFits}
+use Rattle.measure.specs.MeasurementRequest.{RequestFits}
 use Rattle.element.specs.TpcReport.{tpcReportMeans, tpcReportContents, tpcReportMay, tpcReportOctets, TpcReportFits}
 use Rattle.element.specs.TpcRequest.{tpcRequestMeans, tpcRequestOctets}
 use Rattle.element.proofs.RoundTrips.{tpc-request-trip, tpc-report-trip, switch-trip}

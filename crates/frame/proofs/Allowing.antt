@@ -21,7 +21,7 @@ use Rattle.measurement.specs.Lists.{recordsIn}
 use Rattle.measurement.specs.Reports.{reportSort}
 use Rattle.measurement.specs.Requests.{requestSort}
 use Rattle.walk.specs.Elements.{Elements, end, cutHeader, cutContents, more, elementsIn}
-use Rattle.frame.specs.Actions.{Body, behind, actionMeans}
+use Rattle.frame.specs.Actions.{behind, actionMeans}
 use Rattle.frame.specs.Allowed.{BodyAllowed, KindAllowed}
 use Rattle.frame.specs.Frames.{Sent, kindOf, frameMeans}
 

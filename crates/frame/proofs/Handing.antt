@@ -3,7 +3,6 @@ use mathlib.Core.Path.{_≡_, refl, sym, ap, _∙_}
 use mathlib.Core.Bool.{Bool, true, false}
 use mathlib.Core.List.{List, []}
 use Prim.Native.Nat.{ℕ, _≤_}
-use native.Mathlib.Omega.{arith}
 use borrow.Author.Tests.{ltb-false}
 use lib.ListN.{length, drop}
 use Rattle.answer.specs.Checks.{Outcome, refused, accepted, andThen}
@@ -13,8 +12,7 @@ use Rattle.beacon.specs.Beacons.{Told, beaconMeans}
 use Rattle.beacon.specs.Laid.{laid}
 use Rattle.beacon.specs.declared.Heard.{Heard}
 use Rattle.header.specs.Headers.{Head, headerMeans}
-use Rattle.header.specs.declared.Subtype.{Subtype}
-use Rattle.frame.specs.Actions.{Body, actionMeans}
+use Rattle.frame.specs.Actions.{Body}
 use Rattle.frame.specs.Frames.{Kind, beacon, probeResponse, action, kindOf, sent, frameMeans}
 use Rattle.frame.specs.Laid.{actionFrame, bodyFrame, received, frameLaid, noticeSubtype}
 use Rattle.frame.specs.declared.Frame.{Frame}

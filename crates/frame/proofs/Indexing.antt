@@ -2,10 +2,10 @@
 use mathlib.Core.Path.{_≡_, refl, sym, ap, subst, _∙_}
 use mathlib.Core.Bool.{Bool, true, false}
 use mathlib.Core.List.{List}
-use Prim.Native.Nat.{ℕ, _≤_}
-use borrow.Author.Tests.{eqb-true, eq-eqb}
+use Prim.Native.Nat.{ℕ}
+use borrow.Author.Tests.{eqb-true}
 use lib.Dec.{eqb}
-use lib.ListN.{length, drop}
+use lib.ListN.{drop}
 use Rattle.action.specs.Openings.{Opens, switching, with, opensWith}
 use Rattle.action.specs.Singles.{single}
 use Rattle.answer.specs.Checks.{Outcome, refused, accepted, pick, andThen}
@@ -14,11 +14,11 @@ use Rattle.answer.proofs.Booleans.{clash}
 use Rattle.answer.proofs.Judged.{never}
 use Rattle.beacon.specs.Beacons.{Told}
 use Rattle.element.specs.ChannelSwitch.{switchMeans}
-use Rattle.element.specs.MeasurementRequest.{requestTold}
+use Rattle.measure.specs.MeasurementRequest.{requestTold}
 use Rattle.element.specs.TpcReport.{tpcReportMeans}
 use Rattle.element.specs.TpcRequest.{tpcRequestMeans}
-use Rattle.element.specs.declared.measurement_report.Report.{Report}
-use Rattle.element.specs.declared.measurement_request.Request.{Request}
+use Rattle.measure.specs.declared.measurement_report.Report.{Report}
+use Rattle.measure.specs.declared.measurement_request.Request.{Request}
 use Rattle.measurement.specs.Lists.{recordsIn, nth}
 use Rattle.measurement.specs.Reports.{reportSort}
 use Rattle.measurement.specs.Requests.{requestSort}

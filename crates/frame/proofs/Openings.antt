@@ -1,18 +1,17 @@
 -- What the opening of a body says of it. Assumes nothing.
-use mathlib.Core.Path.{_≡_, refl, sym, ap, _∙_}
+use mathlib.Core.Path.{_≡_, ap}
 use mathlib.Core.Bool.{Bool, true, false}
-use mathlib.Core.List.{List, [], _∷_}
+use mathlib.Core.List.{List}
 use Prim.Native.Nat.{ℕ, _≤_}
 use native.Mathlib.Omega.{arith}
 use borrow.Author.Tests.{ltb-false, ne-eqb}
 use lib.Dec.{eqb}
 use lib.ListN.{length}
-use Rattle.action.specs.Openings.{Opens, switching, with, opensWith, needsToken}
-use Rattle.answer.specs.Checks.{Outcome, refused, accepted, pick, andThen}
-use Rattle.answer.specs.declared.Refusal.{Refusal}
-use Rattle.answer.proofs.Judged.{passed, kept, stands}
+use Rattle.action.specs.Openings.{Opens, switching, with, opensWith}
+use Rattle.answer.specs.Checks.{Outcome, accepted, pick, andThen}
+use Rattle.answer.proofs.Judged.{passed, stands}
 use Rattle.octets.specs.Numbers.{octet}
-use Rattle.frame.specs.Actions.{Body, behind, actionMeans}
+use Rattle.frame.specs.Actions.{behind, actionMeans}
 
 by-action : (t : Bool) (o : Outcome Opens) (action token : ℕ) → pick t (accepted switching) o ≡ accepted (with action token) → o ≡ accepted (with action token)
 by-action true o action token e = absurd (let z : _≡_ {A = ℕ} 0 1 = cc in omega arith)

@@ -15,16 +15,16 @@ use Rattle.beacon.specs.declared.MaybeReport.{MaybeReport}
 use Rattle.beacon.specs.declared.MaybeSwitch.{MaybeSwitch}
 use Rattle.element.specs.ChannelSwitch.{switchMeans}
 use Rattle.element.specs.Elements.{fixed}
-use Rattle.element.specs.MeasurementReport.{reportMeans, noDensities}
-use Rattle.element.specs.MeasurementRequest.{requestMeans}
+use Rattle.measure.specs.MeasurementReport.{reportMeans, noDensities}
+use Rattle.measure.specs.MeasurementRequest.{requestMeans}
 use Rattle.element.specs.Quiet.{quietMeans}
 use Rattle.element.specs.TpcReport.{tpcReportMeans}
 use Rattle.element.specs.TpcRequest.{tpcRequestMeans}
 use Rattle.element.specs.declared.channel_switch.ChannelSwitch.{ChannelSwitch}
-use Rattle.element.specs.declared.measurement_report.Matter as Reports
-use Rattle.element.specs.declared.measurement_report.Report.{Report}
-use Rattle.element.specs.declared.measurement_request.Matter as Requests
-use Rattle.element.specs.declared.measurement_request.Request.{Request}
+use Rattle.measure.specs.declared.measurement_report.Matter as Reports
+use Rattle.measure.specs.declared.measurement_report.Report.{Report}
+use Rattle.measure.specs.declared.measurement_request.Matter as Requests
+use Rattle.measure.specs.declared.measurement_request.Request.{Request}
 use Rattle.element.specs.declared.quiet.Quiet.{Quiet}
 use Rattle.header.specs.Headers.{foreignHeader, foreignAddress, toAll, headerMeans}
 use Rattle.measurement.specs.Lists.{listed, recordsIn, nth}

@@ -7,15 +7,15 @@ use lib.Dec.{eqb}
 use lib.ListN.{drop}
 use Rattle.action.specs.Openings.{Opens, switching, with, opensWith}
 use Rattle.action.specs.Singles.{single, tpcRequestBody, tpcReportBody, switchBody}
-use Rattle.answer.specs.Checks.{Outcome, refused, accepted, pick, andThen}
+use Rattle.answer.specs.Checks.{Outcome, accepted, pick, andThen}
 use Rattle.element.specs.ChannelSwitch.{switchMeans, switchMay}
-use Rattle.element.specs.MeasurementReport.{ReportFits}
-use Rattle.element.specs.MeasurementRequest.{RequestFits}
+use Rattle.measure.specs.MeasurementReport.{ReportFits}
+use Rattle.measure.specs.MeasurementRequest.{RequestFits}
 use Rattle.element.specs.TpcReport.{tpcReportMeans, TpcReportFits}
 use Rattle.element.specs.TpcRequest.{tpcRequestMeans}
 use Rattle.element.specs.declared.channel_switch.ChannelSwitch.{ChannelSwitch}
-use Rattle.element.specs.declared.measurement_report.Report.{Report}
-use Rattle.element.specs.declared.measurement_request.Request.{Request}
+use Rattle.measure.specs.declared.measurement_report.Report.{Report}
+use Rattle.measure.specs.declared.measurement_request.Request.{Request}
 use Rattle.element.specs.declared.tpc_report.TpcReport.{TpcReport}
 use Rattle.measurement.specs.Bodies.{bodyOctets}
 use Rattle.measurement.specs.Lists.{AllFit, recordsIn, mayList, allInterpreted, allClear}

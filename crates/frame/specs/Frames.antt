@@ -7,9 +7,9 @@ use lib.ListN.{drop}
 use Rattle.answer.specs.Checks.{Outcome, refused, accepted, andThen}
 use Rattle.answer.specs.declared.Refusal.{Refusal}
 use Rattle.beacon.specs.Beacons.{Told, beaconMeans}
-use Rattle.element.specs.declared.measurement_report.Report.{Report}
-use Rattle.element.specs.declared.measurement_request.Request.{Request}
-use Rattle.header.specs.Headers.{Head, headerMeans}
+use Rattle.measure.specs.declared.measurement_report.Report.{Report}
+use Rattle.measure.specs.declared.measurement_request.Request.{Request}
+use Rattle.header.specs.Headers.{headerMeans}
 use Rattle.header.specs.declared.Subtype.{Subtype}
 use Rattle.measurement.specs.Lists.{nth}
 use Rattle.frame.specs.Actions.{Body, requests, reports, tpcRequest, tpcReport, switch, actionMeans}

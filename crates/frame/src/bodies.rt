@@ -1,7 +1,7 @@
 // Action bodies: how they begin, then the elements of that action.
 ghost use mathlib.Core.Path.{_≡_};
 ghost use Prim.Native.Nat.{_≤_};
-ghost use lib.ListN.{length, drop};
+ghost use lib.ListN.{length};
 ghost use Rattle.action.specs.Openings.{switching, with};
 ghost use Rattle.frame.specs.Actions.{behind, actionMeans};
 ghost use Rattle.frame.specs.Laid.{frameTold, bodyFrame};

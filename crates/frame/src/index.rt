@@ -2,8 +2,8 @@
 ghost use mathlib.Core.Path.{_≡_};
 ghost use Rattle.action.specs.Openings.{opensWith};
 ghost use Rattle.answer.specs.Checks.{andThen};
-ghost use Rattle.element.specs.MeasurementReport.{reportLaid};
-ghost use Rattle.element.specs.MeasurementRequest.{requestTold};
+ghost use Rattle.measure.specs.MeasurementReport.{reportLaid};
+ghost use Rattle.measure.specs.MeasurementRequest.{requestTold};
 ghost use Rattle.frame.specs.Actions.{actionMeans};
 ghost use Rattle.frame.specs.Frames.{frameMeans, requestIn, reportIn, elementOf};
 ghost use Rattle.frame.specs.Laid.{opensAs, refusalOf, noticeRefusal};
@@ -13,10 +13,10 @@ use crate::bodies;
 use action::Opening;
 use answer::Answer;
 use answer::Refusal;
-use element::measurement_report;
-use element::measurement_request;
 use header::Header;
 use header::Subtype;
+use measure::measurement_report;
+use measure::measurement_request;
 
 // Whether a body is one of this action, as far as its fixed fields go.
 fn opens_as(body: &[u8], wanted: u8) -> bool

@@ -1,13 +1,11 @@
 -- Comparing addresses. Assumes nothing.
-use mathlib.Core.Path.{_≡_, refl, sym, ap, _∙_}
-use mathlib.Core.Bool.{Bool, true, false, _&&_, and-true}
-use mathlib.Core.List.{List, [], _∷_}
+use mathlib.Core.Path.{_≡_, sym, ap, _∙_}
+use mathlib.Core.Bool.{_&&_, and-true}
+use mathlib.Core.List.{List}
 use Prim.Native.Nat.{ℕ, _+_}
 use native.Mathlib.Nat.{add-assoc}
-use borrow.Author.Tests.{eqb-true, eq-eqb}
 use lib.Dec.{eqb}
 use lib.ListN.{length}
-use Rattle.answer.proofs.Booleans.{both, clash}
 use Rattle.octets.specs.Numbers.{octet, octetsFrom}
 use Rattle.octets.proofs.JoinSplit.{all-from}
 use Rattle.header.specs.Headers.{same}

@@ -1,7 +1,6 @@
 // The header of a management frame (document 01, "Octets"; the base standard, with 802.11h 7.2.3).
 ghost use mathlib.Core.Path.{_≡_};
 ghost use Prim.Native.Nat.{_≤_};
-ghost use lib.ListN.{length};
 ghost use Rattle.octets.specs.Numbers.{octetsFrom};
 ghost use Rattle.header.specs.Headers.{same, isRead, hasForeignFlag, foreignHeader, foreignAddress, toAll, subtypeOf, told, headerMeans};
 use answer::Refusal;

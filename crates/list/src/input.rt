@@ -1,5 +1,4 @@
 // Reading standard input, a buffer at a time.
-ghost use Prim.Native.Nat.{_≤_};
 ghost use lib.ListN.{length};
 ghost use Rattle.list.specs.Program.{Within};
 use libc::STDIN_FILENO;

@@ -3,7 +3,7 @@
 mod input;
 mod output;
 
-ghost use Prim.Native.Nat.{ℕ, _≤_};
+ghost use Prim.Native.Nat.{ℕ};
 ghost use lib.ListN.{length};
 ghost use Rattle.list.specs.Program.{Ready};
 use capture::Lister;

@@ -1,13 +1,12 @@
 // Listing blocks, with their lines written in large pieces.
 ghost use mathlib.Core.Path.{_≡_};
-ghost use Prim.Native.Nat.{ℕ, _<_, _≤_};
+ghost use Prim.Native.Nat.{ℕ, _<_};
 ghost use lib.ListN.{length};
 ghost use Rattle.capture.specs.Listers.{Fits};
 ghost use Rattle.list.specs.Program.{Ready};
 use capture::Feed;
 use capture::Lister;
 use libc::STDOUT_FILENO;
-use text::Text;
 
 // How the listing stands, or ended.
 pub enum Fate {

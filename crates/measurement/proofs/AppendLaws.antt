@@ -10,8 +10,8 @@ use lib.ListN.{length, take, drop, length-drop}
 use lib.Seq.{take-length}
 use Rattle.answer.specs.Checks.{Outcome, refused, accepted, pick}
 use Rattle.answer.proofs.Booleans.{both}
-use Rattle.element.specs.declared.measurement_report.Report.{Report}
-use Rattle.element.specs.declared.measurement_request.Request.{Request}
+use Rattle.measure.specs.declared.measurement_report.Report.{Report}
+use Rattle.measure.specs.declared.measurement_request.Request.{Request}
 use Rattle.walk.specs.Elements.{elementsIn}
 use Rattle.measurement.specs.Bodies.{longestBody, begins, joins, mayAppend, appended}
 use Rattle.measurement.specs.Lists.{Sort, recordsIn, allClear, allInterpreted}

@@ -8,7 +8,7 @@ use borrow.Author.Tests.{eqb-true, eqb-false}
 use lib.Dec.{eqb}
 use lib.ListN.{length, getD, set, replicate, length-set, length-replicate, getD-replicate}
 use lib.Seq.{getD-set-same, getD-set-other}
-use Rattle.element.specs.declared.measurement_request.Request.{Request}
+use Rattle.measure.specs.declared.measurement_request.Request.{Request}
 use Rattle.measurement.specs.Requests.{used}
 
 pub record Marked (marks : List Bool) (l : List Request) : Type 0 where

@@ -8,11 +8,11 @@ use lib.Dec.{ltb, eqb}
 use lib.ListN.{length}
 use Rattle.answer.specs.Checks.{accepted}
 use Rattle.answer.proofs.Booleans.{clash, both}
-use Rattle.element.specs.MeasurementReport.{reportForbids, matterInterpreted, reportAgrees, reportContents, reportMeasured, reportMay, reportClear, reportOctets, mapClear, silent, ReportFits}
-use Rattle.element.specs.declared.measurement_report.Matter.{Matter}
-use Rattle.element.specs.declared.measurement_report.Report.{Report}
-use Rattle.element.proofs.ReportLayout.{made}
-use Rattle.element.proofs.ReportTrip.{report-trip}
+use Rattle.measure.specs.MeasurementReport.{reportForbids, matterInterpreted, reportAgrees, reportContents, reportMeasured, reportMay, reportClear, reportOctets, mapClear, silent, ReportFits}
+use Rattle.measure.specs.declared.measurement_report.Matter.{Matter}
+use Rattle.measure.specs.declared.measurement_report.Report.{Report}
+use Rattle.measure.proofs.ReportLayout.{made}
+use Rattle.measure.proofs.ReportTrip.{report-trip}
 use Rattle.octets.specs.Numbers.{Octets, octet}
 use Rattle.walk.specs.Elements.{elementsIn}
 use Rattle.measurement.specs.Bodies.{longestBody, bodyOctets}

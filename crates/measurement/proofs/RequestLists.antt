@@ -7,11 +7,11 @@ use lib.Dec.{eqb}
 use lib.ListN.{length}
 use Rattle.answer.specs.Checks.{accepted}
 use Rattle.answer.proofs.Booleans.{both}
-use Rattle.element.specs.MeasurementRequest.{requestForbids, requestMatterInterpreted, requestAgrees, requestContents, requestMay, requestClear, requestOctets, RequestFits}
-use Rattle.element.specs.declared.measurement_request.Matter.{Matter}
-use Rattle.element.specs.declared.measurement_request.Request.{Request}
-use Rattle.element.proofs.RequestLayout.{made}
-use Rattle.element.proofs.RequestTrip.{request-trip}
+use Rattle.measure.specs.MeasurementRequest.{requestForbids, requestMatterInterpreted, requestAgrees, requestContents, requestMay, requestClear, requestOctets, RequestFits}
+use Rattle.measure.specs.declared.measurement_request.Matter.{Matter}
+use Rattle.measure.specs.declared.measurement_request.Request.{Request}
+use Rattle.measure.proofs.RequestLayout.{made}
+use Rattle.measure.proofs.RequestTrip.{request-trip}
 use Rattle.octets.specs.Numbers.{Octets}
 use Rattle.walk.specs.Elements.{elementsIn}
 use Rattle.measurement.specs.Bodies.{longestBody, bodyOctets}

@@ -7,9 +7,9 @@ use lib.ListN.{take, drop}
 use Rattle.answer.specs.Checks.{Outcome, refused, accepted}
 use Rattle.answer.specs.declared.Answer.{Answer}
 use Rattle.answer.specs.declared.Refusal.{Refusal}
-use Rattle.element.specs.MeasurementReport.{reportMeans, reportClear, reportLaid}
-use Rattle.element.specs.declared.measurement_report.Reading.{Reading}
-use Rattle.element.specs.declared.measurement_report.Report.{Report}
+use Rattle.measure.specs.MeasurementReport.{reportMeans, reportClear, reportLaid}
+use Rattle.measure.specs.declared.measurement_report.Reading.{Reading}
+use Rattle.measure.specs.declared.measurement_report.Report.{Report}
 use Rattle.walk.specs.declared.Found.{Found}
 use Rattle.measurement.specs.Reports.{reportSort}
 use Rattle.measurement.specs.Steps.{Stops, RequestStep, ReportStep, ReportStepped}

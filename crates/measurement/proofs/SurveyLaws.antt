@@ -7,11 +7,11 @@ use lib.ListN.{length, getD}
 use Rattle.answer.specs.Checks.{Outcome, refused}
 use Rattle.answer.specs.declared.Answer.{Answer}
 use Rattle.answer.specs.declared.Refusal.{Refusal}
-use Rattle.element.specs.MeasurementReport.{reportLaid}
-use Rattle.element.specs.declared.measurement_report.Reading as ReportReading
-use Rattle.element.specs.declared.measurement_report.Report.{Report}
-use Rattle.element.specs.declared.measurement_request.Reading as RequestReading
-use Rattle.element.specs.declared.measurement_request.Request.{Request}
+use Rattle.measure.specs.MeasurementReport.{reportLaid}
+use Rattle.measure.specs.declared.measurement_report.Reading as ReportReading
+use Rattle.measure.specs.declared.measurement_report.Report.{Report}
+use Rattle.measure.specs.declared.measurement_request.Reading as RequestReading
+use Rattle.measure.specs.declared.measurement_request.Request.{Request}
 use Rattle.walk.specs.Elements.{elementsIn}
 use Rattle.measurement.specs.Lists.{recordsIn, allClear}
 use Rattle.measurement.specs.Reports.{reportSort}

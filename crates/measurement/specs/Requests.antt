@@ -3,8 +3,8 @@ use mathlib.Core.Bool.{Bool, false, _||_}
 use mathlib.Core.List.{List, [], _∷_}
 use Prim.Native.Nat.{ℕ}
 use lib.Dec.{eqb}
-use Rattle.element.specs.MeasurementRequest.{requestMeans, requestClear, requestInterpreted, requestMay, requestOctets}
-use Rattle.element.specs.declared.measurement_request.Request.{Request}
+use Rattle.measure.specs.MeasurementRequest.{requestMeans, requestClear, requestInterpreted, requestMay, requestOctets}
+use Rattle.measure.specs.declared.measurement_request.Request.{Request}
 use Rattle.measurement.specs.Lists.{Sort}
 
 -- whether a measurement token is used

@@ -7,7 +7,7 @@ use lib.ListN.{length, drop}
 use Rattle.answer.specs.Checks.{refused, _⇒_, judged, andThen}
 use Rattle.answer.specs.declared.Answer.{Answer}
 use Rattle.answer.specs.declared.Refusal.{Refusal}
-use Rattle.element.specs.declared.measurement_report.Report.{Report}
+use Rattle.measure.specs.declared.measurement_report.Report.{Report}
 use Rattle.walk.specs.Elements.{elementsIn}
 use Rattle.measurement.specs.Lists.{Sort, listed, allClear}
 use Rattle.measurement.specs.Reports.{reportSort}

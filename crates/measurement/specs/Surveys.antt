@@ -7,10 +7,10 @@ use lib.ListN.{length}
 use Rattle.answer.specs.Checks.{Outcome, refused, accepted}
 use Rattle.answer.specs.declared.Answer.{Answer}
 use Rattle.answer.specs.declared.Refusal.{Refusal}
-use Rattle.element.specs.MeasurementReport.{reportLaid}
-use Rattle.element.specs.declared.measurement_report.Report.{Report}
-use Rattle.element.specs.declared.measurement_request.Reading as RequestReading
-use Rattle.element.specs.declared.measurement_request.Request.{Request}
+use Rattle.measure.specs.MeasurementReport.{reportLaid}
+use Rattle.measure.specs.declared.measurement_report.Report.{Report}
+use Rattle.measure.specs.declared.measurement_request.Reading as RequestReading
+use Rattle.measure.specs.declared.measurement_request.Request.{Request}
 use Rattle.measurement.specs.Lists.{allInterpreted, nth}
 use Rattle.measurement.specs.Reports.{reportSort}
 use Rattle.measurement.specs.Requests.{requestSort, used}

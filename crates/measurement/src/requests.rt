@@ -6,7 +6,7 @@ ghost use Prim.Native.Nat.{_<_};
 ghost use lib.ListN.{length, take};
 ghost use lib.Dec.{leb, eqb};
 ghost use Rattle.answer.specs.Checks.{refused, accepted, pick};
-ghost use Rattle.element.specs.MeasurementRequest.{requestOctets, requestInterpreted};
+ghost use Rattle.measure.specs.MeasurementRequest.{requestOctets, requestInterpreted};
 ghost use Rattle.octets.specs.Writing.{Written};
 ghost use Rattle.walk.specs.Elements.{elementsIn};
 ghost use Rattle.measurement.specs.Bodies.{mayAppend, appended, Fronts};
@@ -17,9 +17,9 @@ ghost use Rattle.measurement.specs.Surveys.{requestRead, requestsSurveye
 use crate::bodies;
 use answer::Answer;
 use answer::Refusal;
-use element::measurement_request;
-use element::measurement_request::Reading;
-use element::measurement_request::Request;
+use measure::measurement_request;
+use measure::measurement_request::Reading;
+use measure::measurement_request::Request;
 use octets::Wrote;
 use walk::Found;
 

@@ -8,7 +8,7 @@ use lib.Dec.{eqb}
 use lib.ListN.{length}
 use Rattle.answer.specs.Checks.{pick}
 use Rattle.octets.specs.Numbers.{number}
-use Rattle.record.specs.Entries.{Noted, malformed, starting, advancing, hearing, asking, settingsOf, entryMeans}
+use Rattle.record.specs.Entries.{malformed, starting, advancing, hearing, asking, settingsOf, entryMeans}
 
 -- whichever of the two it is
 neither : (t u : Bool) → malformed ≡ pick t malformed (pick u malformed malformed)

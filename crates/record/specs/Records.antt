@@ -1,7 +1,7 @@
 -- The used part of a block as records, one behind the other, and how it ends (01, "Capture blocks and the evening list": kind, length (2),
 -- contents; records never cross blocks).
 use mathlib.Core.List.{List, [], _∷_}
-use Prim.Native.Nat.{ℕ, zero, suc, _+_, _*_}
+use Prim.Native.Nat.{ℕ, zero, suc}
 use lib.Dec.{leb}
 use lib.ListN.{length, take}
 use Rattle.answer.specs.Checks.{pick}

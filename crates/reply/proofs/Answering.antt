@@ -10,20 +10,20 @@ use Rattle.answer.proofs.Judged.{never, passed}
 use Rattle.answer.specs.Checks.{Outcome, refused, accepted, _⇒_, checked, judged, andThen}
 use Rattle.answer.specs.declared.Answer.{Answer}
 use Rattle.answer.specs.declared.Refusal.{Refusal}
-use Rattle.element.specs.MeasurementReport.{reportLaid}
-use Rattle.element.specs.declared.measurement_report.Reading.{Reading}
-use Rattle.element.specs.declared.measurement_report.Report.{Report}
-use Rattle.element.specs.declared.measurement_request.Request.{Request}
+use Rattle.measure.specs.MeasurementReport.{reportLaid}
+use Rattle.measure.specs.declared.measurement_report.Reading.{Reading}
+use Rattle.measure.specs.declared.measurement_report.Report.{Report}
+use Rattle.measure.specs.declared.measurement_request.Request.{Request}
 use Rattle.element.specs.declared.tpc_report.TpcReport.{TpcReport}
 use Rattle.frame.specs.Actions.{Body, requests, reports, tpcRequest, tpcReport, switch, actionMeans}
 use Rattle.header.specs.Headers.{Head, headerMeans}
 use Rattle.header.specs.declared.Subtype.{Subtype}
-use Rattle.octets.specs.Writing.{told, room, wrote, after, left, Written}
+use Rattle.octets.specs.Writing.{room, wrote, after, left, Written}
 use Rattle.octets.specs.declared.writing.Wrote.{Wrote}
 use Rattle.reply.specs.Due.{orNone, bySubtype, behindHeader, dueMeans, dueOf}
 use Rattle.reply.specs.Replies.{tpcAnswer, measurementAnswer, leftBy, Replied}
 use Rattle.reply.specs.declared.due.Due.{Due}
-use Rattle.reply.specs.declared.reporting.Readings.{Readings}
+use Rattle.owed.specs.declared.Readings.{Readings}
 
 apart : {A : Type 0} → _≡_ {A = ℕ} 0 1 → A
 apart e = absurd (omega arith)

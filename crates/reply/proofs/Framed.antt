@@ -1,5 +1,5 @@
 -- A frame that is put in two parts, its header and then its body. Assumes nothing.
-use mathlib.Core.Bool.{Bool, true, false}
+use mathlib.Core.Bool.{Bool, true}
 use mathlib.Core.List.{List, [], _∷_, _++_, append-nil}
 use mathlib.Core.Path.{_≡_, refl, sym, ap, _∙_}
 use Prim.Native.Nat.{ℕ, _+_, _<_, _≤_}
@@ -8,10 +8,10 @@ use borrow.Author.Tests.{lt-ltb, le-ltb}
 use lib.ListN.{length, take, drop, length-append, drop-of-length-le}
 use lib.Seq.{take-at, drop-at, drop-drop}
 use Rattle.answer.proofs.Judged.{past, stop, done}
-use Rattle.answer.specs.Checks.{Outcome, refused, accepted, checked}
+use Rattle.answer.specs.Checks.{Outcome, refused, accepted}
 use Rattle.answer.specs.declared.Refusal.{Refusal}
 use Rattle.octets.specs.Numbers.{octet}
-use Rattle.octets.specs.Writing.{told, room, wrote, over, after, left, Written}
+use Rattle.octets.specs.Writing.{room, wrote, over, after, left, Written}
 use Rattle.octets.specs.declared.writing.Wrote.{Wrote}
 use Rattle.reply.specs.Frames.{replyHead}
 

@@ -1,5 +1,4 @@
 pub mod Answering
-pub mod Findings
 pub mod Framed
 pub mod OneReport
 pub mod Owing

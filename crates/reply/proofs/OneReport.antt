@@ -1,7 +1,7 @@
 -- A body of one Measurement Report, built in a buffer of its own. Assumes nothing.
 use mathlib.Core.Bool.{Bool, true, false, _&&_}
-use mathlib.Core.List.{List, [], _∷_, _++_, append-nil}
-use mathlib.Core.Path.{_≡_, refl, sym, ap, _∙_, subst}
+use mathlib.Core.List.{List, [], _∷_, append-nil}
+use mathlib.Core.Path.{_≡_, refl, sym, ap, _∙_}
 use Prim.Native.Nat.{ℕ, _+_, _≤_}
 use native.Mathlib.Omega.{arith}
 use borrow.Author.Tests.{le-ltb, le-leb}
@@ -10,9 +10,9 @@ use lib.ListN.{length, take}
 use Rattle.answer.proofs.Judged.{never, stop, past, done}
 use Rattle.answer.specs.Checks.{Outcome, refused, accepted}
 use Rattle.answer.specs.declared.Refusal.{Refusal}
-use Rattle.element.proofs.ReportLayout.{within, counted}
-use Rattle.element.specs.MeasurementReport.{reportMay, reportOctets}
-use Rattle.element.specs.declared.measurement_report.Report.{Report}
+use Rattle.measure.proofs.ReportLayout.{within, counted}
+use Rattle.measure.specs.MeasurementReport.{reportMay, reportOctets}
+use Rattle.measure.specs.declared.measurement_report.Report.{Report}
 use Rattle.measurement.specs.Bodies.{longestBody, bodyOctets, mayAppend, appended}
 use Rattle.measurement.specs.Lists.{allOctets}
 use Rattle.measurement.specs.Reports.{reportSort}

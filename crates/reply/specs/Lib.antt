@@ -1,4 +1,3 @@
 pub mod Due
 pub mod Frames
 pub mod Replies
-pub mod Reports

@@ -6,7 +6,7 @@ use Prim.Native.Nat.{ℕ}
 use Rattle.action.specs.Singles.{tpcReportBody}
 use Rattle.answer.specs.Checks.{Outcome, refused, accepted, _⇒_, judged, andThen}
 use Rattle.answer.specs.declared.Refusal.{Refusal}
-use Rattle.element.specs.MeasurementReport.{reportMay}
+use Rattle.measure.specs.MeasurementReport.{reportMay}
 use Rattle.element.specs.declared.tpc_report.TpcReport.{TpcReport}
 use Rattle.frame.specs.Actions.{Body, requests, reports, tpcRequest, tpcReport, switch}
 use Rattle.measurement.specs.Bodies.{bodyOctets}
@@ -16,8 +16,8 @@ use Rattle.octets.specs.Writing.{told, wrote, left}
 use Rattle.octets.specs.declared.writing.Wrote.{Wrote}
 use Rattle.reply.specs.Due.{dueMeans}
 use Rattle.reply.specs.Frames.{replyFrame}
-use Rattle.reply.specs.Reports.{reportFor}
-use Rattle.reply.specs.declared.reporting.Readings.{Readings}
+use Rattle.owed.specs.Reports.{reportFor}
+use Rattle.owed.specs.declared.Readings.{Readings}
 
 -- ---- the octets of a reply, or the refusal
 

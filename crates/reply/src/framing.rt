@@ -5,14 +5,14 @@ ghost use mathlib.Core.List.{[], _∷_};
 ghost use Prim.Native.Nat.{_≤_};
 ghost use lib.ListN.{length};
 ghost use Rattle.action.specs.Singles.{tpcReportBody};
-ghost use Rattle.element.specs.MeasurementReport.{reportMay};
+ghost use Rattle.measure.specs.MeasurementReport.{reportMay};
 ghost use Rattle.measurement.specs.Bodies.{bodyOctets};
 ghost use Rattle.measurement.specs.Reports.{reportSort};
 ghost use Rattle.octets.specs.Writing.{Written};
 ghost use Rattle.reply.specs.Frames.{replyHead, replyFrame};
 use answer::Refusal;
-use element::measurement_report::Report;
 use element::tpc_report::TpcReport;
+use measure::measurement_report::Report;
 use octets::Wrote;
 
 // An action frame to the AP: flags, duration and sequence control are 0.

@@ -4,16 +4,13 @@ mod due;
 mod framing;
 mod reporting;
 
-pub use reporting::Finding;
-pub use reporting::Readings;
-ghost use mathlib.Core.Path.{_≡_};
 ghost use Rattle.reply.specs.Replies.{tpcReply, measurementReply, Replied};
 use answer::Answer;
 use answer::Refusal;
 use due::Due;
-use element::measurement_request;
 use element::tpc_report::TpcReport;
 use octets::Wrote;
+use owed::Readings;
 
 // The reply to a TPC Request: a TPC Report with its token, and the power and the margin that the caller has measured.
 pub fn to_tpc_request(

@@ -1,5 +1,5 @@
 -- Which units a schedule covers: the test says what the runs say, and where the first covered unit lies. Assumes nothing.
-use mathlib.Core.Bool.{Bool, true, false, not, _&&_}
+use mathlib.Core.Bool.{true, false}
 use mathlib.Core.Logic.{_⊎_, inl, inr, ⊎-elim}
 use mathlib.Core.Path.{_≡_, refl, sym, ap, _∙_}
 use Prim.Native.Nat.{ℕ, zero, suc, _+_, _-_, _*_, _/_, _%_, _<_, _≤_}
@@ -9,7 +9,7 @@ use borrow.Author.Tests.{lt-ltb, le-ltb, ltb-true, ltb-false}
 use lib.Dec.{ltb}
 use Rattle.answer.proofs.Booleans.{clash}
 use Rattle.schedule.specs.declared.Schedule.{Schedule}
-use Rattle.schedule.specs.Schedules.{Run, Covers, covered}
+use Rattle.schedule.specs.Schedules.{Covers, covered}
 use Rattle.schedule.specs.Units.{someUnit}
 use Rattle.schedule.proofs.FirstUnit.{either, some-none, some-one, first}
 

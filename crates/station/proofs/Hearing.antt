@@ -1,18 +1,18 @@
 -- From what `frame::read` hands out to what the frame means to the station. Assumes nothing.
 use mathlib.Core.Bool.{Bool}
-use mathlib.Core.List.{List, [], _++_}
-use mathlib.Core.Path.{_≡_, refl, sym, ap, _∙_, subst}
+use mathlib.Core.List.{List}
+use mathlib.Core.Path.{_≡_, refl, sym, ap, _∙_}
 use Prim.Native.Nat.{ℕ, _≤_}
 use native.Mathlib.Omega.{arith}
 use lib.ListN.{length, take}
 use lib.Seq.{take-at}
 use Rattle.answer.specs.Checks.{Outcome, refused, accepted}
 use Rattle.answer.specs.declared.Refusal.{Refusal}
-use Rattle.beacon.specs.Beacons.{quietLimit, Said}
+use Rattle.beacon.specs.Beacons.{quietLimit}
 use Rattle.beacon.specs.Laid.{slots}
 use Rattle.element.specs.declared.quiet.Quiet.{Quiet}
 use Rattle.frame.proofs.Allowing.{frame-allowed}
-use Rattle.frame.specs.Actions.{Body, requests, reports, tpcRequest, tpcReport, switch}
+use Rattle.frame.specs.Actions.{requests, reports, tpcRequest, tpcReport, switch}
 use Rattle.frame.specs.Allowed.{KindAllowed}
 use Rattle.frame.specs.Frames.{Kind, beacon, probeResponse, action, Sent, frameMeans}
 use Rattle.frame.specs.Laid.{frameLaid, ofKind}
@@ -20,7 +20,7 @@ use Rattle.frame.specs.declared.Frame.{Frame}
 use Rattle.frame.specs.declared.Reading.{Reading}
 use Rattle.frame.specs.declared.Received.{Received}
 use Rattle.station.specs.Handing.{heardAs}
-use Rattle.station.specs.Taking.{told, heard, takeMeans}
+use Rattle.station.specs.Taking.{heard, takeMeans}
 use Rattle.station.specs.declared.Station.{Station}
 
 in-slots : (qs : List Quiet) → take (length qs) (slots qs) ≡ qs
@@ -46,7 +46,6 @@ module _ (s : Station) where
   -- what the code makes of what it is handed, for a frame of each kind
   kind-heard : (k : Kind) (toAll : Bool) (g : Frame) → ofKind toAll k .reading ≡ Reading.Is g
       → heardAs s g (take (ofKind toAll k .count) (ofKind toAll k .quiets)) ≡ heard s k
-  unfolding told heardAs
   kind-heard (beacon t) toAll g e = rw (← is-frame e, in-slots (t .said .quiets))
   kind-heard (probeResponse t) toAll g e = rw (← is-frame e, in-slots (t .said .quiets))
   kind-heard (action (requests token rs)) toAll g e = rw (← is-frame e)

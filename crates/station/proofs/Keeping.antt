@@ -19,7 +19,7 @@ use Rattle.channel.specs.Centres.{highest}
 use Rattle.element.specs.ChannelSwitch.{switchForbids}
 use Rattle.element.specs.declared.channel_switch.ChannelSwitch.{ChannelSwitch}
 use Rattle.element.specs.declared.quiet.Quiet.{Quiet}
-use Rattle.frame.specs.Actions.{Body, requests, reports, tpcRequest, tpcReport, switch}
+use Rattle.frame.specs.Actions.{requests, reports, tpcRequest, tpcReport, switch}
 use Rattle.frame.specs.Allowed.{KindAllowed}
 use Rattle.frame.specs.Frames.{Kind, beacon, probeResponse, action}
 use Rattle.octets.specs.Numbers.{bit, octet}

@@ -1,5 +1,5 @@
 -- Taking a frame (01, "The station"): what an accepted one changes.
-use mathlib.Core.List.{List, [], _++_, map}
+use mathlib.Core.List.{List, _++_, map}
 use Prim.Native.Nat.{ℕ, _+_, _-_, _*_, _/_}
 use lib.Dec.{eqb}
 use lib.ListN.{length, replicate}
@@ -9,7 +9,7 @@ use Rattle.beacon.specs.declared.MaybePower.{MaybePower}
 use Rattle.beacon.specs.declared.MaybeSwitch.{MaybeSwitch}
 use Rattle.element.specs.declared.channel_switch.ChannelSwitch.{ChannelSwitch}
 use Rattle.element.specs.declared.quiet.Quiet.{Quiet}
-use Rattle.frame.specs.Actions.{Body, requests, reports, tpcRequest, tpcReport, switch}
+use Rattle.frame.specs.Actions.{requests, reports, tpcRequest, tpcReport, switch}
 use Rattle.frame.specs.Frames.{Kind, beacon, probeResponse, action, frameMeans}
 use Rattle.schedule.specs.Schedules.{setBy}
 use Rattle.schedule.specs.declared.Schedule.{Schedule}

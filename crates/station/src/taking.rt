@@ -3,8 +3,8 @@ ghost use mathlib.Core.Path.{_≡_};
 ghost use Prim.Native.Nat.{_≤_};
 ghost use lib.ListN.{take};
 ghost use Rattle.beacon.specs.Beacons.{quietLimit};
-ghost use Rattle.station.specs.Handing.{latest, isNotice, powerIn, switchIn, rescheduledIf, heardAs};
-ghost use Rattle.station.specs.Taking.{passed, rescheduled, constrained, announced, takeOf};
+ghost use Rattle.station.specs.Handing.{saidIn, heardAs};
+ghost use Rattle.station.specs.Taking.{passed, rescheduled, constrained, announced, told, takeOf};
 ghost use Rattle.station.specs.Validity.{Valid};
 use crate::Pending;
 use crate::Station;
@@ -12,76 +12,13 @@ use crate::Stepped;
 use answer::Answer;
 use beacon::MaybePower;
 use beacon::MaybeSwitch;
+use beacon::Notice;
 use beacon::QUIETS;
 use element::channel_switch::ChannelSwitch;
 use element::quiet::Quiet;
 use frame::Frame;
 use frame::Reading;
 use schedule::Schedule;
-
-// The Power Constraint that counts: the new one, if there is one.
-fn latest(before: MaybePower, power: MaybePower) -> MaybePower
-    ensures { λ r. ⌜ r ≡ latest before power ⌝ }
-{
-    match power {
-        MaybePower::Absent => before,
-        MaybePower::Is(_) => power,
-    }
-}
-
-// Whether a frame is a beacon or a probe response.
-fn is_notice(frame: Frame) -> bool
-    ensures { λ r. ⌜ r ≡ isNotice frame ⌝ }
-{
-    match frame {
-        Frame::Beacon(_) => true,
-        Frame::ProbeResponse(_) => true,
-        Frame::ChannelSwitch(_) => false,
-        Frame::MeasurementRequest { token: _, count: _ } => false,
-        Frame::MeasurementReport { token: _, count: _ } => false,
-        Frame::TpcRequest { token: _ } => false,
-        Frame::TpcReport {
-            token: _,
-            report: _,
-        } => false,
-    }
-}
-
-// The Power Constraint in a frame, if any.
-fn power_in(frame: Frame) -> MaybePower
-    ensures { λ r. ⌜ r ≡ powerIn frame ⌝ }
-{
-    match frame {
-        Frame::Beacon(notice) => notice.power,
-        Frame::ProbeResponse(notice) => notice.power,
-        Frame::ChannelSwitch(_) => MaybePower::Absent,
-        Frame::MeasurementRequest { token: _, count: _ } => MaybePower::Absent,
-        Frame::MeasurementReport { token: _, count: _ } => MaybePower::Absent,
-        Frame::TpcRequest { token: _ } => MaybePower::Absent,
-        Frame::TpcReport {
-            token: _,
-            report: _,
-        } => MaybePower::Absent,
-    }
-}
-
-// The announcement in a frame, if any.
-fn switch_in(frame: Frame) -> MaybeSwitch
-    ensures { λ r. ⌜ r ≡ switchIn frame ⌝ }
-{
-    match frame {
-        Frame::Beacon(notice) => notice.switch,
-        Frame::ProbeResponse(notice) => notice.switch,
-        Frame::ChannelSwitch(switch) => MaybeSwitch::Is(switch),
-        Frame::MeasurementRequest { token: _, count: _ } => MaybeSwitch::Absent,
-        Frame::MeasurementReport { token: _, count: _ } => MaybeSwitch::Absent,
-        Frame::TpcRequest { token: _ } => MaybeSwitch::Absent,
-        Frame::TpcReport {
-            token: _,
-            report: _,
-        } => MaybeSwitch::Absent,
-    }
-}
 
 impl Station {
     // How many whole beacon intervals have passed.
@@ -119,9 +56,10 @@ impl Station {
     fn constrained(self, power: MaybePower) -> Station
         ensures { λ r. ⌜ r ≡ constrained self power ⌝ }
     {
-        let before = self.power;
-        let power = latest(before, power);
-        Station { power, ..self }
+        match power {
+            MaybePower::Absent => self,
+            MaybePower::Is(_) => Station { power, ..self },
+        }
     }
 
     // An announcement takes the place of any that is pending. Its count is one of TBTTs, not of intervals from now; a count of 0
@@ -143,32 +81,38 @@ impl Station {
         Station { pending, ..self }
     }
 
-    // A beacon or a probe response sets all schedules anew, no other frame does.
-    fn rescheduled_if(self, notice: bool, quiets: [Quiet; QUIETS], count: usize) -> Station
+    // What a beacon or a probe response changes: all schedules, then the constraint, then the announcement.
+    fn told(self, notice: Notice, quiets: [Quiet; QUIETS], count: usize) -> Station
         requires { ⌜ 1 ≤ self .interval ⌝ }
         requires { ⌜ count ≤ quietLimit ⌝ }
-        ensures { λ r. ⌜ r ≡ rescheduledIf notice self (take count quiets) ⌝ }
+        ensures { λ r. ⌜ r ≡ told self (saidIn notice (take count quiets)) ⌝ }
     {
-        if notice {
-            self.rescheduled(quiets, count)
-        } else {
-            self
+        let power = notice.power;
+        let switch = notice.switch;
+        let next = self.rescheduled(quiets, count).constrained(power);
+        match switch {
+            MaybeSwitch::Absent => next,
+            MaybeSwitch::Is(announcement) => next.announced(announcement),
         }
     }
 
-    // What an accepted frame changes: its schedules, then its constraint, then its announcement.
+    // What an accepted frame changes. Measurement frames and those of transmit power control change nothing.
     fn heard(self, frame: Frame, quiets: [Quiet; QUIETS], count: usize) -> Station
         requires { ⌜ 1 ≤ self .interval ⌝ }
         requires { ⌜ count ≤ quietLimit ⌝ }
         ensures { λ r. ⌜ r ≡ heardAs self frame (take count quiets) ⌝ }
     {
-        let power = power_in(frame);
-        let switch = switch_in(frame);
-        let next = self.rescheduled_if(is_notice(frame), quiets, count)
-            .constrained(power);
-        match switch {
-            MaybeSwitch::Absent => next,
-            MaybeSwitch::Is(announcement) => next.announced(announcement),
+        match frame {
+            Frame::Beacon(notice) => self.told(notice, quiets, count),
+            Frame::ProbeResponse(notice) => self.told(notice, quiets, count),
+            Frame::ChannelSwitch(switch) => self.announced(switch),
+            Frame::MeasurementRequest { token: _, count: _ } => self,
+            Frame::MeasurementReport { token: _, count: _ } => self,
+            Frame::TpcRequest { token: _ } => self,
+            Frame::TpcReport {
+                token: _,
+                report: _,
+            } => self,
         }
     }
 

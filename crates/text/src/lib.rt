@@ -5,7 +5,6 @@ mod words;
 pub use back::Text;
 pub use words::Word;
 ghost use mathlib.Core.Path.{_≡_};
-ghost use Prim.Native.Nat.{_≤_};
 ghost use Rattle.text.specs.Backs.{backed};
 ghost use Rattle.text.specs.Lines.{lineOf, closingOf};
 

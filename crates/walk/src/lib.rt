@@ -1,6 +1,6 @@
 // The walk over a run of elements (document 01, "Octets": an ID, a length, contents; 802.11h 7.3.2).
 ghost use mathlib.Core.Path.{_≡_};
-ghost use Prim.Native.Nat.{_+_, _≤_};
+ghost use Prim.Native.Nat.{_+_};
 ghost use lib.ListN.{length, drop};
 ghost use Rattle.walk.specs.Elements.{elementsIn};
 ghost use Rattle.walk.specs.Found.{follow, Within};

@@ -1,22 +1,21 @@
 -- `to_measurement_request` meets its contract: nothing is due, another request, no report, or the report.
 -- Assumes nothing.
 use mathlib.Core.List.{List}
-use mathlib.Core.Path.{_≡_, refl, sym, ap, _∙_}
+use mathlib.Core.Path.{_≡_, sym, ap, _∙_}
 use Prim.Native.Nat.{ℕ, _≤_}
 use borrow.Author.Needs.{needs}
 use denote.Ref.{now}
-use lib.ListN.{length, drop}
-use Rattle.answer.specs.Checks.{Outcome, refused, accepted, andThen}
-use Rattle.element.specs.MeasurementReport.{reportMay, reportLaid}
-use Rattle.element.specs.declared.measurement_report.Report.{Report}
-use Rattle.element.specs.declared.measurement_request.Request.{Request}
+use lib.ListN.{length}
+use Rattle.answer.specs.Checks.{Outcome, accepted, andThen}
+use Rattle.measure.specs.MeasurementReport.{reportMay, reportLaid}
+use Rattle.measure.specs.declared.measurement_request.Request.{Request}
 use Rattle.frame.proofs.Tails.{tail}
 use Rattle.frame.specs.Actions.{Body, requests, actionMeans}
 use Rattle.frame.specs.Frames.{requestIn}
 use Rattle.measurement.specs.Lists.{nth}
 use Rattle.reply.specs.Due.{dueMeans}
 use Rattle.reply.specs.Replies.{measurementAnswer, measurementReply}
-use Rattle.reply.specs.Reports.{reportFor}
+use Rattle.owed.specs.Reports.{reportFor}
 use Rattle.reply.proofs.Answering.{tpc-due, measurement-due, no-measurement, due-body, replied-refused, replied-judged, no-report, a-report}
 use Rattle.reply.proofs.to_measurement_request.Statement.{statement}
 use Rattle.reply.proofs.to_measurement_request.Tie as tie

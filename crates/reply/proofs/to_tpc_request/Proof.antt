@@ -1,6 +1,6 @@
 -- `to_tpc_request` meets its contract: nothing is due, another request, or the report.
 -- Assumes nothing.
-use mathlib.Core.Path.{_≡_, refl, sym, ap, _∙_}
+use mathlib.Core.Path.{sym, ap, _∙_}
 use borrow.Author.Needs.{needs}
 use denote.Ref.{now}
 use Rattle.answer.specs.Checks.{Outcome, andThen}

@@ -8,7 +8,7 @@ use lib.Dec.{leb}
 use lib.ListN.{length, take}
 use Rattle.measurement.specs.Bodies.{mayAppend, appended}
 use Rattle.measurement.specs.Reports.{reportSort}
-use Rattle.element.specs.declared.measurement_report.Report.{Report}
+use Rattle.measure.specs.declared.measurement_report.Report.{Report}
 use Rattle.boundary.specs.Codes.{Put}
 use Rattle.boundary.proofs.Coded.{put-as}
 use Rattle.boundary.proofs.bodies.oneiralth_append_report.Statement.{statement}

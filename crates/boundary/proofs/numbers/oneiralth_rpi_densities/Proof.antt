@@ -1,10 +1,9 @@
 -- `oneiralth_rpi_densities` meets its contract: minus a refusal's number, or eight octets.
 -- Assumes nothing.
 use mathlib.Core.List.{List, [], _∷_}
-use mathlib.Core.Path.{_≡_, sym, ap, ap₂, _∙_, subst}
+use mathlib.Core.Path.{sym, ap, _∙_}
 use Prim.Native.Nat.{ℕ}
 use borrow.Author.Needs.{needs}
-use denote.Ref.{now}
 use Rattle.answer.specs.Checks.{Outcome, accepted}
 use Rattle.fraction.specs.Fractions.{densitiesOf}
 use Rattle.fraction.specs.declared.Densities.{Densities}

@@ -1,7 +1,7 @@
 -- `oneiralth_read_frame` meets its contract: minus a refusal's number, or the fields.
 -- Assumes nothing.
-use mathlib.Core.List.{List, [], _∷_, _++_}
-use mathlib.Core.Path.{_≡_, refl, sym, ap, ap₂, _∙_, subst}
+use mathlib.Core.List.{List, _++_}
+use mathlib.Core.Path.{_≡_, sym, ap, ap₂, _∙_}
 use Prim.Native.Nat.{ℕ}
 use borrow.Author.Needs.{needs}
 use denote.Ref.{now}
@@ -9,7 +9,6 @@ use Rattle.answer.specs.Checks.{Outcome, accepted}
 use Rattle.frame.specs.Frames.{frameMeans}
 use Rattle.frame.specs.Laid.{frameLaid}
 use Rattle.frame.specs.declared.Reading.{Reading}
-use Rattle.frame.specs.declared.Received.{Received}
 use Rattle.boundary.specs.Codes.{addressOf}
 use Rattle.boundary.specs.Fields.{headFields, quietFields, readingFields, frameFields}
 use Rattle.boundary.specs.declared.fields.Fields.{Fields}

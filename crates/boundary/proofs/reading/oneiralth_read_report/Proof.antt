@@ -1,14 +1,14 @@
 -- `oneiralth_read_report` meets its contract: minus a refusal's number, or the fields.
 -- Assumes nothing.
-use mathlib.Core.List.{List, [], _∷_}
-use mathlib.Core.Path.{_≡_, sym, ap, ap₂, _∙_, subst}
+use mathlib.Core.List.{List}
+use mathlib.Core.Path.{_≡_, sym, ap, ap₂, _∙_}
 use Prim.Native.Nat.{ℕ}
 use borrow.Author.Needs.{needs}
 use denote.Ref.{now}
 use Rattle.answer.specs.Checks.{Outcome, accepted, andThen}
-use Rattle.element.specs.MeasurementReport.{reportLaid}
-use Rattle.element.specs.declared.measurement_report.Reading.{Reading}
-use Rattle.element.specs.declared.measurement_report.Report.{Report}
+use Rattle.measure.specs.MeasurementReport.{reportLaid}
+use Rattle.measure.specs.declared.measurement_report.Reading.{Reading}
+use Rattle.measure.specs.declared.measurement_report.Report.{Report}
 use Rattle.frame.specs.Frames.{frameMeans, elementOf, reportIn}
 use Rattle.boundary.specs.Codes.{addressOf}
 use Rattle.boundary.specs.Records.{reportFields}

@@ -1,14 +1,13 @@
 -- `oneiralth_read_request` meets its contract: minus a refusal's number, or the fields.
 -- Assumes nothing.
-use mathlib.Core.List.{List, [], _∷_}
-use mathlib.Core.Path.{_≡_, sym, ap, ap₂, _∙_, subst}
+use mathlib.Core.List.{List}
+use mathlib.Core.Path.{_≡_, sym, ap, ap₂, _∙_}
 use Prim.Native.Nat.{ℕ}
 use borrow.Author.Needs.{needs}
 use denote.Ref.{now}
 use Rattle.answer.specs.Checks.{Outcome, refused, accepted, andThen}
-use Rattle.element.specs.MeasurementRequest.{requestTold}
-use Rattle.element.specs.declared.measurement_request.Reading.{Reading}
-use Rattle.element.specs.declared.measurement_request.Request.{Request}
+use Rattle.measure.specs.MeasurementRequest.{requestTold}
+use Rattle.measure.specs.declared.measurement_request.Request.{Request}
 use Rattle.frame.specs.Frames.{frameMeans, elementOf, requestIn}
 use Rattle.boundary.specs.Codes.{addressOf}
 use Rattle.boundary.specs.Records.{requestFields}

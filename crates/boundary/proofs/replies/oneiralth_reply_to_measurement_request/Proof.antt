@@ -1,13 +1,12 @@
 -- `oneiralth_reply_to_measurement_request` meets its contract: the answer of what it calls, as a number.
 -- Assumes nothing.
 use mathlib.Core.List.{List, [], _∷_}
-use mathlib.Core.Path.{_≡_, sym, ap, ap₂, _∙_, subst}
+use mathlib.Core.Path.{ap, ap₂, _∙_, subst}
 use Prim.Native.Nat.{ℕ}
 use borrow.Author.Needs.{needs}
 use denote.Ref.{now}
 use Rattle.reply.specs.Replies.{measurementReply}
-use Rattle.reply.specs.declared.reporting.Finding.{Finding}
-use Rattle.reply.specs.declared.reporting.Readings.{Readings}
+use Rattle.owed.specs.declared.Finding.{Finding}
 use Rattle.boundary.specs.Codes.{addressOf, Given}
 use Rattle.boundary.proofs.Coded.{given-as}
 use Rattle.boundary.proofs.replies.oneiralth_reply_to_measurement_request.Statement.{statement}

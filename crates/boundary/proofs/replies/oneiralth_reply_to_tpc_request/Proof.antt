@@ -1,7 +1,7 @@
 -- `oneiralth_reply_to_tpc_request` meets its contract: the answer of what it calls, as a number.
 -- Assumes nothing.
-use mathlib.Core.List.{List, [], _∷_}
-use mathlib.Core.Path.{_≡_, sym, ap, ap₂, _∙_, subst}
+use mathlib.Core.List.{List}
+use mathlib.Core.Path.{ap, ap₂, _∙_, subst}
 use Prim.Native.Nat.{ℕ}
 use borrow.Author.Needs.{needs}
 use denote.Ref.{now}

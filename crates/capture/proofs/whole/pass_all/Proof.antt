@@ -1,15 +1,15 @@
 -- `pass_all` meets its contract: the blocks before the place are passed.
 -- Assumes nothing.
 use mathlib.Core.Bool.{true}
-use mathlib.Core.Path.{_≡_, refl, sym, ap, _∙_, subst}
-use Prim.Native.Nat.{ℕ, _-_, _≤_, _<_}
+use mathlib.Core.Path.{_≡_, refl, sym, ap}
+use Prim.Native.Nat.{_-_, _≤_, _<_}
 use native.Mathlib.Omega.{arith}
 use borrow.Author.Needs.{needs}
 use denote.Ref.{now}
 use lib.ListN.{length}
 use borrow.Author.Tests.{not-true, not-false}
 use Rattle.block.proofs.Ending.{end-inside}
-use Rattle.capture.specs.Listers.{Fits, fresh}
+use Rattle.capture.specs.Listers.{fresh}
 use Rattle.capture.specs.Lists.{blocksIn, blocksTold, fileTold}
 use Rattle.capture.specs.declared.lister.Lister.{Lister}
 use Rattle.capture.proofs.Passes.{Standing, begins, same-size, passed-all, passes, stops}

@@ -2,7 +2,7 @@
 use mathlib.Core.Path.{sym, ap, _∙_}
 use mathlib.Core.List.{List}
 use Rattle.answer.specs.Checks.{Outcome, accepted, andThen}
-use Rattle.element.specs.declared.measurement_report.Report.{Report}
+use Rattle.measure.specs.declared.measurement_report.Report.{Report}
 use Rattle.measurement.specs.Lists.{recordsIn}
 use Rattle.measurement.specs.Reports.{reportSort}
 use Rattle.measurement.specs.declared.reports.Surveyed as Reports

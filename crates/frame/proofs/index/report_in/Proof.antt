@@ -5,7 +5,7 @@ use borrow.Author.Tests.{not-true, not-false}
 use lib.ListN.{length}
 use Rattle.answer.specs.Checks.{refused, accepted}
 use Rattle.answer.specs.declared.Refusal.{Refusal}
-use Rattle.element.specs.MeasurementReport.{reportLaid}
+use Rattle.measure.specs.MeasurementReport.{reportLaid}
 use Rattle.measurement.specs.Lists.{recordsIn}
 use Rattle.measurement.specs.Reports.{reportSort}
 use Rattle.measurement.specs.declared.reports.Surveyed as Reports

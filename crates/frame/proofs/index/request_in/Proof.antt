@@ -4,7 +4,7 @@ use Prim.Native.Nat.{_≤_}
 use borrow.Author.Tests.{not-true, not-false}
 use lib.ListN.{length}
 use Rattle.answer.specs.Checks.{refused, accepted}
-use Rattle.element.specs.MeasurementRequest.{requestTold}
+use Rattle.measure.specs.MeasurementRequest.{requestTold}
 use Rattle.measurement.specs.Lists.{recordsIn, nth}
 use Rattle.measurement.specs.Requests.{requestSort}
 use Rattle.measurement.specs.declared.requests.Surveyed as Requests

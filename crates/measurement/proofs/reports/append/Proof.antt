@@ -2,7 +2,7 @@
 use mathlib.Core.Path.{sym}
 use mathlib.Core.Bool.{true}
 use lib.Seq.{length-take-le}
-use Rattle.element.specs.MeasurementReport.{reportOctets}
+use Rattle.measure.specs.MeasurementReport.{reportOctets}
 use Rattle.measurement.specs.Reports.{reportSort}
 use Rattle.measurement.proofs.Lending.{lent, start-within, past-end, written}
 use borrow.Author.Needs.{needs}

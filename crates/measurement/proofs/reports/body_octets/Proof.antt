@@ -1,7 +1,7 @@
 -- `reports::body_octets` meets its contract: the first three octets, and then those of the element.
 use native.Mathlib.Omega.{arith}
-use Rattle.element.specs.MeasurementReport.{reportOctets}
-use Rattle.element.proofs.ReportLayout as ReportLayout
+use Rattle.measure.specs.MeasurementReport.{reportOctets}
+use Rattle.measure.proofs.ReportLayout as ReportLayout
 use Rattle.measurement.proofs.Lending.{built}
 use borrow.Author.Needs.{needs}
 use Rattle.measurement.proofs.reports.body_octets.Statement.{statement}

@@ -4,8 +4,8 @@ use mathlib.Core.List.{List, [], _∷_, _++_}
 use Prim.Native.Nat.{_-_}
 use native.Mathlib.Omega.{arith}
 use lib.ListN.{length}
-use Rattle.element.specs.MeasurementReport.{reportLaid}
-use Rattle.element.specs.declared.measurement_report.Report.{Report}
+use Rattle.measure.specs.MeasurementReport.{reportLaid}
+use Rattle.measure.specs.declared.measurement_report.Report.{Report}
 use Rattle.measurement.specs.Reports.{reportSort}
 use Rattle.measurement.specs.Steps.{Onward}
 use Rattle.measurement.specs.Surveys.{reportsSurveyed}

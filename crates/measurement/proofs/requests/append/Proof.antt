@@ -3,7 +3,7 @@ use mathlib.Core.Path.{sym}
 use mathlib.Core.Bool.{not}
 use lib.Dec.{eqb}
 use lib.Seq.{length-take-le}
-use Rattle.element.specs.MeasurementRequest.{requestOctets}
+use Rattle.measure.specs.MeasurementRequest.{requestOctets}
 use Rattle.measurement.specs.Requests.{requestSort}
 use Rattle.measurement.proofs.Lending.{lent, start-within, past-end, written}
 use borrow.Author.Needs.{needs}

@@ -1,7 +1,7 @@
 -- `requests::body_octets` meets its contract: the first three octets, and then those of the element.
 use native.Mathlib.Omega.{arith}
-use Rattle.element.specs.MeasurementRequest.{requestOctets}
-use Rattle.element.proofs.RequestLayout as RequestLayout
+use Rattle.measure.specs.MeasurementRequest.{requestOctets}
+use Rattle.measure.proofs.RequestLayout as RequestLayout
 use Rattle.measurement.proofs.Lending.{built}
 use borrow.Author.Needs.{needs}
 use Rattle.measurement.proofs.requests.body_octets.Statement.{statement}

@@ -1,6 +1,6 @@
 -- `requests::step_at` meets its contract: each way out is a way in which the records go on.
 use mathlib.Core.Path.{sym, ap, _∙_}
-use Rattle.element.specs.MeasurementRequest.{requestTold}
+use Rattle.measure.specs.MeasurementRequest.{requestTold}
 use Rattle.walk.specs.declared.Found.{Found}
 use Rattle.measurement.specs.Requests.{requestSort}
 use Rattle.measurement.proofs.Stepping.{Seen, seen, not-end, cut-header, cut-other, cut-own, other, unread, onward}

@@ -4,7 +4,7 @@ use mathlib.Core.List.{List, [], _∷_, _++_}
 use Prim.Native.Nat.{_-_, _<_}
 use native.Mathlib.Omega.{arith}
 use lib.ListN.{length}
-use Rattle.element.specs.declared.measurement_request.Request.{Request}
+use Rattle.measure.specs.declared.measurement_request.Request.{Request}
 use Rattle.measurement.specs.Requests.{requestSort}
 use Rattle.measurement.specs.Steps.{Onward}
 use Rattle.measurement.specs.Surveys.{requestRead, requestsSurveyed}

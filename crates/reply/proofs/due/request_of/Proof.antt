@@ -9,7 +9,7 @@ use lib.ListN.{length, drop}
 use Rattle.answer.specs.Checks.{accepted}
 use Rattle.frame.proofs.Tails.{tail}
 use Rattle.frame.specs.Actions.{actionMeans}
-use Rattle.header.specs.Headers.{Head, told, headerMeans}
+use Rattle.header.specs.Headers.{told, headerMeans}
 use Rattle.header.specs.declared.Subtype.{Subtype}
 use Rattle.reply.specs.Due.{orNone, bySubtype, dueMeans, dueOf}
 use Rattle.reply.proofs.Owing.{header-refused, to-all, by-kind, headed}

@@ -2,14 +2,13 @@
 -- Assumes nothing.
 use mathlib.Core.Bool.{true}
 use mathlib.Core.List.{List}
-use mathlib.Core.Path.{_≡_, refl, sym, ap, _∙_, subst}
+use mathlib.Core.Path.{_≡_, sym, ap, _∙_}
 use Prim.Native.Nat.{ℕ, _+_}
 use native.Mathlib.Omega.{arith}
 use borrow.Author.Needs.{needs}
 use denote.Ref.{now}
 use lib.ListN.{length, length-append}
-use Rattle.octets.specs.Writing.{left, Written}
-use Rattle.octets.specs.declared.writing.Wrote.{Wrote}
+use Rattle.octets.specs.Writing.{left}
 use Rattle.reply.specs.Frames.{replyHead, replyFrame}
 use Rattle.reply.proofs.Framed.{head-length, short-written, parts-written}
 use Rattle.reply.proofs.framing.put_frame.Statement.{statement}

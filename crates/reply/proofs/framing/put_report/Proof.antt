@@ -1,17 +1,14 @@
 -- `put_report` meets its contract: the report may not be written, or its body stands in front of the buffer that it was built in.
 -- Assumes nothing.
-use mathlib.Core.Bool.{Bool, true, false}
-use mathlib.Core.List.{List, [], _∷_}
-use mathlib.Core.Path.{_≡_, refl, sym, ap, _∙_, subst}
-use Prim.Native.Nat.{ℕ, _≤_}
+use mathlib.Core.Bool.{true}
+use mathlib.Core.List.{List}
+use mathlib.Core.Path.{_≡_, refl, sym, ap, _∙_}
+use Prim.Native.Nat.{ℕ}
 use native.Mathlib.Omega.{arith}
 use borrow.Author.Needs.{needs}
 use denote.Ref.{now}
 use lib.ListN.{length, take, replicate, length-take}
-use Rattle.answer.specs.declared.Refusal.{Refusal}
-use Rattle.element.specs.MeasurementReport.{reportMay}
-use Rattle.octets.specs.Writing.{Written}
-use Rattle.octets.specs.declared.writing.Wrote.{Wrote}
+use Rattle.measure.specs.MeasurementReport.{reportMay}
 use Rattle.reply.specs.Frames.{replyFrame}
 use Rattle.reply.proofs.Framed.{written-as}
 use Rattle.reply.proofs.OneReport.{body, short-body, not-written, refused-as, unwritten, built}

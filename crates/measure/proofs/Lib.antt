@@ -1,0 +1,6 @@
+pub mod Histogram
+pub mod ReportLayout
+pub mod ReportTrip
+pub mod RequestLayout
+pub mod RequestTrip
+pub mod SpanTrip

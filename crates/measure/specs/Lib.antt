@@ -1,0 +1,3 @@
+pub mod MeasurementReport
+pub mod MeasurementRequest
+pub mod Span

@@ -1,0 +1,30 @@
+-- `octets` ends: the place rises to 64.
+use Prim.Native.Nat.{_≤_, _-_}
+use borrow.Author.Needs.{needs}
+use Rattle.run_scenes.proofs.replies.octets.Statement.{statement}
+use Rattle.run_scenes.proofs.replies.octets.Tie as tie
+
+abbrev Inv-loop : tie.InvT-loop
+Inv-loop buffer count kept₀ i₀ t6 t7 kept i = i ≤ 64
+
+abbrev μ-loop : tie.MeasureT-loop
+μ-loop buffer count kept₀ i₀ t6 t7 kept i = 64 - i
+
+pub octets-spec : {M : Type 1} → statement M
+octets-spec =
+    tie.close
+    (tie.spec
+    Inv-loop
+    μ-loop
+    (λ c. search needs)
+    (λ c. search needs)
+    (λ c κs. search needs)
+    (λ c. search needs)
+    (λ c. search needs)
+    (λ c. search needs)
+    (λ c. search needs)
+    (λ c κs. search needs)
+    (λ c. search needs)
+    (λ c κs. search needs)
+    (λ c. search needs)
+    (λ c. search needs))

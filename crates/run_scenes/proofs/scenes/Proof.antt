@@ -1,0 +1,28 @@
+-- `scenes` is safe and ends: the place rises to the length, and each character leaves a valid station.
+use Prim.Native.Nat.{_≤_, _-_}
+use lib.ListN.{length}
+use Rattle.station.specs.Validity.{Valid}
+use borrow.Author.Needs.{needs}
+use Rattle.run_scenes.proofs.scenes.Statement.{statement}
+use Rattle.run_scenes.proofs.scenes.Tie as tie
+
+abbrev Inv-loop : tie.InvT-loop
+Inv-loop fresh text station₀ line₀ i₀ station line i = (i ≤ length text) × Valid station
+
+abbrev μ-loop : tie.MeasureT-loop
+μ-loop fresh text station₀ line₀ i₀ station line i = length text - i
+
+pub scenes-spec : {M : Type 1} → statement M
+scenes-spec =
+    tie.close
+    (tie.spec
+    Inv-loop
+    μ-loop
+    (λ c. search needs)
+    (λ c. search needs)
+    (λ c. search needs)
+    (λ c κs. search needs)
+    (λ c κs. search needs)
+    (λ c. search needs)
+    (λ c. search needs)
+    (λ c. search needs))

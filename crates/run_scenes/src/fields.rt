@@ -1,0 +1,82 @@
+// The fields of each element.
+use crate::say;
+use element::channel_switch::ChannelSwitch;
+use element::power_constraint::PowerConstraint;
+use element::quiet::Quiet;
+use element::tpc_report::TpcReport;
+use measure::Span;
+use measure::measurement_report;
+use measure::measurement_request;
+
+pub fn power(p: PowerConstraint) {
+    say::text(b" constraint");
+    say::octet(p.decibels);
+}
+
+// The signed numbers as the octets that hold them.
+pub fn report(t: TpcReport) {
+    let power = t.power;
+    let margin = t.margin;
+    say::text(b" report");
+    say::octet(octets::from_signed(power));
+    say::octet(octets::from_signed(margin));
+}
+
+pub fn switch(s: ChannelSwitch) {
+    say::text(b" switch");
+    say::octet(s.mode);
+    say::octet(s.channel);
+    say::octet(s.count);
+}
+
+pub fn quiet(q: Quiet) {
+    say::text(b" quiet");
+    say::octet(q.count);
+    say::octet(q.period);
+    say::number(q.duration as u64);
+    say::number(q.offset as u64);
+}
+
+fn span(s: Span) {
+    say::octet(s.channel);
+    say::number(s.start);
+    say::number(s.duration as u64);
+}
+
+pub fn asked(matter: measurement_request::Matter) {
+    match matter {
+        measurement_request::Matter::Enable { request, report } => {
+            say::text(b" enable");
+            say::flag(request);
+            say::flag(report);
+        }
+        measurement_request::Matter::Measure(s) => {
+            say::text(b" measure");
+            span(s);
+        }
+        measurement_request::Matter::Uninterpreted => say::text(b" uninterpreted"),
+    }
+}
+
+pub fn found(matter: measurement_report::Matter) {
+    match matter {
+        measurement_report::Matter::Late => say::text(b" late"),
+        measurement_report::Matter::Incapable => say::text(b" incapable"),
+        measurement_report::Matter::Refused => say::text(b" refused"),
+        measurement_report::Matter::Basic { span: s, map } => {
+            say::text(b" basic");
+            span(s);
+            say::octet(map);
+        }
+        measurement_report::Matter::Cca { span: s, busy } => {
+            say::text(b" cca");
+            span(s);
+            say::octet(busy);
+        }
+        measurement_report::Matter::Rpi(s) => {
+            say::text(b" rpi");
+            span(s);
+        }
+        measurement_report::Matter::Uninterpreted => say::text(b" uninterpreted"),
+    }
+}

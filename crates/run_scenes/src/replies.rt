@@ -1,0 +1,119 @@
+// Replies as they are written: the answer's number, of a reply its length and its octets, and whether the buffer is as it was behind the reply, or whole
+// where there is none.
+ghost use Prim.Native.Nat.{_≤_};
+use crate::line;
+use crate::say;
+use element::tpc_report::TpcReport;
+use octets::Wrote;
+use owed::Finding;
+use owed::Readings;
+
+// The scenes' station and its AP.
+const OWN: [u8; 6] = [2, 0, 0, 0, 0, 1];
+
+const AP: [u8; 6] = [2, 0, 0, 0, 0, 9];
+
+// Every buffer is lent full of this octet, so that one that is changed shows.
+const BLANK: u8 = 170;
+
+fn short(n: u64) -> u32 {
+    (n % 4294967296) as u32
+}
+
+fn finding(sort: u64, value: u64) -> Finding {
+    match sort {
+        0 => Finding::Refused,
+        1 => Finding::Map((value % 256) as u8),
+        2 => Finding::Busy(short(value)),
+        _ => Finding::Times,
+    }
+}
+
+// The first octets, and whether the others are as they were.
+fn octets(buffer: &[u8; 64], count: usize) {
+    let mut kept = true;
+    let mut i = 0;
+    while i < 64 {
+        let octet = buffer[i];
+        if i < count {
+            say::octet(octet);
+        } else if octet != BLANK {
+            kept = false;
+        }
+        i += 1;
+    }
+    if kept {
+        say::text(b" kept");
+    } else {
+        say::text(b" changed");
+    }
+}
+
+fn tell(wrote: Wrote, buffer: &[u8; 64]) {
+    match wrote {
+        Wrote::Refused(refusal) => {
+            say::octet(refusal.number());
+            octets(buffer, 0);
+        }
+        Wrote::Length(count) => {
+            say::number(0);
+            say::number(count as u64);
+            octets(buffer, count);
+        }
+    }
+}
+
+// The frame is the octets from `from` on, and as many zeros as asked. Sizes past their limits wrap, so that every scene runs.
+fn size(n: [u64; 16], count: usize, from: usize) -> usize
+    requires { ⌜ from ≤ 128 ⌝ }
+    ensures { λ r. ⌜ r ≤ 2496 ⌝ }
+{
+    let octets = line::end(count, from) - from;
+    octets + ((n[2] % 2337) as usize)
+}
+
+// A TPC Report, in which power and margin are octets.
+pub fn tpc(n: [u64; 16], octets: [u8; line::ROOM], count: usize) {
+    let mut frame = [0u8; 2496];
+    let mut buffer = [BLANK; 64];
+    let room = (n[1] % 65) as usize;
+    let power = octets::to_signed(octets[3]);
+    let margin = octets::to_signed(octets[4]);
+    let length = size(n, count, 5);
+    octets::put(true, &octets[5..], &mut frame, 0);
+    let report = TpcReport { power, margin };
+    let wrote = reply::to_tpc_request(&frame[..length], OWN, AP, report, &mut buffer[..room]);
+    tell(wrote, &buffer);
+}
+
+pub fn measurement(n: [u64; 16], octets: [u8; line::ROOM], count: usize) {
+    let mut frame = [0u8; 2496];
+    let mut buffer = [BLANK; 64];
+    let room = (n[1] % 65) as usize;
+    let finding = finding(n[5], n[6]);
+    let times = [
+        short(n[7]),
+        short(n[8]),
+        short(n[9]),
+        short(n[10]),
+        short(n[11]),
+        short(n[12]),
+        short(n[13]),
+        short(n[14]),
+    ];
+    let readings = Readings { finding, times };
+    let length = size(n, count, 15);
+    octets::put(true, &octets[15..], &mut frame, 0);
+    let clock = short(n[3]);
+    let index = n[4] as usize;
+    let wrote = reply::to_measurement_request(
+        &frame[..length],
+        OWN,
+        AP,
+        clock,
+        index,
+        readings,
+        &mut buffer[..room],
+    );
+    tell(wrote, &buffer);
+}
