@@ -47,6 +47,13 @@ use answer::Answer;
 use libc::STDIN_FILENO;
 use station::Station;
 
+// The scenes' station and its AP, and the beacon interval.
+const OWN: [u8; 6] = [2, 0, 0, 0, 0, 1];
+
+const AP: [u8; 6] = [2, 0, 0, 0, 0, 9];
+
+const INTERVAL: u16 = 100;
+
 // Where the scenes stand: the station, and the line so far.
 struct Stage {
     station: Station,
@@ -92,7 +99,7 @@ fn play(fresh: Station)
 }
 
 fn main() {
-    let started = Station::start([2, 0, 0, 0, 0, 1], [2, 0, 0, 0, 0, 9], 100, 36);
+    let started = Station::start(OWN, AP, INTERVAL, 36);
     let answer = started.answer;
     let fresh = started.station;
     if let Answer::Accepted = answer {

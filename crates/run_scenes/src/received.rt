@@ -1,4 +1,7 @@
 // A frame as it is read, on one line.
+use crate::AP;
+use crate::INTERVAL;
+use crate::OWN;
 use crate::fields;
 use crate::say;
 use beacon::MaybePower;
@@ -71,7 +74,7 @@ fn quiets(slots: [Quiet; 8], count: usize) {
 
 // What the reader makes of a frame, by the scenes' station: the answer's number, then the frame.
 pub fn show(frame: &[u8]) {
-    let received = frame::read(frame, [2, 0, 0, 0, 0, 1], [2, 0, 0, 0, 0, 9], 100);
+    let received = frame::read(frame, OWN, AP, INTERVAL);
     let reading = received.reading;
     match reading {
         Reading::Refused(refusal) => say::octet(refusal.number()),

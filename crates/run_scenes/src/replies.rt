@@ -1,17 +1,14 @@
 // Replies as they are written: the answer's number, of a reply its length and its octets, and whether the buffer is as it was behind the reply, or whole
 // where there is none.
 ghost use Prim.Native.Nat.{_≤_};
+use crate::AP;
+use crate::OWN;
 use crate::line;
 use crate::say;
 use element::tpc_report::TpcReport;
 use octets::Wrote;
 use owed::Finding;
 use owed::Readings;
-
-// The scenes' station and its AP.
-const OWN: [u8; 6] = [2, 0, 0, 0, 0, 1];
-
-const AP: [u8; 6] = [2, 0, 0, 0, 0, 9];
 
 // Every buffer is lent full of this octet, so that one that is changed shows.
 const BLANK: u8 = 170;
