@@ -6,7 +6,7 @@ use native.Mathlib.Omega.{arith}
 use lib.ListN.{replicate}
 use Rattle.answer.specs.Checks.{Outcome, refused, accepted, checked}
 use Rattle.answer.specs.declared.Refusal.{Refusal}
-use Rattle.element.specs.Elements.{fixed}
+use Rattle.octets.specs.Elements.{fixed}
 use Rattle.element.specs.Quiet.{quietMeans, quietOctets}
 use Rattle.element.specs.declared.quiet.Quiet.{Quiet}
 use Rattle.walk.specs.Elements.{elementsBehind, elementsIn}

@@ -16,7 +16,7 @@ use Rattle.answer.proofs.Judged.{past, done, passed, kept}
 use Rattle.answer.specs.Checks.{Outcome, accepted}
 use Rattle.beacon.specs.Beacons.{beaconMeans}
 use Rattle.element.specs.ChannelSwitch.{switchOctets}
-use Rattle.element.specs.Elements.{RoundTrip}
+use Rattle.octets.specs.Elements.{RoundTrip}
 use Rattle.element.specs.TpcReport.{tpcReportOctets}
 use Rattle.frame.proofs.ActionTrip.{action-trip}
 use Rattle.frame.proofs.SingleTrip.{followed}

@@ -5,7 +5,7 @@ use mathlib.Core.Bool.{true}
 use mathlib.Core.List.{[]}
 use Prim.Native.Nat.{ℕ}
 use Rattle.element.specs.ChannelSwitch.{switchMeans, switchContents, switchMay}
-use Rattle.element.specs.Elements.{RoundTrip}
+use Rattle.octets.specs.Elements.{RoundTrip}
 use Rattle.measure.specs.MeasurementReport.{reportMeans, reportContents, reportMay, ReportFits, reportInterpreted, reportClear}
 use Rattle.measure.specs.MeasurementRequest.{requestMeans, requestContents, requestMay, RequestFits, requestInterpreted, requestClear}
 use Rattle.element.specs.PowerConstraint.{powerMeans, powerContents, powerMay}

@@ -5,7 +5,7 @@ use Rattle.action.specs.Singles.{sole, single}
 use Rattle.answer.specs.Checks.{checked}
 use Rattle.beacon.specs.Beacons.{takes, says, beaconMeans}
 use Rattle.element.specs.ChannelSwitch.{switchMeans}
-use Rattle.element.specs.Elements.{fixed}
+use Rattle.octets.specs.Elements.{fixed}
 use Rattle.element.specs.Quiet.{quietMeans}
 use Rattle.fraction.specs.Fractions.{ceiling, fractionOf, possible, densitiesOf}
 use Rattle.frame.specs.Actions.{actionMeans}

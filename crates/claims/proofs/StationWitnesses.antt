@@ -10,7 +10,7 @@ use Rattle.answer.specs.Checks.{checked}
 use Rattle.beacon.specs.Beacons.{takes, says, beaconMeans}
 use Rattle.beacon.specs.declared.MaybePower.{MaybePower}
 use Rattle.element.specs.ChannelSwitch.{switchMeans}
-use Rattle.element.specs.Elements.{fixed}
+use Rattle.octets.specs.Elements.{fixed}
 use Rattle.element.specs.PowerConstraint.{powerMeans}
 use Rattle.element.specs.Quiet.{quietMeans}
 use Rattle.frame.specs.Actions.{actionMeans}

@@ -10,7 +10,7 @@ use Rattle.answer.specs.Checks.{refused, accepted, checked}
 use Rattle.answer.specs.declared.Refusal.{Refusal}
 use Rattle.answer.proofs.Judged.{passed, kept}
 use Rattle.octets.specs.Numbers.{Octets}
-use Rattle.element.specs.Elements.{fixed, RoundTrip}
+use Rattle.octets.specs.Elements.{fixed, RoundTrip}
 
 module _ {A : Type 0} (n : ℕ) (recordIn : List ℕ → A) (forbids : A → Bool) where
   module _ (c : List ℕ) where

@@ -8,7 +8,7 @@ use Rattle.octets.specs.Numbers.{Octets, octet}
 use Rattle.octets.proofs.JoinSplit.{join-split, split-number, number-bound, all-from}
 use Rattle.octets.proofs.TwosComplement.{octet-signed, signed-octet, signed-fits}
 use Rattle.element.specs.ChannelSwitch.{switchIn, switchForbids, switchMeans, switchContents, switchMay}
-use Rattle.element.specs.Elements.{RoundTrip}
+use Rattle.octets.specs.Elements.{RoundTrip}
 use Rattle.element.specs.PowerConstraint.{powerIn, powerMeans, powerContents, powerMay}
 use Rattle.element.specs.TpcRequest.{tpcRequestMeans}
 use Rattle.element.specs.TpcReport.{tpcReportIn, tpcReportMeans, tpcReportContents, tpcReportMay, TpcReportFits}

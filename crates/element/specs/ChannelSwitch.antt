@@ -6,7 +6,7 @@ use lib.Dec.{ltb}
 use Rattle.answer.specs.Checks.{Outcome, refused, accepted}
 use Rattle.channel.specs.Centres.{highest}
 use Rattle.octets.specs.Numbers.{octet}
-use Rattle.element.specs.Elements.{fixed, element}
+use Rattle.octets.specs.Elements.{fixed, element}
 use Rattle.element.specs.declared.channel_switch.ChannelSwitch.{ChannelSwitch}
 use Rattle.element.specs.declared.channel_switch.Reading.{Reading}
 

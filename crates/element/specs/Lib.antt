@@ -1,5 +1,4 @@
 pub mod ChannelSwitch
-pub mod Elements
 pub mod PowerConstraint
 pub mod Quiet
 pub mod TpcReport

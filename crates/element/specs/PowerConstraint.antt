@@ -4,7 +4,7 @@ use mathlib.Core.List.{List, [], _∷_}
 use Prim.Native.Nat.{ℕ}
 use Rattle.answer.specs.Checks.{Outcome, refused, accepted}
 use Rattle.octets.specs.Numbers.{octet}
-use Rattle.element.specs.Elements.{fixed, element}
+use Rattle.octets.specs.Elements.{fixed, element}
 use Rattle.element.specs.declared.power_constraint.PowerConstraint.{PowerConstraint}
 use Rattle.element.specs.declared.power_constraint.Reading.{Reading}
 

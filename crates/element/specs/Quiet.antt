@@ -5,7 +5,7 @@ use Prim.Native.Nat.{ℕ, _<_, _^_}
 use lib.Dec.{leb, eqb}
 use Rattle.answer.specs.Checks.{Outcome, refused, accepted}
 use Rattle.octets.specs.Numbers.{octet, number, split}
-use Rattle.element.specs.Elements.{fixed, element}
+use Rattle.octets.specs.Elements.{fixed, element}
 use Rattle.element.specs.declared.quiet.Quiet.{Quiet}
 use Rattle.element.specs.declared.quiet.Reading.{Reading}
 

@@ -7,7 +7,7 @@ use mir.Val.{SFits}
 use Rattle.answer.specs.Checks.{Outcome, refused, accepted}
 use Rattle.octets.specs.Numbers.{octet}
 use Rattle.octets.specs.Signed.{signedOf, octetOf}
-use Rattle.element.specs.Elements.{fixed, element}
+use Rattle.octets.specs.Elements.{fixed, element}
 use Rattle.element.specs.declared.tpc_report.Reading.{Reading}
 use Rattle.element.specs.declared.tpc_report.TpcReport.{TpcReport}
 

@@ -3,7 +3,7 @@ use mathlib.Core.Bool.{false}
 use mathlib.Core.List.{List, []}
 use Prim.Native.Nat.{ℕ}
 use Rattle.answer.specs.Checks.{Outcome, refused, accepted}
-use Rattle.element.specs.Elements.{fixed, element}
+use Rattle.octets.specs.Elements.{fixed, element}
 use Rattle.element.specs.declared.tpc_request.Reading.{Reading}
 
 -- the outcome that each case of the answer stands for

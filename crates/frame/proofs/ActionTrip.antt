@@ -9,7 +9,7 @@ use Rattle.action.specs.Singles.{single}
 use Rattle.answer.specs.Checks.{accepted}
 use Rattle.answer.proofs.Booleans.{both}
 use Rattle.element.specs.ChannelSwitch.{switchMeans, switchContents, switchMay, switchOctets}
-use Rattle.element.specs.Elements.{RoundTrip}
+use Rattle.octets.specs.Elements.{RoundTrip}
 use Rattle.measure.specs.MeasurementReport.{ReportFits}
 use Rattle.measure.specs.MeasurementRequest.{RequestFits}
 use Rattle.element.specs.TpcReport.{tpcReportMeans, tpcReportContents, tpcReportMay, tpcReportOctets, TpcReportFits}

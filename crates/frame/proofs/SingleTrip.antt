@@ -9,7 +9,7 @@ use lib.ListN.{length}
 use Rattle.action.specs.Singles.{Sole, sole, alone, single}
 use Rattle.answer.specs.Checks.{Outcome, refused, accepted, checked, andThen}
 use Rattle.answer.proofs.Judged.{never, passed, kept, stands}
-use Rattle.element.specs.Elements.{element, RoundTrip}
+use Rattle.octets.specs.Elements.{element, RoundTrip}
 use Rattle.measurement.proofs.RunLaws.{front, none, split, empty}
 use Rattle.octets.specs.Numbers.{Octets}
 use Rattle.walk.specs.Elements.{Elements, end, cutHeader, cutContents, more, elementsIn}

@@ -14,7 +14,7 @@ use Rattle.beacon.specs.declared.MaybePower.{MaybePower}
 use Rattle.beacon.specs.declared.MaybeReport.{MaybeReport}
 use Rattle.beacon.specs.declared.MaybeSwitch.{MaybeSwitch}
 use Rattle.element.specs.ChannelSwitch.{switchMeans}
-use Rattle.element.specs.Elements.{fixed}
+use Rattle.octets.specs.Elements.{fixed}
 use Rattle.measure.specs.MeasurementReport.{reportMeans, noDensities}
 use Rattle.measure.specs.MeasurementRequest.{requestMeans}
 use Rattle.element.specs.Quiet.{quietMeans}

@@ -14,7 +14,7 @@ use Rattle.answer.proofs.Judged.{passed, kept, past, done}
 use Rattle.answer.proofs.SumLaws.{zero-sum}
 use Rattle.octets.specs.Numbers.{Octets, octet, octetsFrom, bit}
 use Rattle.octets.proofs.JoinSplit.{all-from}
-use Rattle.element.specs.Elements.{RoundTrip}
+use Rattle.octets.specs.Elements.{RoundTrip}
 use Rattle.measure.specs.MeasurementReport.{reportFlags, reportMeasured, reportMatterIn, noDensities, densitiesIn, reportOf, reportIn, reportMisfits, reportForbids, reportMeans, reportMode, reportContents, matterInterpreted, reportInterpreted, reportAgrees, silent, reportMay, reportOctets, mapClear, reportClear, ReportMatterFits, ReportFits, reportSize}
 use Rattle.measure.specs.Span.{spanIn}
 use Rattle.measure.specs.declared.measurement_report.Matter.{Matter}

@@ -12,7 +12,7 @@ use Rattle.answer.proofs.Booleans.{clash, both}
 use Rattle.answer.proofs.Judged.{passed, kept, past, done}
 use Rattle.octets.specs.Numbers.{Octets, octet, bit}
 use Rattle.octets.proofs.JoinSplit.{all-from}
-use Rattle.element.specs.Elements.{RoundTrip}
+use Rattle.octets.specs.Elements.{RoundTrip}
 use Rattle.measure.specs.MeasurementRequest.{requestIn, requestMisfits, requestForbids, requestMeans, requestContents, requestInterpreted, requestAgrees, requestMay, requestClear, RequestMatterFits, RequestFits}
 use Rattle.measure.specs.Span.{spanIn, spanOctets, SpanFits}
 use Rattle.measure.specs.declared.span.Span.{Span}

@@ -12,7 +12,7 @@ use Rattle.answer.specs.Sums.{sumOf}
 use Rattle.answer.specs.declared.Answer.{Answer}
 use Rattle.answer.specs.declared.Refusal.{Refusal}
 use Rattle.octets.specs.Numbers.{octet, octetsFrom, bit}
-use Rattle.element.specs.Elements.{element}
+use Rattle.octets.specs.Elements.{element}
 use Rattle.measure.specs.Span.{spanIn, spanOctets, spanForbids, SpanFits, noSpan}
 use Rattle.measure.specs.declared.measurement_report.Matter.{Matter}
 use Rattle.measure.specs.declared.measurement_report.Reading.{Reading}

@@ -8,7 +8,7 @@ use lib.Dec.{ltb, leb, eqb}
 use Rattle.answer.specs.Checks.{Outcome, refused, accepted, pick, _⇒_, judged}
 use Rattle.answer.specs.declared.Refusal.{Refusal}
 use Rattle.octets.specs.Numbers.{octet, bit}
-use Rattle.element.specs.Elements.{element}
+use Rattle.octets.specs.Elements.{element}
 use Rattle.measure.specs.Span.{spanIn, spanOctets, spanForbids, SpanFits, noSpan}
 use Rattle.measure.specs.declared.measurement_request.Matter.{Matter}
 use Rattle.measure.specs.declared.measurement_request.Reading.{Reading}

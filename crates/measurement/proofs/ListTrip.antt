@@ -12,7 +12,7 @@ use lib.Seq.{append-snoc}
 use Rattle.answer.specs.Checks.{Outcome, refused, accepted, checked, andThen}
 use Rattle.answer.proofs.Booleans.{clash, both}
 use Rattle.answer.proofs.Judged.{passed, kept}
-use Rattle.element.specs.Elements.{element, RoundTrip}
+use Rattle.octets.specs.Elements.{element, RoundTrip}
 use Rattle.octets.specs.Numbers.{Octets}
 use Rattle.walk.specs.Elements.{Elements, end, cutHeader, cutContents, more, elementsIn}
 use Rattle.measurement.specs.Lists.{AllFit, Sort, listed, recordsIn, allClear, allInterpreted, allOctets, mayAll, mayList}

@@ -9,7 +9,7 @@ use lib.Dec.{leb}
 use lib.ListN.{length, take, drop, length-append, take-append-drop}
 use lib.Seq.{length-take-le, take-append-seam, drop-append-seam}
 use Rattle.answer.specs.Checks.{pick}
-use Rattle.element.specs.Elements.{element}
+use Rattle.octets.specs.Elements.{element}
 use Rattle.octets.specs.Numbers.{Octets}
 use Rattle.walk.specs.Elements.{Elements, end, cutContents, more, elementsBehind, elementsIn}
 use Rattle.walk.proofs.Walking.{headed}

@@ -1,3 +1,4 @@
+pub mod Elements
 pub mod Numbers
 pub mod Signed
 pub mod Writing

@@ -1,8 +1,8 @@
 // The calls that may change a station, each with its answer's number on the line, and the station after them.
 ghost use Rattle.station.specs.Validity.{Valid};
-use crate::line;
-use crate::say;
 use answer::Answer;
+use scene::line;
+use scene::say;
 use station::Station;
 use station::Stepped;
 

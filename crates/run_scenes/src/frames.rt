@@ -2,8 +2,8 @@
 ghost use Prim.Native.Nat.{_≤_};
 ghost use Rattle.station.specs.Validity.{Valid};
 use crate::calls;
-use crate::line;
 use crate::received;
+use scene::line;
 use station::Station;
 
 // A header to the station from its AP and a timestamp of 7, and from `front` on the octets that the call gives. These cover what of a header

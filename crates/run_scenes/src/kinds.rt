@@ -1,25 +1,26 @@
 // A call by its kind, which is the first of its numbers.
 ghost use Rattle.station.specs.Validity.{Valid};
+use crate::behind;
 use crate::calls;
 use crate::frames;
-use crate::line;
-use crate::line::Line;
-use crate::reads;
 use crate::replies;
-use crate::say;
 use crate::show;
-use crate::writes;
+use scene::line;
+use scene::line::Line;
+use scene::reads;
+use scene::say;
+use scene::writes;
 use station::Station;
 
 // A call that asks no station. A kind that there is not must not go by unseen.
 fn alone(kind: u8, numbers: [u64; 16], octets: [u8; line::ROOM], count: usize) {
     match kind {
         12 => frames::read(0, octets, (numbers[1] % 2401) as usize),
-        13 => frames::read(24, octets, 22 + line::end(count, 0)),
-        14 => frames::read(32, octets, 30 + line::end(count, 0)),
+        13 => frames::read(24, octets, 22 + behind::end(count, 0)),
+        14 => frames::read(32, octets, 30 + behind::end(count, 0)),
         15 => {
             let interval = (numbers[2] % 65536) as u16;
-            reads::show(octets[1], interval, &octets[3..line::end(count, 3)]);
+            reads::show(octets[1], interval, &octets[3..behind::end(count, 3)]);
         }
         16 => writes::show(numbers, octets),
         17 => replies::tpc(numbers, octets, count),

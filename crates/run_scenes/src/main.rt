@@ -29,22 +29,20 @@
 // cannot be run is told in words: a moment that is gone, a kind or an element that is unknown, a call that is too long, with more than 128 numbers.
 // Every scene begins with a station that is started with beacon interval 100 on channel 36, and frames are read with its addresses and interval. A
 // scene more needs no proof.
+mod behind;
 mod calls;
-mod fields;
 mod frames;
 mod kinds;
-mod line;
-mod reads;
 mod received;
 mod replies;
-mod say;
 mod show;
-mod writes;
 
 ghost use Rattle.station.specs.Validity.{Valid};
-use crate::line::Line;
 use answer::Answer;
 use libc::STDIN_FILENO;
+use scene::line;
+use scene::line::Line;
+use scene::say;
 use station::Station;
 
 // The scenes' station and its AP, and the beacon interval.

@@ -2,42 +2,20 @@
 use crate::AP;
 use crate::INTERVAL;
 use crate::OWN;
-use crate::fields;
-use crate::say;
-use beacon::MaybePower;
-use beacon::MaybeReport;
-use beacon::MaybeSwitch;
-use beacon::Notice;
-use element::quiet::Quiet;
 use frame::Frame;
 use frame::Reading;
-
-fn notice(n: Notice) {
-    say::number(n.timestamp);
-    say::number(n.capability as u64);
-    let power = n.power;
-    if let MaybePower::Is(p) = power {
-        fields::power(p);
-    }
-    let told = n.report;
-    if let MaybeReport::Is(t) = told {
-        fields::report(t);
-    }
-    let announced = n.switch;
-    if let MaybeSwitch::Is(s) = announced {
-        fields::switch(s);
-    }
-}
+use scene::fields;
+use scene::say;
 
 fn kind(f: Frame) {
     match f {
         Frame::Beacon(n) => {
             say::text(b" beacon");
-            notice(n);
+            fields::notice(n);
         }
         Frame::ProbeResponse(n) => {
             say::text(b" probe response");
-            notice(n);
+            fields::notice(n);
         }
         Frame::MeasurementRequest { token, count } => {
             say::text(b" measurement request");
@@ -62,16 +40,6 @@ fn kind(f: Frame) {
     }
 }
 
-fn quiets(slots: [Quiet; 8], count: usize) {
-    let mut i = 0;
-    while i < 8 {
-        if i < count {
-            fields::quiet(slots[i]);
-        }
-        i += 1;
-    }
-}
-
 // What the reader makes of a frame, by the scenes' station: the answer's number, then the frame.
 pub fn show(frame: &[u8]) {
     let received = frame::read(frame, OWN, AP, INTERVAL);
@@ -87,5 +55,5 @@ pub fn show(frame: &[u8]) {
         }
     }
     let slots = received.quiets;
-    quiets(slots, received.count);
+    fields::quiets(slots, received.count);
 }

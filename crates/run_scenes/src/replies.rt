@@ -3,12 +3,13 @@
 ghost use Prim.Native.Nat.{_≤_};
 use crate::AP;
 use crate::OWN;
-use crate::line;
-use crate::say;
+use crate::behind;
 use element::tpc_report::TpcReport;
 use octets::Wrote;
 use owed::Finding;
 use owed::Readings;
+use scene::line;
+use scene::say;
 
 // Every buffer is lent full of this octet, so that one that is changed shows.
 const BLANK: u8 = 170;
@@ -65,7 +66,7 @@ fn size(n: [u64; 16], count: usize, from: usize) -> usize
     requires { ⌜ from ≤ 128 ⌝ }
     ensures { λ r. ⌜ r ≤ 2496 ⌝ }
 {
-    let octets = line::end(count, from) - from;
+    let octets = behind::end(count, from) - from;
     octets + ((n[2] % 2337) as usize)
 }
 

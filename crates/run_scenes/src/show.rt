@@ -1,8 +1,8 @@
 // What a station answers when it is asked, and what it keeps.
 ghost use Rattle.station.specs.Validity.{Valid};
-use crate::fields;
-use crate::say;
 use beacon::MaybePower;
+use scene::fields;
+use scene::say;
 use station::Station;
 
 fn constraint(power: MaybePower) {

@@ -19,8 +19,8 @@ const SEED: u64 = 0x8021_1000_2003_0003;
 
 /// Bodies of each sort that are appended from nothing, and single elements
 /// behind octets of all sorts.
-const APPENDED: usize = 2_000;
-const BEHIND: usize = 20_000;
+const APPENDED: usize = 1_200;
+const BEHIND: usize = 12_000;
 
 /// Longer than any body.
 const AMPLE: usize = LONGEST_BODY + 60;

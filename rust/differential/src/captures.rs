@@ -15,12 +15,12 @@ use crate::tape::{
 const SEED: u64 = 0x8021_1000_2003_0006;
 
 /// Evenings in which every unit is asked about.
-const DENSE: usize = 4_000;
+const DENSE: usize = 1_600;
 /// Evenings of some dozen records, and files that are changed afterwards.
-const SHORT: usize = 15_000;
-const CHANGED: usize = 15_000;
+const SHORT: usize = 6_000;
+const CHANGED: usize = 6_000;
 /// Evenings of some thousand records.
-const LONG: usize = 400;
+const LONG: usize = 160;
 /// The beacon intervals of evenings that reach the clock's limit. That limit is
 /// 65,537 times 65,535, so it is a TBTT for some of them.
 const AT_THE_LIMIT: [u16; 10] = [

@@ -13,9 +13,9 @@ use crate::rng::Rng;
 const SEED: u64 = 0x8021_1000_2003_0001;
 
 /// Frames built at random; each is then changed and cut as well.
-const BUILT: usize = 110_000;
+const BUILT: usize = 66_000;
 /// Bodies at random behind a header that is right.
-const SOUPS: usize = 250_000;
+const SOUPS: usize = 150_000;
 
 pub fn run(count: &mut Count) {
     let mut rng = count.begin("frames", SEED);

@@ -14,7 +14,7 @@ use twin::Finding;
 const SEED: u64 = 0x8021_1000_2003_0004;
 
 /// Requests at random, each asked for replies of several sorts.
-const AT_RANDOM: usize = 120_000;
+const AT_RANDOM: usize = 72_000;
 
 /// The lengths of the replies that there are.
 const TPC_REPLY: usize = 31;

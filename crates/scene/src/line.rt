@@ -1,5 +1,4 @@
 // A line as it is read, character by character.
-ghost use Prim.Native.Nat.{_≤_};
 use crate::say;
 
 // How many numbers a call may have.
@@ -30,20 +29,6 @@ pub fn begun(words: bool) -> Line {
         at: 0,
         number: 0,
     }
-}
-
-// Where the octets end that stand behind the first `from` numbers of a call.
-pub fn end(count: usize, from: usize) -> usize
-    requires { ⌜ from ≤ 128 ⌝ }
-    ensures { λ r. ⌜ (from ≤ r) × (r ≤ 128) ⌝ }
-{
-    if count < from {
-        return from;
-    }
-    if ROOM < count {
-        return ROOM;
-    }
-    count
 }
 
 impl Line {

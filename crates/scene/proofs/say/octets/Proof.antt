@@ -2,8 +2,8 @@
 use Prim.Native.Nat.{_≤_, _-_}
 use lib.ListN.{length}
 use borrow.Author.Needs.{needs}
-use Rattle.run_scenes.proofs.say.octets.Statement.{statement}
-use Rattle.run_scenes.proofs.say.octets.Tie as tie
+use Rattle.scene.proofs.say.octets.Statement.{statement}
+use Rattle.scene.proofs.say.octets.Tie as tie
 
 abbrev Inv-loop : tie.InvT-loop
 Inv-loop s i₀ i = i ≤ length s

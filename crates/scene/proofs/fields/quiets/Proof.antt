@@ -1,8 +1,8 @@
 -- `quiets` ends: the count rises to 8.
 use Prim.Native.Nat.{_≤_, _-_}
 use borrow.Author.Needs.{needs}
-use Rattle.run_scenes.proofs.received.quiets.Statement.{statement}
-use Rattle.run_scenes.proofs.received.quiets.Tie as tie
+use Rattle.scene.proofs.fields.quiets.Statement.{statement}
+use Rattle.scene.proofs.fields.quiets.Tie as tie
 
 abbrev Inv-loop : tie.InvT-loop
 Inv-loop count slots i₀ i = i ≤ 8

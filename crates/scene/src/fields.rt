@@ -1,5 +1,9 @@
-// The fields of each element.
+// The fields of each element, and of what a beacon holds.
 use crate::say;
+use beacon::MaybePower;
+use beacon::MaybeReport;
+use beacon::MaybeSwitch;
+use beacon::Notice;
 use element::channel_switch::ChannelSwitch;
 use element::power_constraint::PowerConstraint;
 use element::quiet::Quiet;
@@ -35,6 +39,34 @@ pub fn quiet(q: Quiet) {
     say::octet(q.period);
     say::number(q.duration as u64);
     say::number(q.offset as u64);
+}
+
+// As many as the count says, at most.
+pub fn quiets(slots: [Quiet; 8], count: usize) {
+    let mut i = 0;
+    while i < 8 {
+        if i < count {
+            quiet(slots[i]);
+        }
+        i += 1;
+    }
+}
+
+pub fn notice(n: Notice) {
+    say::number(n.timestamp);
+    say::number(n.capability as u64);
+    let limit = n.power;
+    if let MaybePower::Is(p) = limit {
+        power(p);
+    }
+    let told = n.report;
+    if let MaybeReport::Is(t) = told {
+        report(t);
+    }
+    let announced = n.switch;
+    if let MaybeSwitch::Is(s) = announced {
+        switch(s);
+    }
 }
 
 fn span(s: Span) {

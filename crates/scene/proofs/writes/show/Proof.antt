@@ -2,8 +2,8 @@
 use mathlib.Core.Path.{sym}
 use lib.Seq.{length-take-le}
 use borrow.Author.Needs.{needs}
-use Rattle.run_scenes.proofs.writes.show.Statement.{statement}
-use Rattle.run_scenes.proofs.writes.show.Tie as tie
+use Rattle.scene.proofs.writes.show.Statement.{statement}
+use Rattle.scene.proofs.writes.show.Tie as tie
 
 slice-aggregate-written : tie.Need-slice-aggregate-written
 slice-aggregate-written c = sym (length-take-le _ _ (search needs))
