@@ -1,7 +1,6 @@
 // A measurement element as its fields, one after the other at fixed places (docs/BOUNDARY.md). What it has not got is 0.
 ghost use mathlib.Core.Path.{_≡_};
 ghost use Rattle.boundary.specs.Records.{askedBy, requestFields, saidBy, reportFields};
-ghost use Rattle.measure.specs.Span.{noSpan, spanOctets};
 use crate::fields;
 use measure::Span;
 use measure::measurement_report;
@@ -24,16 +23,6 @@ pub struct Said {
     pub span: Span,
 }
 
-fn no_span() -> Span
-    ensures { λ r. ⌜ r ≡ noSpan ⌝ }
-{
-    Span {
-        channel: 0,
-        start: 0,
-        duration: 0,
-    }
-}
-
 fn asked_by(matter: measurement_request::Matter) -> Asked
     ensures { λ r. ⌜ r ≡ askedBy matter ⌝ }
 {
@@ -42,7 +31,7 @@ fn asked_by(matter: measurement_request::Matter) -> Asked
             asks: 0,
             request: fields::flag(request),
             report: fields::flag(report),
-            span: no_span(),
+            span: Span::none(),
         },
         measurement_request::Matter::Measure(span) => Asked {
             asks: 1,
@@ -54,30 +43,9 @@ fn asked_by(matter: measurement_request::Matter) -> Asked
             asks: 2,
             request: 0,
             report: 0,
-            span: no_span(),
+            span: Span::none(),
         },
     }
-}
-
-// Channel, start and duration.
-fn span_fields(span: Span) -> [u8; 11]
-    ensures { λ r. ⌜ r ≡ spanOctets span ⌝ }
-{
-    let s = octets::octets64(span.start);
-    let d = octets::octets16(span.duration);
-    [
-        span.channel,
-        s[0],
-        s[1],
-        s[2],
-        s[3],
-        s[4],
-        s[5],
-        s[6],
-        s[7],
-        d[0],
-        d[1],
-    ]
 }
 
 pub fn of_request(request: Request) -> [u8; 16]
@@ -85,7 +53,7 @@ pub fn of_request(request: Request) -> [u8; 16]
 {
     let matter = request.matter;
     let asked = asked_by(matter);
-    let s = span_fields(asked.span);
+    let s = asked.span.to_octets();
     [
         request.token,
         request.kind,
@@ -116,13 +84,13 @@ fn said_by(matter: measurement_report::Matter) -> Said
     ensures { λ r. ⌜ r ≡ saidBy matter ⌝ }
 {
     match matter {
-        measurement_report::Matter::Late => telling(0, 0, no_span()),
-        measurement_report::Matter::Incapable => telling(1, 0, no_span()),
-        measurement_report::Matter::Refused => telling(2, 0, no_span()),
+        measurement_report::Matter::Late => telling(0, 0, Span::none()),
+        measurement_report::Matter::Incapable => telling(1, 0, Span::none()),
+        measurement_report::Matter::Refused => telling(2, 0, Span::none()),
         measurement_report::Matter::Basic { span, map } => telling(3, map, span),
         measurement_report::Matter::Cca { span, busy } => telling(4, busy, span),
         measurement_report::Matter::Rpi(span) => telling(5, 0, span),
-        measurement_report::Matter::Uninterpreted => telling(6, 0, no_span()),
+        measurement_report::Matter::Uninterpreted => telling(6, 0, Span::none()),
     }
 }
 
@@ -131,7 +99,7 @@ pub fn of_report(report: Report) -> [u8; 23]
 {
     let matter = report.matter;
     let said = said_by(matter);
-    let s = span_fields(said.span);
+    let s = said.span.to_octets();
     let d = report.densities;
     [
         report.token,

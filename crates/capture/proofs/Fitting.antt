@@ -1,6 +1,6 @@
 -- What a block leaves of the lister. Assumes nothing.
 use mathlib.Core.Bool.{Bool, true, false}
-use mathlib.Core.List.{List, []}
+use mathlib.Core.List.{List}
 use mathlib.Core.Path.{_≡_, refl, sym, ap, _∙_}
 use Prim.Native.Nat.{ℕ, _-_, _<_, _≤_}
 use native.Mathlib.Omega.{arith}
@@ -13,9 +13,7 @@ use Rattle.answer.specs.Checks.{pick}
 use Rattle.block.proofs.Judging.{used-within}
 use Rattle.block.specs.Blocks.{usedPart, blockMeans}
 use Rattle.block.specs.declared.Block.{Block}
-use Rattle.measurement.proofs.OneCall.{filled}
-use Rattle.measurement.proofs.OneCall as OneCall
-use Rattle.octets.specs.Writing.{left}
+use Rattle.octets.specs.Writing.{filled}
 use Rattle.capture.specs.Feeding.{Fed, enoughRoom, linesOf, fedBy, leftBy}
 use Rattle.capture.specs.Following.{Sound, Listed}
 use Rattle.capture.specs.Listers.{blockLimit, oneBlockMore, Fits}
@@ -48,10 +46,6 @@ module _ (l : Lister) (f : Fits l) (h : l .blocks < blockLimit) where
         few-lines = omega (arith, w .same-blocks, w .few-lines, f .few-lines);
         few-damaged = omega (arith, w .same-blocks, w .same-damaged, f .few-damaged);
       }
-
--- one line at the front
-pub first-line : (text out exit : List ℕ) → length text ≤ length out → exit ≡ left true text 0 out → exit ≡ filled text out
-first-line text out exit h e = e ∙ OneCall.leaves [] text out (omega arith)
 
 -- the used part of a block
 pub used-part : (b : List ℕ) (n : ℕ) → blockMeans b ≡ Block.Used n → take n (take (length b - 2) (drop 2 b)) ≡ usedPart b

@@ -1,19 +1,16 @@
--- Lines that are stored behind others, or do not fit, or are only counted. Assumes nothing.
+-- A pass over the blocks of a capture: their lines are stored behind others, or do not fit, or are only counted. Assumes nothing.
 use mathlib.Core.Bool.{Bool, true, false}
 use mathlib.Core.List.{List, [], _∷_, _++_, append-nil}
 use mathlib.Core.Path.{_≡_, refl, sym, ap, ap₂, _∙_, subst}
 use Prim.Native.Nat.{ℕ, _+_, _*_, _-_, _<_, _≤_}
 use native.Mathlib.Omega.{arith}
-use borrow.Author.Tests.{lt-ltb, le-leb, lt-leb, leb-false}
+use borrow.Author.Tests.{le-leb, lt-leb, leb-false}
 use lib.ListN.{length, take, drop, length-append, drop-of-length-le}
-use lib.Seq.{take-at}
 use Rattle.answer.proofs.Booleans.{clash}
-use Rattle.answer.specs.Checks.{checked}
 use Rattle.block.proofs.Ending.{end-inside, end-whole}
 use Rattle.block.specs.Blocks.{endAfter}
-use Rattle.measurement.proofs.OneCall.{filled}
-use Rattle.measurement.proofs.OneCall as OneCall
-use Rattle.octets.specs.Writing.{room, wrote, left}
+use Rattle.octets.specs.Writing.{left}
+use Rattle.octets.proofs.Storing.{left-not, left-short, left-nothing, left-length, left-behind}
 use Rattle.capture.specs.Listers.{Fits}
 use Rattle.capture.specs.Lists.{Told, nothing, before, blockTold, blocksBehind, blocksIn, blocksTold, fileTold}
 use Rattle.capture.specs.Passing.{Passed}
@@ -21,24 +18,6 @@ use Rattle.capture.specs.declared.lister.Lister.{Lister}
 use Rattle.capture.specs.declared.whole.Progress.{Progress}
 use Rattle.capture.proofs.Cutting.{next-block, one-more}
 use Rattle.capture.proofs.Recording.{before-before}
-
--- what only counts leaves the buffer as it was
-pub left-counted : (os : List ℕ) (at : ℕ) (buffer : List ℕ) → left false os at buffer ≡ buffer
-unfolding left wrote room checked
-left-counted os at buffer = refl
-
--- what does not fit leaves it as it was, too
-pub left-short : (store : Bool) (os : List ℕ) (at : ℕ) (buffer : List ℕ) → length buffer < at + length os → left store os at buffer ≡ buffer
-unfolding left wrote room checked
-left-short true os at buffer h = simp (lt-ltb (length buffer) (at + length os) h)
-left-short false os at buffer h = refl
-
--- lines in the front of a room are in it whole
-pub in-room : (text room exit : List ℕ) → exit ≡ filled text room → length exit ≡ length room → length text ≤ length room
-in-room text room exit e same = omega (arith, same, ap length e, length-append text (drop (length text) room))
-
-pub from-room : (text room exit : List ℕ) (n : ℕ) → exit ≡ filled text room → n ≡ length text → take n exit ≡ text
-from-room text room exit n e many = ap (take n) e ∙ take-at text (drop (length text) room) n (sym many)
 
 module _ (count : ℕ) (t : Told) (size : ℕ) (within : count ≤ size) where
   pub too-long : (l : Lister) → size < count + length (t .text) → Passed count t size (record { fits = false; count = count; lister = l })
@@ -61,23 +40,6 @@ module _ (count : ℕ) (t : Told) (size : ℕ) (within : count ≤ size) where
         fits = λ _. f;
       }
 
--- ---- lines behind lines
-
-pub left-nothing : (store : Bool) (buffer : List ℕ) → buffer ≡ left store [] 0 buffer
-left-nothing true buffer = sym (OneCall.leaves [] [] buffer (omega arith))
-left-nothing false buffer = sym (left-counted [] 0 buffer)
-
-pub left-size : (store : Bool) (xs buffer : List ℕ) → length xs ≤ length buffer → length (left store xs 0 buffer) ≡ length buffer
-left-size true xs buffer h = ap length (OneCall.leaves [] xs buffer (omega arith)) ∙ OneCall.filled-length xs buffer h
-left-size false xs buffer h = ap length (left-counted xs 0 buffer)
-
-pub left-behind : (store : Bool) (xs ys buffer : List ℕ) → length xs + length ys ≤ length buffer → left store ys (length xs) (left store xs 0 buffer) ≡ left store (xs ++ ys) 0 buffer
-left-behind true xs ys buffer h =
-    ap (left true ys (length xs)) (OneCall.leaves [] xs buffer (omega arith)) ∙ OneCall.leaves xs ys buffer h
-    ∙ sym (OneCall.leaves [] (xs ++ ys) buffer (omega (arith, length-append xs ys)))
-left-behind false xs ys buffer h =
-    left-counted ys (length xs) _ ∙ left-counted xs 0 buffer ∙ sym (left-counted (xs ++ ys) 0 buffer)
-
 -- ---- a pass
 
 -- the blocks before a place are passed
@@ -99,7 +61,7 @@ begins file store out₀ p going none same f new =
       told = same;
       many = none;
       inside = omega (arith, none);
-      stands = left-nothing store out₀;
+      stands = sym (left-nothing store out₀);
       going = going;
       fits = f;
       place = omega arith;
@@ -108,7 +70,7 @@ begins file store out₀ p going none same f new =
 
 module _ {file : List ℕ} {store : Bool} {out₀ out : List ℕ} {p : Progress} {at : ℕ} (i : Standing file store out₀ out p at) where
   pub same-size : length out ≡ length out₀
-  same-size = ap length (i .stands) ∙ left-size store (i .lines) out₀ (omega (arith, i .many, i .inside))
+  same-size = ap length (i .stands) ∙ left-length store (i .lines) out₀ (omega (arith, i .many, i .inside))
 
   -- all blocks are passed
   pub passed-all : length file ≤ at → Passed 0 (fileTold file) (length out₀) p × (out ≡ left store (fileTold file .text) 0 out₀)
@@ -175,8 +137,8 @@ module _ {file : List ℕ} {store : Bool} {out₀ out : List ℕ} {p : Progress}
         unchanged : (s : Bool) → s ≡ store → (s ≡ true → length (fileTold file .text) ≤ length out₀) → exit ≡ left s (fileTold file .text) 0 out₀
         unchanged true same may = absurd (omega (arith, may refl, total-short))
         unchanged false same may =
-            let counted : left store (i .lines) 0 out₀ ≡ out₀ = ap (λ (b : Bool). left b (i .lines) 0 out₀) (sym same) ∙ left-counted (i .lines) 0 out₀ in
-            e ∙ left-short store (told-next .text) (p .count) out (omega (arith, same-size, i .many, size-short)) ∙ i .stands ∙ counted ∙ sym (left-counted (fileTold file .text) 0 out₀)
+            let counted : left store (i .lines) 0 out₀ ≡ out₀ = ap (λ (b : Bool). left b (i .lines) 0 out₀) (sym same) ∙ left-not (i .lines) 0 out₀ in
+            e ∙ left-short (told-next .text) (p .count) out (omega (arith, same-size, i .many, size-short)) store ∙ i .stands ∙ counted ∙ sym (left-not (fileTold file .text) 0 out₀)
 
         pub stops : (store ≡ true → length (fileTold file .text) ≤ length out₀) → Passed 0 (fileTold file) (length out₀) q × (exit ≡ left store (fileTold file .text) 0 out₀)
         stops may = (

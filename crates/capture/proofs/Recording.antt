@@ -6,15 +6,14 @@ use Prim.Native.Nat.{ℕ, _+_, _*_, _-_, _≤_}
 use native.Mathlib.Omega.{arith}
 use lib.ListN.{length, drop, length-append}
 use Rattle.answer.specs.Checks.{pick}
-use Rattle.measurement.proofs.OneCall.{filled}
-use Rattle.measurement.proofs.OneCall as OneCall
-use Rattle.octets.specs.Writing.{left}
+use Rattle.octets.specs.Writing.{left, filled}
+use Rattle.octets.proofs.Storing.{filled-length, behind-left}
 use Rattle.record.specs.Entries.{Noted, malformed, starting, advancing, hearing, asking, entryTold, entryMeans}
 use Rattle.record.specs.Records.{Records, end, cut, more, recordsIn}
 use Rattle.record.specs.declared.entry.Entry.{Entry}
 use Rattle.capture.specs.Following.{lineFor, Sound, Follows, Listed}
 use Rattle.capture.specs.Listers.{oneLineMore}
-use Rattle.capture.specs.Lists.{Told, nothing, line, before, badRecord, noted, isMalformed, recorded}
+use Rattle.capture.specs.Lists.{Told, nothing, before, badRecord, noted, isMalformed, recorded}
 use Rattle.capture.specs.Stepping.{entryMalformed}
 use Rattle.capture.specs.declared.lister.Lister.{Lister}
 use Rattle.capture.specs.declared.listing.Put.{Put}
@@ -65,13 +64,13 @@ pub record Written (l : Lister) (a : Answered) (count : ℕ) (out : List ℕ) (p
 module _ {used : List ℕ} {l₀ : Lister} {out₀ out : List ℕ} {l : Lister} {count at : ℕ} (big : 10944 ≤ length out₀) (i : Inv used l₀ out₀ out l count at) where
   -- the buffer keeps its length
   pub same-size : length out ≡ length out₀
-  same-size = ap (λ (xs : List ℕ). length xs) (i .stands) ∙ OneCall.filled-length (i .lines) out₀ (omega (arith, i .many, i .room))
+  same-size = ap (λ (xs : List ℕ). length xs) (i .stands) ∙ filled-length (i .lines) out₀ (omega (arith, i .many, i .room))
 
   -- the line stands behind those before it
   behind : (text exit : List ℕ) → length text ≤ 64 → exit ≡ left true text count out → exit ≡ filled (i .lines ++ text) out₀
   behind text exit h e =
       e ∙ ap (λ (n : ℕ). left true text n out) (i .many) ∙ ap (left true text (length (i .lines))) (i .stands)
-      ∙ OneCall.leaves (i .lines) text out₀ (omega (arith, i .many, i .room))
+      ∙ behind-left (i .lines) text out₀ (omega (arith, i .many, i .room))
 
   -- ---- the ways out
 
@@ -105,7 +104,7 @@ module _ {used : List ℕ} {l₀ : Lister} {out₀ out : List ℕ} {l : Lister} 
     size-after =
         let s : length (lineFor a .text) ≤ 64 = omega (arith, w .place, w .short) in
         ap (λ (xs : List ℕ). length xs) (behind (lineFor a .text) exit s (w .leaves))
-        ∙ OneCall.filled-length (i .lines ++ lineFor a .text) out₀ (omega (arith, i .many, i .room, length-append (i .lines) (lineFor a .text)))
+        ∙ filled-length (i .lines ++ lineFor a .text) out₀ (omega (arith, i .many, i .room, length-append (i .lines) (lineFor a .text)))
 
     module _ (e : recorded (recordsIn (drop at used)) l ≡ lineFor a) where
       all : recorded (recordsIn used) l₀ ≡ before (i .lines) (lineFor a)

@@ -6,7 +6,7 @@ use Prim.Native.Nat.{ℕ}
 use lib.Dec.{ltb, leb}
 use lib.ListN.{length}
 use Rattle.answer.specs.Checks.{pick}
-use Rattle.measurement.proofs.OneCall.{filled}
+use Rattle.octets.specs.Writing.{filled}
 use Rattle.capture.specs.Listers.{blockLimit, Fits}
 use Rattle.capture.specs.Lists.{Told, blockTold}
 use Rattle.capture.specs.declared.feeding.Feed.{Feed}

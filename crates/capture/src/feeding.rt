@@ -2,7 +2,7 @@
 ghost use mathlib.Core.Path.{_≡_};
 ghost use Prim.Native.Nat.{_<_, _≤_};
 ghost use lib.ListN.{length};
-ghost use Rattle.measurement.proofs.OneCall.{filled};
+ghost use Rattle.octets.specs.Writing.{filled};
 ghost use Rattle.capture.specs.Feeding.{Fed, fedBy, leftBy};
 ghost use Rattle.capture.specs.Listers.{oneBlockMore, Fits};
 ghost use Rattle.capture.specs.Lists.{damagedTold, blockTold};

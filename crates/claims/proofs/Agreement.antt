@@ -9,7 +9,7 @@ use borrow.Author.Tests.{ltb-true, ltb-false, eqb-true, eqb-false}
 use lib.Dec.{ltb, eqb}
 use lib.ListN.{length, length-map}
 use lib.Seq.{take-at}
-use Rattle.answer.proofs.Booleans.{neither}
+use Rattle.answer.proofs.Booleans.{either, neither}
 use Rattle.answer.proofs.Judged.{never}
 use Rattle.answer.specs.Checks.{Outcome, refused, accepted, checked}
 use Rattle.beacon.specs.Allowed.{QuietsAllowed}
@@ -22,7 +22,6 @@ use Rattle.frame.proofs.Allowing.{frame-allowed}
 use Rattle.frame.specs.Actions.{Body, requests, reports, tpcRequest, tpcReport, switch}
 use Rattle.frame.specs.Allowed.{KindAllowed}
 use Rattle.frame.specs.Frames.{Kind, beacon, probeResponse, action, Sent, frameMeans}
-use Rattle.schedule.proofs.FirstUnit.{either}
 use Rattle.schedule.specs.Schedules.{setBy}
 use Rattle.station.specs.Clock.{switched, clocked, met, reachOf, advanceMeans, advanceOf}
 use Rattle.station.specs.Stations.{inUse}

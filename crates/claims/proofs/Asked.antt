@@ -7,9 +7,8 @@ use native.Mathlib.Nat.{le-refl, eq-or-lt-of-le}
 use native.Mathlib.Omega.{arith}
 use borrow.Author.Tests.{lt-ltb, le-ltb, ltb-true, ltb-false, eq-eqb, ne-eqb, eqb-true, eqb-false}
 use lib.Dec.{ltb, eqb}
-use Rattle.answer.proofs.Booleans.{clash}
+use Rattle.answer.proofs.Booleans.{clash, either}
 use Rattle.element.specs.declared.channel_switch.ChannelSwitch.{ChannelSwitch}
-use Rattle.schedule.proofs.FirstUnit.{either}
 use Rattle.station.specs.Asking.{firstOf, quietIn, permissionOf}
 use Rattle.station.specs.Stations.{inUse}
 use Rattle.station.specs.Waiting.{silences, upTo, comesBefore}

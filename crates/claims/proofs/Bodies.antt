@@ -3,9 +3,9 @@
 -- `action-bodies` says it of octets and records, whatever their length; the laws behind it say it of the calls that write, and of
 -- frames: the calls write at most `longestBody` octets, and no accepted frame has a longer body. Assumes nothing.
 use mathlib.Core.Bool.{Bool, true, false, not}
-use mathlib.Core.List.{List, []}
+use mathlib.Core.List.{List}
 use mathlib.Core.Path.{_≡_, refl, sym, ap, ap₂, subst, _∙_}
-use Prim.Native.Nat.{ℕ, _+_, _≤_}
+use Prim.Native.Nat.{ℕ, _≤_}
 use native.Mathlib.Omega.{arith}
 use borrow.Author.Tests.{ltb-false, le-ltb}
 use lib.Dec.{eqb}
@@ -25,7 +25,6 @@ use Rattle.frame.specs.Frames.{action, Sent, kindOf, frameMeans}
 use Rattle.header.specs.Headers.{subtype, subtypeOf, toAll, foreignHeader, foreignAddress, headerMeans}
 use Rattle.header.specs.declared.Subtype.{Subtype}
 use Rattle.measurement.proofs.NeverLonger.{never-longer}
-use Rattle.measurement.proofs.OneCall.{answers, leaves}
 use Rattle.measurement.proofs.RunLaws.{octets-behind}
 use Rattle.measurement.specs.Bodies.{longestBody}
 use Rattle.measurement.specs.Lists.{mayList}
@@ -33,6 +32,7 @@ use Rattle.measurement.specs.Reports.{reportSort}
 use Rattle.measurement.specs.Requests.{requestSort}
 use Rattle.octets.specs.Numbers.{Octets}
 use Rattle.octets.specs.Writing.{room, wrote}
+use Rattle.octets.proofs.Storing.{room-answer, front-left}
 use Rattle.claims.specs.BodyCalls.{once, bodyCalls, holding}
 -- a measurement body of any number of elements is written by one call for each: where it is not too long and the buffer has room
 -- every call is accepted, and the buffer then begins with the body's octets; a run that was read is written back
@@ -46,9 +46,8 @@ action-bodies = action-trip
 
 called-once : (may : Bool) (os buffer : List ℕ) → may ≡ true → length os ≤ length buffer → once may os buffer ≡ holding os buffer
 called-once may os buffer e room =
-    let fits : length {A = ℕ} [] + length os ≤ length buffer = omega arith in
     ap (λ (m : Bool). once m os buffer) e
-    ∙ ap₂ (λ (o : Outcome ℕ) (r : List ℕ). record { used = o; octets = r }) (answers [] os buffer fits) (leaves [] os buffer fits)
+    ∙ ap₂ (λ (o : Outcome ℕ) (r : List ℕ). record { used = o; octets = r }) (room-answer os 0 buffer (omega arith)) (front-left os buffer room)
 
 -- each body that may be written, and is not too long, is written where the buffer has room
 pub body-written : (body : Body) (buffer : List ℕ) → ActionFits body → actionMay body ≡ true → length (actionOctets body) ≤ longestBody

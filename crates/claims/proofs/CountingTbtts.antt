@@ -7,7 +7,7 @@ use native.Mathlib.Nat.{mul-le-mul-right, div-mul-le-self, mul-div-cancel}
 use native.Mathlib.Omega.{arith}
 use borrow.Author.Tests.{ltb-true, ltb-false}
 use lib.Dec.{ltb}
-use Rattle.schedule.proofs.FirstUnit.{either}
+use Rattle.answer.proofs.Booleans.{either}
 use Rattle.station.proofs.Keeping.{moment-after}
 use Rattle.claims.specs.Tbtts.{Tbtt, NextTbtt, CountedTo}
 

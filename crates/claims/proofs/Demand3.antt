@@ -9,7 +9,7 @@ use native.Mathlib.Omega.{arith}
 use Rattle.answer.specs.Checks.{checked}
 use Rattle.answer.specs.declared.Answer.{Answer}
 use Rattle.answer.specs.declared.Refusal.{Refusal}
-use Rattle.schedule.proofs.FirstUnit.{either}
+use Rattle.answer.proofs.Booleans.{either}
 use Rattle.station.specs.Asking.{permissionNumber, permissionOf}
 use Rattle.station.specs.Clock.{advanceOf}
 use Rattle.station.specs.Starting.{startForbids, started, startMeans}

@@ -6,7 +6,7 @@ use borrow.Author.Tests.{le-ltb, lt-leb}
 use denote.Ref.{now}
 use lib.ListN.{length, take}
 use Rattle.capture.proofs.Fitting.{has-lines}
-use Rattle.capture.proofs.Passes.{from-room}
+use Rattle.octets.proofs.Storing.{filled-front}
 use Rattle.capture.specs.Feeding.{enoughRoom, fedBy, leftBy}
 use Rattle.capture.specs.Listers.{blockLimit, fresh}
 use Rattle.capture.specs.Lists.{Told, blockTold, blocksIn, blocksTold, listOf}
@@ -22,7 +22,7 @@ use Rattle.claims.specs.FedFiles.{Begins, Feeds, FedAll, Closes}
 fed-told : (l : Lister) (b out exit : List ℕ) (x : Listing) (n : ℕ) → x ≡ fedBy l b (length out) → exit ≡ leftBy l b out → x .feed ≡ Feed.Lines n → (take n exit ≡ blockTold b l .text) × (x .lister ≡ blockTold b l .lister)
 fed-told l b out exit x n e f lines =
     let w = has-lines l b out n (sym (ap (λ (r : Listing). r .feed) e) ∙ lines) in
-    (from-room (blockTold b l .text) out exit n (f ∙ w .2) (w .0), ap (λ (r : Listing). r .lister) e ∙ w .1)
+    (filled-front (blockTold b l .text) out exit (f ∙ w .2) n (w .0), ap (λ (r : Listing). r .lister) e ∙ w .1)
 
 feeds-told : (l : Lister) (b text : List ℕ) (next : Lister) → Feeds l b text next → (text ≡ blockTold b l .text) × (next ≡ blockTold b l .lister)
 feeds-told l b text next (κs, a, x, e, post, same-lister, same-block, n, lines, front, left-lister) =

@@ -44,6 +44,8 @@ use Rattle.measure.proofs.measurement_report.is_interpreted as Report-is-interp
 use Rattle.measure.proofs.measurement_report.may_write as Report-may-write
 use Rattle.measure.proofs.measurement_report.octet_count as Report-octet-count
 use Rattle.measure.proofs.measurement_report.to_octets as Report-to-octets
+use Rattle.measure.proofs.span.Span.none as Span-none
+use Rattle.measure.proofs.span.Span.to_octets as Span-to-octets
 use Rattle.measure.proofs.measurement_report.refused as Report-refused
 use Rattle.claims.specs.Outcomes.{OneResult, OneOutcome}
 use Rattle.claims.proofs.Same.{once, told-once, written-once}
@@ -181,3 +183,11 @@ report-to-octets κs a e f x y p q = once (p .2) (q .2)
 
 pub report-refused : OneResult 0 Report-refused.Kinds.ps Report-refused.Kinds.r Report-refused.Reads.Post
 report-refused κs a e f x y p q = once p q
+
+-- ---- where and when something is measured
+
+pub span-none : OneResult 0 Span-none.Kinds.ps Span-none.Kinds.r Span-none.Reads.Post
+span-none κs a e f x y p q = once p q
+
+pub span-to-octets : OneResult 0 Span-to-octets.Kinds.ps Span-to-octets.Kinds.r Span-to-octets.Reads.Post
+span-to-octets κs a e f x y p q = once p q

@@ -7,7 +7,7 @@ use Prim.Native.Nat.{ℕ, _-_, _<_, _≤_}
 use native.Mathlib.Omega.{arith}
 use borrow.Author.Tests.{eqb-false}
 use lib.Dec.{eqb}
-use Rattle.answer.proofs.Booleans.{clash, neither, or-go, or-stop}
+use Rattle.answer.proofs.Booleans.{clash, either, neither, or-go, or-stop}
 use Rattle.beacon.specs.Allowed.{QuietsAllowed}
 use Rattle.beacon.specs.Beacons.{Said}
 use Rattle.element.specs.declared.quiet.Quiet.{Quiet}
@@ -15,7 +15,7 @@ use Rattle.frame.proofs.Allowing.{frame-allowed}
 use Rattle.frame.specs.Allowed.{KindAllowed}
 use Rattle.frame.specs.Frames.{Kind, beacon, probeResponse, action}
 use Rattle.schedule.proofs.Covering.{covered-covers, covers-covered}
-use Rattle.schedule.proofs.FirstUnit.{either, found, some-one}
+use Rattle.schedule.proofs.FirstUnit.{found, some-one}
 use Rattle.schedule.specs.Schedules.{Covers, covered}
 use Rattle.schedule.specs.Units.{someUnit}
 use Rattle.schedule.specs.declared.Schedule.{Schedule}

@@ -34,7 +34,8 @@ use Rattle.octets.specs.Numbers.{bit, octet}
 use Rattle.octets.specs.Writing.{told, wrote}
 use Rattle.octets.specs.declared.writing.Wrote.{Wrote}
 use Rattle.owed.proofs.Findings.{rpiWith}
-use Rattle.reply.proofs.Framed.{six, room-answer}
+use Rattle.octets.proofs.Storing.{room-answer}
+use Rattle.reply.proofs.Framed.{six}
 use Rattle.reply.proofs.OneReport.{body, short-body}
 use Rattle.reply.specs.Due.{dueMeans}
 use Rattle.reply.specs.Frames.{replyFrame}
@@ -221,4 +222,4 @@ element-answered clock q h = by-matter (q .matter) h
 pub room-enough : {o : Outcome (List ℕ)} {os buffer exit : List ℕ} {answer : Wrote} → Replied o buffer answer exit → o ≡ accepted os → length os ≤ length buffer
     → told answer ≡ accepted (length os)
 room-enough {os = os} {buffer = buffer} w e h =
-    w .answers ∙ ap (λ (x : Outcome (List ℕ)). andThen x (λ xs. wrote true xs 0 buffer)) e ∙ sym (room-answer os 0 buffer (omega arith))
+    w .answers ∙ ap (λ (x : Outcome (List ℕ)). andThen x (λ xs. wrote true xs 0 buffer)) e ∙ room-answer os 0 buffer (omega arith)

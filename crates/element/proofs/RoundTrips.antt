@@ -3,8 +3,7 @@ use mathlib.Core.Path.{refl, ap₂, _∙_}
 use mathlib.Core.Bool.{true, false}
 use mathlib.Core.List.{[], _∷_, _++_}
 use Prim.Native.Nat.{ℕ}
-use lib.ListN.{length}
-use Rattle.octets.specs.Numbers.{Octets, octet}
+use Rattle.octets.specs.Numbers.{octet}
 use Rattle.octets.proofs.JoinSplit.{join-split, split-number, number-bound, all-from}
 use Rattle.octets.proofs.TwosComplement.{octet-signed, signed-octet, signed-fits}
 use Rattle.element.specs.ChannelSwitch.{switchIn, switchForbids, switchMeans, switchContents, switchMay}

@@ -5,7 +5,7 @@ use Prim.Native.Nat.{ℕ, _≤_}
 use native.Mathlib.Omega.{arith}
 use lib.ListN.{length}
 use Rattle.capture.proofs.Fitting.{has-lines}
-use Rattle.capture.proofs.Passes.{in-room}
+use Rattle.octets.proofs.Storing.{filled-inside}
 use Rattle.capture.specs.Feeding.{fedBy, leftBy}
 use Rattle.capture.specs.Lists.{blockTold}
 use Rattle.capture.specs.declared.feeding.Feed.{Feed}
@@ -14,4 +14,4 @@ use Rattle.capture.specs.declared.lister.Lister.{Lister}
 pub lines-within : (l : Lister) (b out exit : List ℕ) (n : ℕ) → exit ≡ leftBy l b out → length exit ≡ length out → fedBy l b (length out) .feed ≡ Feed.Lines n → n ≤ length out
 lines-within l b out exit n e same f =
     let w = has-lines l b out n f in
-    omega (arith, w .0, in-room (blockTold b l .text) out exit (e ∙ w .2) same)
+    omega (arith, w .0, filled-inside (blockTold b l .text) out exit (e ∙ w .2) same)

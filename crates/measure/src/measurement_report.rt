@@ -257,13 +257,13 @@ fn span_of(matter: Matter) -> Span
     ensures { λ r. ⌜ r ≡ reportSpan matter ⌝ }
 {
     match matter {
-        Matter::Late => span::none(),
-        Matter::Incapable => span::none(),
-        Matter::Refused => span::none(),
+        Matter::Late => Span::none(),
+        Matter::Incapable => Span::none(),
+        Matter::Refused => Span::none(),
         Matter::Basic { span, map: _ } => span,
         Matter::Cca { span, busy: _ } => span,
         Matter::Rpi(span) => span,
-        Matter::Uninterpreted => span::none(),
+        Matter::Uninterpreted => Span::none(),
     }
 }
 
@@ -356,7 +356,7 @@ pub fn to_octets(report: Report) -> [u8; 24]
     let d = report.densities;
     let size = size_of(matter);
     let mode = mode_of(matter);
-    let s = span::to_octets(span_of(matter));
+    let s = span_of(matter).to_octets();
     let last = last_of(matter, d[0]);
     [
         ID,

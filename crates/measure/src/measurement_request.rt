@@ -172,9 +172,9 @@ fn span_of(matter: Matter) -> Span
         Matter::Enable {
             request: _,
             report: _,
-        } => span::none(),
+        } => Span::none(),
         Matter::Measure(span) => span,
-        Matter::Uninterpreted => span::none(),
+        Matter::Uninterpreted => Span::none(),
     }
 }
 
@@ -224,7 +224,7 @@ pub fn to_octets(request: Request) -> [u8; 16]
     let matter = request.matter;
     let size = size_of(matter);
     let mode = mode_of(matter);
-    let s = span::to_octets(span_of(matter));
+    let s = span_of(matter).to_octets();
     [
         ID,
         size,

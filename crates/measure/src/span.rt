@@ -9,14 +9,37 @@ pub struct Span {
     pub duration: u16,
 }
 
-// No measurement at all.
-pub fn none() -> Span
-    ensures { λ r. ⌜ r ≡ noSpan ⌝ }
-{
-    Span {
-        channel: 0,
-        start: 0,
-        duration: 0,
+impl Span {
+    // No measurement at all.
+    pub fn none() -> Span
+        ensures { λ r. ⌜ r ≡ noSpan ⌝ }
+    {
+        Span {
+            channel: 0,
+            start: 0,
+            duration: 0,
+        }
+    }
+
+    // Channel, start and duration.
+    pub fn to_octets(self) -> [u8; 11]
+        ensures { λ r. ⌜ r ≡ spanOctets self ⌝ }
+    {
+        let s = octets::octets64(self.start);
+        let d = octets::octets16(self.duration);
+        [
+            self.channel,
+            s[0],
+            s[1],
+            s[2],
+            s[3],
+            s[4],
+            s[5],
+            s[6],
+            s[7],
+            d[0],
+            d[1],
+        ]
     }
 }
 
@@ -36,25 +59,4 @@ pub fn is_forbidden(span: Span) -> bool
     ensures { λ r. ⌜ r ≡ spanForbids span ⌝ }
 {
     channel::HIGHEST < span.channel
-}
-
-// Channel, start and duration.
-pub fn to_octets(span: Span) -> [u8; 11]
-    ensures { λ r. ⌜ r ≡ spanOctets span ⌝ }
-{
-    let s = octets::octets64(span.start);
-    let d = octets::octets16(span.duration);
-    [
-        span.channel,
-        s[0],
-        s[1],
-        s[2],
-        s[3],
-        s[4],
-        s[5],
-        s[6],
-        s[7],
-        d[0],
-        d[1],
-    ]
 }

@@ -12,13 +12,13 @@ use lib.Seq.{append-snoc, take-append-seam}
 use Rattle.answer.specs.Checks.{Outcome, accepted, pick}
 use Rattle.answer.proofs.Booleans.{clash, both}
 use Rattle.octets.specs.Numbers.{Octets}
-use Rattle.octets.specs.Writing.{wrote, left}
+use Rattle.octets.specs.Writing.{wrote, left, filled}
+use Rattle.octets.proofs.Storing.{filled-length, behind-answer, behind-left}
 use Rattle.walk.specs.Elements.{elementsIn}
 use Rattle.measurement.specs.Bodies.{longestBody, bodyOctets, begins, mayAppend, appended}
 use Rattle.measurement.specs.Calls.{Buffer, behind, mayPut, appends}
 use Rattle.measurement.specs.Lists.{AllFit, Sort, recordsIn, allClear, allInterpreted, allOctets, mayAll, mayList}
 use Rattle.measurement.proofs.ListTrip.{Trip, first, may-first, list-there, list-known, list-clean, list-back, list-fits}
-use Rattle.measurement.proofs.OneCall.{filled, filled-length, answers, leaves}
 
 module _ {A : Type 0} (s : Sort A) (Fits : A → Type 0) (t : Trip s Fits) (action token : ℕ) where
   -- what is there once some records are written
@@ -107,7 +107,7 @@ module _ {A : Type 0} (s : Sort A) (Fits : A → Type 0) (t : Trip s Fits) (acti
         let fits : length (there l) + length added ≤ length buffer = omega (arith, longer l a) in
         ap₂ (λ (m : Bool) (os : List ℕ). behind (wrote m os n b) n (left m os n b) (appends s action token true xs)) (may-call h)
         (ap (appended s action token a) seam)
-        ∙ ap₂ (λ (o : Outcome ℕ) (r : List ℕ). behind o n r (appends s action token true xs)) (answers (there l) added buffer fits) (leaves (there l) added buffer fits)
+        ∙ ap₂ (λ (o : Outcome ℕ) (r : List ℕ). behind o n r (appends s action token true xs)) (behind-answer (there l) added buffer fits) (behind-left (there l) added buffer fits)
         ∙ ap₂ (λ (k : ℕ) (r : List ℕ). appends s action token true xs k (filled r buffer)) (longer l a) (there-more l a)
 
   -- ---- all of them

@@ -8,13 +8,14 @@ use borrow.Author.Tests.{le-leb, lt-leb}
 use lib.Dec.{leb, eqb}
 use lib.ListN.{length, take, drop}
 use lib.Seq.{length-take-le, take-nil}
-use Rattle.answer.specs.Checks.{pick, checked}
+use Rattle.answer.specs.Checks.{pick}
 use Rattle.answer.specs.declared.Refusal.{Refusal}
 use Rattle.octets.specs.Numbers.{octetsFrom}
-use Rattle.octets.specs.Writing.{room, wrote, left, Written}
+use Rattle.octets.specs.Writing.{Written}
 use Rattle.octets.specs.declared.writing.Wrote.{Wrote}
 use Rattle.octets.proofs.JoinSplit.{all-from}
 use Rattle.octets.proofs.Overwriting.{written-as}
+use Rattle.octets.proofs.Storing.{not-written}
 use Rattle.measurement.specs.Bodies.{mayAppend, appended, Fronts}
 use Rattle.measurement.specs.Lists.{Sort}
 
@@ -55,8 +56,7 @@ start-within used start n e = by (eqb used 0) e
 
 pub past-end : (used : ℕ) (may : Bool) (os buffer : List ℕ) → length buffer < used
     → Written (leb used (length buffer) && may) os used buffer (Wrote.Refused Refusal.Impossible) buffer
-unfolding wrote left room checked
-past-end used may os buffer h = record { answers = simp (lt-leb _ _ h); leaves = simp (lt-leb _ _ h) }
+past-end used may os buffer h = not-written os used buffer (simp (lt-leb _ _ h))
 
 module _ {A : Type 0} (s : Sort A) (action token : ℕ) (a : A) (start : Bool) (used : ℕ) (buffer : List ℕ) (within : used ≤ length buffer) where
   appended-by : pick (eqb used 0) (0 ∷ action ∷ token ∷ []) [] ++ s .octets a ≡ appended s action token a (take used buffer)

@@ -5,7 +5,6 @@ pub mod Lending
 pub mod ListTrip
 pub mod Marking
 pub mod NeverLonger
-pub mod OneCall
 pub mod ReportLists
 pub mod RequestLists
 pub mod RunLaws

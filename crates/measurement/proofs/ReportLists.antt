@@ -21,7 +21,7 @@ use Rattle.measurement.specs.Lists.{AllFit, recordsIn, allClear, allInte
 use Rattle.measurement.specs.Reports.{reportSort}
 use Rattle.measurement.proofs.AppendAll.{append-all, append-back}
 use Rattle.measurement.proofs.ListTrip.{Trip, list-there, list-back}
-use Rattle.measurement.proofs.OneCall.{filled}
+use Rattle.octets.specs.Writing.{filled}
 
 agreed : (m : Matter) (k : ℕ) → reportAgrees m k ≡ true → matterInterpreted m ≡ true
 agreed Matter.Late k h = refl

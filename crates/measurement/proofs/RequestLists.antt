@@ -20,7 +20,7 @@ use Rattle.measurement.specs.Lists.{AllFit, recordsIn, allClear, allInte
 use Rattle.measurement.specs.Requests.{requestSort}
 use Rattle.measurement.proofs.AppendAll.{append-all, append-back}
 use Rattle.measurement.proofs.ListTrip.{Trip, list-there, list-back}
-use Rattle.measurement.proofs.OneCall.{filled}
+use Rattle.octets.specs.Writing.{filled}
 
 agreed : (m : Matter) (k : ℕ) → requestAgrees m k ≡ true → requestMatterInterpreted m ≡ true
 agreed (Matter.Enable q p) k h = refl

@@ -35,6 +35,10 @@ storedBy (accepted n) = n
 abbrev pub over : List ℕ → ℕ → List ℕ → List ℕ
 over buffer at os = take at buffer ++ os ++ drop (at + length os) buffer
 
+-- the octets in front, and the rest of the buffer as it was
+abbrev pub filled : List ℕ → List ℕ → List ℕ
+filled os buffer = os ++ drop (length os) buffer
+
 abbrev pub after : Outcome ℕ → List ℕ → ℕ → List ℕ → List ℕ
 after (refused r) os at buffer = buffer
 after (accepted n) os at buffer = over buffer at os

@@ -18,8 +18,9 @@ use Rattle.element.specs.declared.tpc_report.TpcReport.{TpcReport}
 use Rattle.frame.specs.Actions.{Body, requests, reports, tpcRequest, tpcReport, switch, actionMeans}
 use Rattle.header.specs.Headers.{Head, headerMeans}
 use Rattle.header.specs.declared.Subtype.{Subtype}
-use Rattle.octets.specs.Writing.{room, wrote, after, left, Written}
+use Rattle.octets.specs.Writing.{wrote, left, Written}
 use Rattle.octets.specs.declared.writing.Wrote.{Wrote}
+use Rattle.octets.proofs.Storing.{not-answer, left-not}
 use Rattle.reply.specs.Due.{orNone, bySubtype, behindHeader, dueMeans, dueOf}
 use Rattle.reply.specs.Replies.{tpcAnswer, measurementAnswer, leftBy, Replied}
 use Rattle.reply.specs.declared.due.Due.{Due}
@@ -27,10 +28,6 @@ use Rattle.owed.specs.declared.Readings.{Readings}
 
 apart : {A : Type 0} → _≡_ {A = ℕ} 0 1 → A
 apart e = absurd (omega arith)
-
-impossible : (os : List ℕ) (at : ℕ) (buffer : List ℕ) → refused Refusal.Impossible ≡ wrote false os at buffer
-unfolding wrote room checked
-impossible os at buffer = refl
 
 -- ---- the body behind what is due
 
@@ -118,8 +115,8 @@ unfolding checked left
 replied-judged true e w = replied-written e w
 replied-judged {os = os} {buffer = buffer} false e w =
     record {
-      answers = w .answers ∙ sym (impossible os 0 buffer) ∙ ap (λ (x : Outcome (List ℕ)). andThen x (λ xs. wrote true xs 0 buffer)) e;
-      leaves = w .leaves ∙ sym (ap (λ (x : Outcome ℕ). after x os 0 buffer) (impossible os 0 buffer)) ∙ ap (λ (x : Outcome (List ℕ)). leftBy x buffer) e;
+      answers = w .answers ∙ not-answer os 0 buffer refl ∙ ap (λ (x : Outcome (List ℕ)). andThen x (λ xs. wrote true xs 0 buffer)) e;
+      leaves = w .leaves ∙ left-not os 0 buffer ∙ ap (λ (x : Outcome (List ℕ)). leftBy x buffer) e;
     }
 
 -- ---- the report that is owed

@@ -4,11 +4,11 @@ use mathlib.Core.List.{List, [], _∷_, append-nil}
 use mathlib.Core.Path.{_≡_, refl, sym, ap, _∙_}
 use Prim.Native.Nat.{ℕ, _+_, _≤_}
 use native.Mathlib.Omega.{arith}
-use borrow.Author.Tests.{le-ltb, le-leb}
+use borrow.Author.Tests.{le-leb}
 use lib.Dec.{leb}
 use lib.ListN.{length, take}
-use Rattle.answer.proofs.Judged.{never, stop, past, done}
-use Rattle.answer.specs.Checks.{Outcome, refused, accepted}
+use Rattle.answer.proofs.Judged.{never}
+use Rattle.answer.specs.Checks.{refused, accepted}
 use Rattle.answer.specs.declared.Refusal.{Refusal}
 use Rattle.measure.proofs.ReportLayout.{within, counted}
 use Rattle.measure.specs.MeasurementReport.{reportMay, reportOctets}
@@ -16,24 +16,14 @@ use Rattle.measure.specs.declared.measurement_report.Report.{Report}
 use Rattle.measurement.specs.Bodies.{longestBody, bodyOctets, mayAppend, appended}
 use Rattle.measurement.specs.Lists.{allOctets}
 use Rattle.measurement.specs.Reports.{reportSort}
-use Rattle.octets.specs.Writing.{told, room, wrote, after, left, Written}
+use Rattle.octets.specs.Writing.{told, wrote, left, Written}
 use Rattle.octets.specs.declared.writing.Wrote.{Wrote}
-use Rattle.reply.proofs.Framed.{written-as, in-front}
+use Rattle.octets.proofs.Overwriting.{written-as}
+use Rattle.octets.proofs.Storing.{not-answer, room-answer, front-left, filled-front}
 
 and-true : (b : Bool) → (b && true) ≡ b
 and-true true = refl
 and-true false = refl
-
--- ---- what may not be written
-
-module _ (may : Bool) (os : List ℕ) (at : ℕ) (buffer : List ℕ) (e : may ≡ false) where
-  refusal : refused Refusal.Impossible ≡ wrote may os at buffer
-  unfolding wrote room
-  refusal = stop _ _ _ (rw e)
-
-  pub not-written : Written may os at buffer (Wrote.Refused Refusal.Impossible) buffer
-  unfolding left
-  not-written = record { answers = refusal; leaves = ap (λ (o : Outcome ℕ). after o os at buffer) refusal }
 
 pub refused-as : {may : Bool} {os : List ℕ} {at : ℕ} {buffer exit : List ℕ} {q r : Refusal} → r ≡ q
     → Written may os at buffer (Wrote.Refused q) exit → Written may os at buffer (Wrote.Refused r) exit
@@ -69,18 +59,17 @@ module _ (token : ℕ) (x : Report) where
     as-meant : Written (reportMay x) body 0 buffer answer exit
     as-meant = written-as (first-may eight) first-octets w
 
-    enough : (m : Bool) → m ≡ true → accepted (length body) ≡ wrote m body 0 buffer
-    unfolding wrote room
-    enough m e = past _ _ _ (rw e) (past _ _ _ (le-ltb (length buffer) (0 + length body) (omega (arith, size, short-body eight))) (done _))
+    enough : reportMay x ≡ true → wrote (reportMay x) body 0 buffer ≡ accepted (length body)
+    enough f = ap (λ (m : Bool). wrote m body 0 buffer) f ∙ room-answer body 0 buffer (omega (arith, size, short-body eight))
 
     -- a refusal says that the report may not be written
     pub unwritten : (r : Refusal) → answer ≡ Wrote.Refused r → (reportMay x ≡ false) × (r ≡ Refusal.Impossible)
     unwritten r e = by-may (reportMay x) refl
       where
         by-may : (m : Bool) → reportMay x ≡ m → (reportMay x ≡ false) × (r ≡ Refusal.Impossible)
-        by-may true f = absurd (never (sym (ap told e) ∙ as-meant .answers ∙ sym (enough (reportMay x) f)))
+        by-may true f = absurd (never (sym (ap told e) ∙ as-meant .answers ∙ enough f))
         by-may false f =
-            let same : refused r ≡ refused Refusal.Impossible = sym (ap told e) ∙ as-meant .answers ∙ sym (refusal (reportMay x) body 0 buffer f) in
+            let same : refused r ≡ refused Refusal.Impossible = sym (ap told e) ∙ as-meant .answers ∙ not-answer body 0 buffer f in
             (f, cc)
 
     -- else the first octets of the buffer are the body
@@ -88,8 +77,9 @@ module _ (token : ℕ) (x : Report) where
     built n e = by-may (reportMay x) refl
       where
         by-may : (m : Bool) → reportMay x ≡ m → (reportMay x ≡ true) × (n ≡ length body) × (take n exit ≡ body)
-        by-may false f = absurd (never (refusal (reportMay x) body 0 buffer f ∙ sym (as-meant .answers) ∙ ap told e))
+        by-may false f = absurd (never (sym (not-answer body 0 buffer f) ∙ sym (as-meant .answers) ∙ ap told e))
         by-may true f =
-            let same : accepted n ≡ accepted (length body) = sym (ap told e) ∙ as-meant .answers ∙ sym (enough (reportMay x) f) in
+            let same : accepted n ≡ accepted (length body) = sym (ap told e) ∙ as-meant .answers ∙ enough f in
             let count : n ≡ length body = cc in
-            (f, count, ap (λ (k : ℕ). take k exit) count ∙ in-front body buffer exit (omega (arith, size, short-body eight)) (as-meant .leaves ∙ ap (λ (m : Bool). left m body 0 buffer) f))
+            let leaves = as-meant .leaves ∙ ap (λ (m : Bool). left m body 0 buffer) f ∙ front-left body buffer (omega (arith, size, short-body eight)) in
+            (f, count, filled-front body buffer exit leaves n count)

@@ -7,11 +7,11 @@ use native.Mathlib.Nat.{mod-zero, mod-lt, mod-eq-of-lt, mod-self, mod-add-mod, d
 use native.Mathlib.Omega.{arith}
 use borrow.Author.Tests.{lt-ltb, le-ltb, ltb-true, ltb-false}
 use lib.Dec.{ltb}
-use Rattle.answer.proofs.Booleans.{clash}
+use Rattle.answer.proofs.Booleans.{clash, either}
 use Rattle.schedule.specs.declared.Schedule.{Schedule}
 use Rattle.schedule.specs.Schedules.{Covers, covered}
 use Rattle.schedule.specs.Units.{someUnit}
-use Rattle.schedule.proofs.FirstUnit.{either, some-none, some-one, first}
+use Rattle.schedule.proofs.FirstUnit.{some-none, some-one, first}
 
 zero-or-more : (n : ℕ) → (n ≡ 0) ⊎ (0 < n)
 zero-or-more zero = inl refl

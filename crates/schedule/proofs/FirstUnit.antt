@@ -1,19 +1,14 @@
 -- Some unit of several passes exactly if the first that passes is one of them. Assumes nothing.
 use mathlib.Core.Bool.{Bool, true, false}
-use mathlib.Core.Logic.{_⊎_, inl, inr, ⊎-elim}
+use mathlib.Core.Logic.{⊎-elim}
 use mathlib.Core.Path.{_≡_, refl, sym, ap, _∙_}
 use Prim.Native.Nat.{ℕ, zero, suc, _+_, _-_, _<_, _≤_}
 use native.Mathlib.Nat.{le-refl, eq-or-lt-of-le}
 use native.Mathlib.Omega.{arith}
 use borrow.Author.Tests.{ltb-true, ltb-false}
 use lib.Dec.{ltb}
-use Rattle.answer.proofs.Booleans.{clash, or-go, or-stop}
+use Rattle.answer.proofs.Booleans.{clash, either, or-go, or-stop}
 use Rattle.schedule.specs.Units.{someUnit}
-
--- a test goes one way or the other
-pub either : (t : Bool) → (t ≡ true) ⊎ (t ≡ false)
-either true = inl refl
-either false = inr refl
 
 module _ (test : ℕ → Bool) where
   pub some-none : (a n : ℕ) → ((u : ℕ) → a ≤ u → u < a + n → test u ≡ false) → someUnit test a n ≡ false

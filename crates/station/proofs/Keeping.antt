@@ -10,7 +10,7 @@ use borrow.Author.Tests.{ltb-true, ltb-false, eqb-false}
 use lib.Dec.{ltb, eqb, lit≤}
 use lib.ListN.{length, replicate, length-map, length-append, length-replicate}
 use lib.Seq.{drop-at}
-use Rattle.answer.proofs.Booleans.{neither}
+use Rattle.answer.proofs.Booleans.{either, neither}
 use Rattle.beacon.specs.Allowed.{SwitchAllowed, Allowed}
 use Rattle.beacon.specs.Beacons.{quietLimit, Said}
 use Rattle.beacon.specs.declared.MaybePower.{MaybePower}
@@ -23,7 +23,6 @@ use Rattle.frame.specs.Actions.{requests, reports, tpcRequest, tpcReport, switc
 use Rattle.frame.specs.Allowed.{KindAllowed}
 use Rattle.frame.specs.Frames.{Kind, beacon, probeResponse, action}
 use Rattle.octets.specs.Numbers.{bit, octet}
-use Rattle.schedule.proofs.FirstUnit.{either}
 use Rattle.schedule.specs.Schedules.{setBy}
 use Rattle.schedule.specs.declared.Schedule.{Schedule}
 use Rattle.station.specs.Clock.{switched, clocked, met, reachOf}

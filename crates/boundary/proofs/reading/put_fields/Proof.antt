@@ -10,7 +10,7 @@ use denote.Ref.{now}
 use lib.ListN.{length, length-append}
 use Rattle.octets.specs.Writing.{left, Written}
 use Rattle.octets.specs.declared.writing.Wrote.{Wrote}
-use Rattle.reply.proofs.Framed.{short-written, parts-written}
+use Rattle.octets.proofs.Storing.{short-written, parts-written}
 use Rattle.boundary.specs.Fields.{headFields, quietFields}
 use Rattle.boundary.proofs.Slots.{size}
 use Rattle.boundary.proofs.reading.put_fields.Statement.{statement}
@@ -37,7 +37,6 @@ returns-2 c =
     (parts-written head (quietFields (a .quiets)) (now (a .out)) 38 refl (omega (arith, many, room))
     (first .last .1 .1 .0) _
     (first .ensures .leaves ∙ ap (λ (os : List ℕ). left true os 0 (now (a .out))) (k .before .head .ensures))
-    (search needs)
     (second .ensures .leaves ∙ ap (λ (os : List ℕ). left true os 38 (first .last .1 .1 .0)) (k .slots .ensures)))
 
 pub put-fields-spec : {M : Type 1} → statement M

@@ -16,7 +16,7 @@ returns c =
     let a = c .before .before .before .args in
     let eight : length (a .report .densities) ≡ 8 = search needs in
     let s = saidBy (a .report .matter) in
-    rw (c .before .span-fields .ensures, c .before .before .said-by .ensures)
+    rw (c .before .to-octets .ensures, c .before .before .said-by .ensures)
     (ap (λ (ds : List ℕ). (a .report .token ∷ a .report .kind ∷ s .says ∷ s .value ∷ []) ++ (spanOctets (s .span) ++ ds)) (in-a-row 8 (a .report .densities) eight))
 
 pub of-report-spec : {M : Type 1} → statement M

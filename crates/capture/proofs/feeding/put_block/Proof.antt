@@ -10,7 +10,7 @@ use lib.ListN.{length, take, drop, length-take, length-drop}
 use Rattle.block.proofs.Judging.{used-within}
 use Rattle.block.specs.Blocks.{blockMeans}
 use Rattle.block.specs.declared.Block.{Block}
-use Rattle.measurement.proofs.OneCall.{filled}
+use Rattle.octets.specs.Writing.{filled}
 use Rattle.record.specs.Records.{recordsIn}
 use Rattle.capture.specs.Feeding.{Fed}
 use Rattle.capture.specs.Following.{Sound, Listed}

@@ -6,13 +6,14 @@ use native.Mathlib.Omega.{arith}
 use borrow.Author.Needs.{needs}
 use denote.Ref.{now}
 use lib.ListN.{length}
-use Rattle.measurement.proofs.OneCall.{filled}
+use Rattle.octets.specs.Writing.{filled}
+use Rattle.octets.proofs.Storing.{front-left}
 use Rattle.text.specs.declared.words.Word.{Word}
 use Rattle.capture.specs.Following.{lineFor}
 use Rattle.capture.specs.Listers.{without, oneBlockMore, Fits}
 use Rattle.capture.specs.Lists.{Told, line, damagedTold}
 use Rattle.capture.specs.declared.lister.Lister.{Lister}
-use Rattle.capture.proofs.Fitting.{fits-damaged, first-line}
+use Rattle.capture.proofs.Fitting.{fits-damaged}
 use Rattle.capture.proofs.feeding.put_damaged.Statement.{statement}
 use Rattle.capture.proofs.feeding.put_damaged.Tie as tie
 
@@ -38,7 +39,7 @@ returns c =
         many = p .1 .0 .0 ∙ ap (λ (t : Told). 0 + length (t .text)) same ∙ (let e : 0 + length (damagedTold (a .lister) .text) ≡ length (damagedTold (a .lister) .text) = omega arith in e);
         fits = subst Fits (sym lister) (fits-damaged (a .lister) (k .before .before .before .pre .0) (k .before .before .before .pre .1 .0));
       },
-      first-line _ (now (a .out)) _ (omega (arith, p .1 .0, k .before .before .before .pre .1 .1)) (p .1 .1) ∙ ap (λ (t : Told). filled (t .text) (now (a .out))) same,
+      p .1 .1 ∙ front-left _ (now (a .out)) (omega (arith, p .1 .0, k .before .before .before .pre .1 .1)) ∙ ap (λ (t : Told). filled (t .text) (now (a .out))) same,
     )
 
 pub put-damaged-spec : {M : Type 1} → statement M

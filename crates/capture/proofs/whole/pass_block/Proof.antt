@@ -8,8 +8,9 @@ use borrow.Author.Needs.{needs}
 use denote.Ref.{now}
 use lib.ListN.{length, length-take}
 use Rattle.octets.specs.Writing.{left}
+use Rattle.octets.proofs.Storing.{left-short, filled-inside, filled-front}
 use Rattle.capture.specs.Lists.{Told, blockTold}
-use Rattle.capture.proofs.Passes.{left-short, in-room, from-room, too-long, fitting}
+use Rattle.capture.proofs.Passes.{too-long, fitting}
 use Rattle.capture.proofs.whole.pass_block.Statement.{statement}
 use Rattle.capture.proofs.whole.pass_block.Tie as tie
 
@@ -20,14 +21,14 @@ toldIn c = let a = c .before .before .before .before .before .args in blockTold 
 -- its lines lie in the room
 made : (c : tie.After-put-block) → length (toldIn c .text) ≤ length (c .put-block .last .1 .1 .0)
 made c = let same : length (c .put-block .last .1 .1 .0) ≡ length (now (c .before .before .before .before .before .args .room)) = search needs in
-    omega (arith, same, in-room (toldIn c .text) _ _ (c .put-block .ensures .1) same)
+    omega (arith, same, filled-inside (toldIn c .text) _ _ (c .put-block .ensures .1) same)
 
 returns : tie.Need-returns
 returns c =
     let k = c .before .before .before in
     let a = k .before .before .before .before .before .args in
     let long : length (now (a .out)) < a .count + length (toldIn k .text) = omega (arith, c .if1 .taken, k .put-block .ensures .0 .many) in
-    (too-long (a .count) (toldIn k) _ (k .before .before .before .before .before .pre .1 .2) (a .lister) long, sym (left-short (a .store) (toldIn k .text) (a .count) _ long))
+    (too-long (a .count) (toldIn k) _ (k .before .before .before .before .before .pre .1 .2) (a .lister) long, sym (left-short (toldIn k .text) (a .count) _ long (a .store)))
 
 slice-reshare-prefix-put : tie.Need-slice-reshare-prefix-put
 slice-reshare-prefix-put c = let k = c .before .before .before in omega (arith, made k, k .put-block .ensures .0 .many)
@@ -43,7 +44,7 @@ returns-2 c =
     let a = k .before .before .before .before .before .args in
     let many = k .put-block .ensures .0 .many in (
       fitting (a .count) (toldIn k) _ (k .before .before .before .before .before .pre .1 .2) (k .put-block .result .lister) _ (omega (arith, many)) (omega (arith, many, c .before .before .before .before .before .before .if1 .left, k .before .before .before .before .before .pre .1 .2)) (k .put-block .ensures .0 .same) (k .put-block .ensures .0 .fits),
-      c .before .before .before .put .ensures .leaves ∙ ap (λ (os : List ℕ). left (a .store) os (a .count) (now (a .out))) (from-room (toldIn k .text) _ _ _ (k .put-block .ensures .1) many),
+      c .before .before .before .put .ensures .leaves ∙ ap (λ (os : List ℕ). left (a .store) os (a .count) (now (a .out))) (filled-front (toldIn k .text) _ _ (k .put-block .ensures .1) _ many),
     )
 
 pub pass-block-spec : {M : Type 1} → statement M

@@ -10,7 +10,8 @@ use denote.Ref.{now}
 use lib.ListN.{length, length-append}
 use Rattle.octets.specs.Writing.{left}
 use Rattle.reply.specs.Frames.{replyHead, replyFrame}
-use Rattle.reply.proofs.Framed.{head-length, short-written, parts-written}
+use Rattle.octets.proofs.Storing.{short-written, parts-written}
+use Rattle.reply.proofs.Framed.{head-length}
 use Rattle.reply.proofs.framing.put_frame.Statement.{statement}
 use Rattle.reply.proofs.framing.put_frame.Tie as tie
 
@@ -35,7 +36,6 @@ returns-2 c =
     parts-written (replyHead (a .own) (a .ap)) (now (a .body)) (now (a .buffer)) 24 (sym (head-length (a .own) (a .ap) own ap')) (omega (arith, b .if1 .left))
     _ _
     (first .ensures .leaves ∙ ap (λ (os : List ℕ). left true os 0 (now (a .buffer))) (c .before .before .before .before .before .before .before .before .before .head .ensures))
-    (search needs)
     (c .before .before .put2 .ensures .leaves)
 
 pub put-frame-spec : {M : Type 1} → statement M

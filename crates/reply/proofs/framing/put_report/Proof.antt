@@ -10,8 +10,9 @@ use denote.Ref.{now}
 use lib.ListN.{length, take, replicate, length-take}
 use Rattle.measure.specs.MeasurementReport.{reportMay}
 use Rattle.reply.specs.Frames.{replyFrame}
-use Rattle.reply.proofs.Framed.{written-as}
-use Rattle.reply.proofs.OneReport.{body, short-body, not-written, refused-as, unwritten, built}
+use Rattle.octets.proofs.Overwriting.{written-as}
+use Rattle.octets.proofs.Storing.{not-written}
+use Rattle.reply.proofs.OneReport.{body, short-body, refused-as, unwritten, built}
 use Rattle.reply.proofs.framing.put_report.Statement.{statement}
 use Rattle.reply.proofs.framing.put_report.Tie as tie
 
@@ -46,7 +47,7 @@ returns : tie.Need-returns
 returns c =
     let a = c .before .before .before .before .before .before .before .args in
     let w = unwritten (a .token) (a .report) (search needs) (replicate 27 0) _ _ refl (c .before .before .before .before .append .ensures) _ (c .before .refusal .given .1) in
-    refused-as (w .1) (not-written (reportMay (a .report)) (replyFrame (a .own) (a .ap) (body (a .token) (a .report))) 0 (now (a .buffer)) (w .0))
+    refused-as (w .1) (not-written (replyFrame (a .own) (a .ap) (body (a .token) (a .report))) 0 (now (a .buffer)) (w .0))
 
 returns-2 : tie.Need-returns-2
 returns-2 c =

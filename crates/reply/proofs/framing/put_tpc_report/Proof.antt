@@ -8,7 +8,8 @@ use Rattle.action.specs.Singles.{tpcReportBody}
 use Rattle.element.specs.TpcReport.{tpcReportOctets}
 use Rattle.element.specs.declared.tpc_report.TpcReport.{TpcReport}
 use Rattle.reply.specs.Frames.{replyFrame}
-use Rattle.reply.proofs.Framed.{written-as, exactly}
+use Rattle.octets.proofs.Overwriting.{written-as}
+use Rattle.reply.proofs.Framed.{exactly}
 use Rattle.reply.proofs.framing.put_tpc_report.Statement.{statement}
 use Rattle.reply.proofs.framing.put_tpc_report.Tie as tie
 

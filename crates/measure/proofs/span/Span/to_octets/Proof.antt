@@ -1,7 +1,7 @@
--- `span::to_octets` meets its contract: the octets of the numbers, in a row.
+-- `Span::to_octets` meets its contract: the octets of the numbers, in a row.
 use borrow.Author.Needs.{needs}
-use Rattle.measure.proofs.span.to_octets.Statement.{statement}
-use Rattle.measure.proofs.span.to_octets.Tie as tie
+use Rattle.measure.proofs.span.Span.to_octets.Statement.{statement}
+use Rattle.measure.proofs.span.Span.to_octets.Tie as tie
 
 returns : tie.Need-returns
 returns c = rw (c .octets16 .ensures, c .before .octets64 .ensures)
