@@ -27,6 +27,21 @@ fn finding(sort: u64, value: u64) -> Finding {
     }
 }
 
+fn readings(n: [u64; 16]) -> Readings {
+    let finding = finding(n[5], n[6]);
+    let times = [
+        short(n[7]),
+        short(n[8]),
+        short(n[9]),
+        short(n[10]),
+        short(n[11]),
+        short(n[12]),
+        short(n[13]),
+        short(n[14]),
+    ];
+    Readings { finding, times }
+}
+
 // The first octets, and whether the others are as they were.
 fn octets(buffer: &[u8; 64], count: usize) {
     let mut kept = true;
@@ -88,18 +103,7 @@ pub fn measurement(n: [u64; 16], octets: [u8; line::ROOM], count: usize) {
     let mut frame = [0u8; 2496];
     let mut buffer = [BLANK; 64];
     let room = (n[1] % 65) as usize;
-    let finding = finding(n[5], n[6]);
-    let times = [
-        short(n[7]),
-        short(n[8]),
-        short(n[9]),
-        short(n[10]),
-        short(n[11]),
-        short(n[12]),
-        short(n[13]),
-        short(n[14]),
-    ];
-    let readings = Readings { finding, times };
+    let readings = readings(n);
     let length = size(n, count, 15);
     octets::put(true, &octets[15..], &mut frame, 0);
     let clock = short(n[3]);

@@ -65,23 +65,11 @@ impl Station {
     {
         let pending = self.pending;
         match advance_clock(self.clock, pending, units) {
-            Advanced::Refused => {
-                let answer = Answer::Refused(Refusal::PastClock);
-                Stepped {
-                    answer,
-                    station: self,
-                }
-            }
-            Advanced::Goes(moment) => {
-                let station = self.clocked(moment);
-                let answer = Answer::Accepted;
-                Stepped { answer, station }
-            }
-            Advanced::Switches { moment, channel } => {
-                let station = self.clocked(moment).switched(channel);
-                let answer = Answer::Accepted;
-                Stepped { answer, station }
-            }
+            Advanced::Refused => Stepped::refused(Refusal::PastClock, self),
+            Advanced::Goes(moment) => Stepped::accepted(self.clocked(moment)),
+            Advanced::Switches { moment, channel } => Stepped::accepted(
+                self.clocked(moment).switched(channel),
+            ),
         }
     }
 }

@@ -12,7 +12,10 @@ pub use clock::advance_clock;
 pub use pending::Pending;
 pub use starting::Started;
 ghost use mathlib.Core.Path.{_≡_};
-ghost use Rattle.station.specs.Clock.{switched};
+ghost use Rattle.answer.specs.Checks.{refused, accepted};
+ghost use Rattle.station.specs.Clock.{stepped, switched};
+use answer::Answer;
+use answer::Refusal;
 use beacon::MaybePower;
 use schedule::Schedule;
 
@@ -60,6 +63,28 @@ impl Station {
             schedules: [Station::NO_SCHEDULE; Station::SCHEDULE_LIMIT],
             count: 0,
             ..self
+        }
+    }
+}
+
+impl Stepped {
+    // A refused call leaves the station as it was.
+    fn refused(refusal: Refusal, station: Station) -> Stepped
+        ensures { λ r. ⌜ r ≡ stepped station (refused refusal) ⌝ }
+    {
+        Stepped {
+            answer: Answer::Refused(refusal),
+            station,
+        }
+    }
+
+    // An accepted call leaves this station.
+    fn accepted(station: Station) -> Stepped
+        ensures { λ r. ⌜ r ≡ stepped station (accepted station) ⌝ }
+    {
+        Stepped {
+            answer: Answer::Accepted,
+            station,
         }
     }
 }

@@ -9,7 +9,6 @@ ghost use Rattle.station.specs.Validity.{Valid};
 use crate::Pending;
 use crate::Station;
 use crate::Stepped;
-use answer::Answer;
 use beacon::MaybePower;
 use beacon::MaybeSwitch;
 use beacon::Notice;
@@ -127,17 +126,10 @@ impl Station {
         let reading = received.reading;
         let quiets = received.quiets;
         match reading {
-            Reading::Refused(refusal) => {
-                let answer = Answer::Refused(refusal);
-                Stepped {
-                    answer,
-                    station: self,
-                }
-            }
+            Reading::Refused(refusal) => Stepped::refused(refusal, self),
             Reading::Is(accepted) => {
                 let station = self.heard(accepted, quiets, received.count);
-                let answer = Answer::Accepted;
-                Stepped { answer, station }
+                Stepped::accepted(station)
             }
         }
     }

@@ -1,6 +1,6 @@
 -- `Station::advance` meets its contract, and the station stays valid: it does what `advance_clock` says.
 -- Assumes nothing.
-use mathlib.Core.Path.{_≡_, refl, sym, ap, _∙_, subst}
+use mathlib.Core.Path.{_≡_, sym, ap, _∙_, subst}
 use borrow.Author.Needs.{needs}
 use Rattle.answer.specs.Checks.{accepted}
 use Rattle.station.specs.Clock.{stepped, switched, advanceOf}
@@ -21,18 +21,21 @@ does c k x told e =
     (e ∙ w .0, subst (λ (y : Stepped). Valid (y .station)) (sym e) (w .1))
 
 returns : tie.Need-returns
-returns c = does (c .before .before) Advanced.Refused _ (c .enum-told .given .1) refl
+returns c = does (c .before .before .before) Advanced.Refused _ (c .before .enum-told .given .1) (c .refused .ensures)
 
 returns-2 : tie.Need-returns-2
 returns-2 c =
-    let k = c .before .before .before .before in
-    does k _ _ (c .before .before .moment .given .1) (ap (λ (s : Station). stepped (k .before .args .self) (accepted s)) (c .clocked .ensures))
+    let k = c .before .before .before .before .before in
+    does k _ _ (c .before .before .before .moment .given .1)
+    (c .accepted .ensures ∙ ap (λ (s : Station). stepped (k .before .args .self) (accepted s)) (c .before .clocked .ensures))
 
 returns-3 : tie.Need-returns-3
 returns-3 c =
-    let k = c .before .before .before .before .before in
-    let m = c .before .before .before .moment2 .given in
-    does k _ _ (m .1) (ap (λ (s : Station). stepped (k .before .args .self) (accepted s)) (c .switched .ensures ∙ ap (λ (s : Station). switched s (m .0 .1 .0)) (c .before .clocked2 .ensures)))
+    let k = c .before .before .before .before .before .before in
+    let m = c .before .before .before .before .moment2 .given in
+    does k _ _ (m .1)
+    (c .accepted2 .ensures
+    ∙ ap (λ (s : Station). stepped (k .before .args .self) (accepted s)) (c .before .switched .ensures ∙ ap (λ (s : Station). switched s (m .0 .1 .0)) (c .before .before .clocked2 .ensures)))
 
 pub advance-spec : {M : Type 1} → statement M
 advance-spec =
@@ -40,9 +43,12 @@ advance-spec =
     (tie.spec
     (λ c κs. search needs)
     (λ c. search needs)
-    (λ c. search needs)
     (λ c κs. search needs)
     (λ c. search needs)
+    (λ c κs. search needs)
+    (λ c κs. search needs)
+    (λ c. search needs)
+    (λ c κs. search needs)
     (λ c κs. search needs)
     (λ c κs. search needs)
     returns

@@ -7,6 +7,7 @@ use Rattle.station.specs.Clock.{stepped}
 use Rattle.station.specs.Taking.{heard, takeMeans}
 use Rattle.station.specs.Validity.{Valid}
 use Rattle.station.specs.declared.Station.{Station}
+use Rattle.station.specs.declared.clock.Stepped.{Stepped}
 use Rattle.station.proofs.Hearing.{Meant, refusal-meant, frame-meant}
 use Rattle.station.proofs.Keeping.{valid-heard}
 use Rattle.station.proofs.Station.take.Statement.{statement}
@@ -23,19 +24,22 @@ heard-requires c κs = (c .before .before .before .before .before .before .befor
 
 returns : tie.Need-returns
 returns c =
-    let s = c .before .before .before .before .before .before .before .before in (
-      ap (stepped (s .args .self)) (refusal-meant _ _ _ _ (c .before .before .before .before .read .ensures) (c .before .reading .given .1)),
-      s .pre,
+    let s = c .before .before .before .before .before .before .before .before .before in
+    let e = c .before .before .before .before .before .read .ensures in
+    let same = c .refused .ensures in (
+      same ∙ ap (stepped (s .args .self)) (refusal-meant _ _ _ _ e (c .before .before .reading .given .1)),
+      subst (λ (x : Stepped). Valid (x .station)) (sym same) (s .pre),
     )
 
 returns-2 : tie.Need-returns-2
 unfolding takeMeans
 returns-2 c =
-    let s = c .before .before .before .before .before .before .before .before .before in
-    let m = meant (c .before) in
-    let same : c .heard .result ≡ heard (s .args .self) (m .sent .kind) = c .heard .ensures ∙ m .hears in (
-      ap (λ (x : Station). stepped (s .args .self) (accepted x)) same ∙ rw (m .means),
-      subst Valid (sym same) (valid-heard _ (m .sent .kind) (s .pre) (m .allowed)),
+    let s = c .before .before .before .before .before .before .before .before .before .before in
+    let m = meant (c .before .before) in
+    let same : c .before .heard .result ≡ heard (s .args .self) (m .sent .kind) = c .before .heard .ensures ∙ m .hears in
+    let is = c .accepted .ensures ∙ ap (λ (x : Station). stepped (s .args .self) (accepted x)) same in (
+      is ∙ rw (m .means),
+      subst (λ (x : Stepped). Valid (x .station)) (sym is) (valid-heard _ (m .sent .kind) (s .pre) (m .allowed)),
     )
 
 pub take-spec : {M : Type 1} → statement M
@@ -44,7 +48,9 @@ take-spec =
     (tie.spec
     (λ c κs. search needs)
     (λ c. search needs)
+    (λ c κs. search needs)
     (λ c. search needs)
     heard-requires
+    (λ c κs. search needs)
     returns
     returns-2)
