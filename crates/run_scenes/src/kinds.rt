@@ -7,12 +7,12 @@ use crate::replies;
 use crate::show;
 use scene::line;
 use scene::line::Line;
+use scene::numbers;
 use scene::reads;
-use scene::say;
 use scene::writes;
 use station::Station;
 
-// A call that asks no station. A kind that there is not must not go by unseen.
+// A call that asks no station.
 fn alone(kind: u8, numbers: [u64; 16], octets: [u8; line::ROOM], count: usize) {
     match kind {
         12 => frames::read(0, octets, (numbers[1] % 2401) as usize),
@@ -25,7 +25,7 @@ fn alone(kind: u8, numbers: [u64; 16], octets: [u8; line::ROOM], count: usize) {
         16 => writes::show(numbers, octets),
         17 => replies::tpc(numbers, octets, count),
         18 => replies::measurement(numbers, octets, count),
-        _ => say::text(b" unknown"),
+        _ => numbers::show(kind, numbers),
     }
 }
 

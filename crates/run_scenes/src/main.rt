@@ -24,6 +24,10 @@
 //   17 a request to be replied to by a TPC Report: room of the buffer, zeros behind the frame's octets, power and margin as octets, the frame's octets
 //   18 a request to be replied to by a Measurement Report: room, zeros, clock, index, what is found (0 refused, 1 a map, 2 a busy time, 3 times), the map
 //      or the busy time, eight times, the frame's octets
+//   19 the centre of a channel: the channel
+//   20 the signed number of an octet: the octet
+//   21 a busy fraction: time in µs, duration in TU
+//   22 eight densities: the first six times in µs, which are alike, the last two, duration in TU
 //
 // Kinds 1 to 4 are those of a capture's records. Of 7 and 8, which only make a scene ready, nothing is told unless the station refuses them. What
 // cannot be run is told in words: a moment that is gone, a kind or an element that is unknown, a call that is too long, with more than 128 numbers.
