@@ -1,4 +1,6 @@
 pub mod Coded
 pub mod InARow
+pub mod Passes
 pub mod Slots
 pub mod Unlaid
+pub mod Wholes

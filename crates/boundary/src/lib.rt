@@ -10,6 +10,7 @@ mod reading;
 mod records;
 mod replies;
 mod reports;
+mod whole;
 
 pub use bodies::oneiralth_append_report;
 pub use bodies::oneiralth_append_request;

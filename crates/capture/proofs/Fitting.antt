@@ -85,6 +85,10 @@ module _ (l : Lister) (b out : List ℕ) where
       unfolding fedBy
       fed-lines put w = rw (le-ltb (length out) 10944 h, lt-leb 36028797018963968 (l .blocks) k, w .same, w .many)
 
+      pub feeds : fedBy l b (length out) ≡ linesOf (blockTold b l)
+      unfolding fedBy
+      feeds = rw (le-ltb (length out) 10944 h, lt-leb 36028797018963968 (l .blocks) k)
+
       pub left-lines : filled (blockTold b l .text) out ≡ leftBy l b out
       unfolding leftBy
       left-lines = rw (le-ltb (length out) 10944 h, lt-leb 36028797018963968 (l .blocks) k)

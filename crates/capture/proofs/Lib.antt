@@ -2,7 +2,5 @@ pub mod Advancing
 pub mod Answering
 pub mod Cutting
 pub mod Fitting
-pub mod Passes
 pub mod Recording
 pub mod Sounding
-pub mod Wholes

@@ -2,5 +2,4 @@ pub mod Feeding
 pub mod Following
 pub mod Listers
 pub mod Lists
-pub mod Passing
 pub mod Stepping

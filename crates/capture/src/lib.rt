@@ -4,9 +4,7 @@ mod lister;
 mod listing;
 mod noting;
 mod stepping;
-mod whole;
 
 pub use feeding::Feed;
 pub use feeding::Listing;
 pub use lister::Lister;
-pub use whole::list;

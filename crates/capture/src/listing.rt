@@ -25,7 +25,7 @@ pub struct Put {
 }
 
 // A text behind what the buffer holds already: how many octets there are then.
-pub fn put_text(text: Text, out: &mut [u8], count: usize) -> usize
+fn put_text(text: Text, out: &mut [u8], count: usize) -> usize
     requires { ⌜ (text .from ≤ 64) × (count + (64 - text .from) ≤ length (now out)) ⌝ }
     ensures { λ r. ⌜ r ≡ count + (64 - text .from) ⌝ }
     ensures { λ _. ⌜ now (out .exit) ≡ left true (drop (text .from) (text .bytes)) count (now (out .entry)) ⌝ }

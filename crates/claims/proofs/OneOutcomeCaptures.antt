@@ -9,7 +9,6 @@ use Rattle.block.proofs.end_after as End-after
 use Rattle.block.proofs.judge as Judge
 use Rattle.capture.proofs.lister.Lister.feed as Feed-block
 use Rattle.capture.proofs.lister.Lister.fresh as Fresh
-use Rattle.capture.proofs.list as List-whole
 use Rattle.record.proofs.entry_of as Entry-of
 use Rattle.record.proofs.settings_in as Settings-in
 use Rattle.record.proofs.record_at as Record-at
@@ -22,7 +21,7 @@ use Rattle.text.proofs.closing as Closing
 use Rattle.text.proofs.line as Line
 use Rattle.claims.specs.Outcomes.{OneResult, OneOutcome}
 use Rattle.claims.proofs.OneOutcomeWalk.{long}
-use Rattle.claims.proofs.Same.{once, told-once, written-once}
+use Rattle.claims.proofs.Same.{once, told-once}
 
 pub block-judge : OneResult 1 Judge.Kinds.ps Judge.Kinds.r Judge.Reads.Post
 block-judge κs a e f x y p q = once p q
@@ -44,9 +43,6 @@ lister-fresh κs a e f x y p q = once (p .0) (q .0)
 
 pub lister-feed : OneOutcome 2 Feed-block.Kinds.ps Feed-block.Kinds.r Feed-block.Reads.Post (λ κs e. now (e .1 .1 .0))
 lister-feed κs a e f x y p q = (once (p .0) (q .0), once (p .1 .1) (q .1 .1))
-
-pub capture-list : OneOutcome 2 List-whole.Kinds.ps List-whole.Kinds.r List-whole.Reads.Post (λ κs e. now (e .1 .0))
-capture-list κs a e f x y p q = written-once p q
 
 -- ---- records
 

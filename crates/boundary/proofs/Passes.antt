@@ -11,13 +11,13 @@ use Rattle.block.proofs.Ending.{end-inside, end-whole}
 use Rattle.block.specs.Blocks.{endAfter}
 use Rattle.octets.specs.Writing.{left}
 use Rattle.octets.proofs.Storing.{left-not, left-short, left-nothing, left-length, left-behind}
 use Rattle.capture.specs.Listers.{Fits}
 use Rattle.capture.specs.Lists.{Told, nothing, before, blockTold, blocksBehind, blocksIn, blocksTold, fileTold}
-use Rattle.capture.specs.Passing.{Passed}
+use Rattle.boundary.specs.Passing.{Passed}
 use Rattle.capture.specs.declared.lister.Lister.{Lister}
-use Rattle.capture.specs.declared.whole.Progress.{Progress}
+use Rattle.boundary.specs.declared.whole.Progress.{Progress}
 use Rattle.capture.proofs.Cutting.{next-block, one-more}
 use Rattle.capture.proofs.Recording.{before-before}
 
 module _ (count : ℕ) (t : Told) (size : ℕ) (within : count ≤ size) where
   pub too-long : (l : Lister) → size < count + length (t .text) → Passed count t size (record { fits = false; count = count; lister = l })

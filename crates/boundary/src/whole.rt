@@ -4,13 +4,12 @@ ghost use mathlib.Core.Path.{_≡_};
 ghost use Prim.Native.Nat.{_<_, _≤_};
 ghost use lib.ListN.{length};
 ghost use Rattle.octets.specs.Writing.{left, Written};
 ghost use Rattle.capture.specs.Listers.{Fits};
 ghost use Rattle.capture.specs.Lists.{blockTold, fileTold, listOf};
-ghost use Rattle.capture.specs.Passing.{Passed};
-use crate::Lister;
-use crate::feeding;
-use crate::listing;
+ghost use Rattle.boundary.specs.Passing.{Passed};
 use answer::Refusal;
+use capture::Feed;
+use capture::Lister;
 use octets::Wrote;
 use text::Text;
 
@@ -21,7 +20,29 @@ pub struct Progress {
     pub lister: Lister,
 }
 
-// The lines of one block more, made in `room`, and stored behind the lines before them where `store` says so.
+// Lines behind those before them, where they fit: stored where `store` says so.
+fn put_lines(lister: Lister, lines: &[u8], store: bool, out: &mut [u8], count: usize) -> Progress
+    requires { ⌜ Fits lister ⌝ }
+    requires { ⌜ count ≤ length (now out) ⌝ }
+    ensures { λ r. ⌜ Passed count (record { lister = lister; text = now (lines .entry) }) (length (now (out .entry))) r ⌝ }
+    ensures { λ _. ⌜ now (out .exit) ≡ left store (now (lines .entry)) count (now (out .entry)) ⌝ }
+{
+    if out.len() - count < lines.len() {
+        return Progress {
+            fits: false,
+            count,
+            lister,
+        };
+    }
+    octets::put(store, lines, out, count);
+    Progress {
+        fits: true,
+        count: count + lines.len(),
+        lister,
+    }
+}
+
+// The lines of one block more, made in `room`, which always suffices; and no slice has so many blocks that a lister is full.
 fn pass_block(
     lister: Lister,
     block: &[u8],
@@ -35,21 +56,18 @@ fn pass_block(
     ensures { λ r. ⌜ Passed count (blockTold (now (block .entry)) lister) (length (now (out .entry))) r ⌝ }
     ensures { λ _. ⌜ now (out .exit) ≡ left store (blockTold (now (block .entry)) lister .text) count (now (out .entry)) ⌝ }
 {
-    let put = feeding::put_block(lister, block, room);
-    let many = put.count;
-    if out.len() - count < many {
-        return Progress {
-            fits: false,
-            count,
-            lister,
-        };
-    }
-    octets::put(store, &room[..many], out, count);
-    let lister = put.lister;
-    Progress {
-        fits: true,
-        count: count + many,
+    let listing = lister.feed(block, room);
+    let feed = listing.feed;
+    let next = listing.lister;
+    let stopped = Progress {
+        fits: false,
+        count,
         lister,
+    };
+    match feed {
+        Feed::Lines(many) => put_lines(next, &room[..many], store, out, count),
+        Feed::NoRoom => stopped,
+        Feed::Full => stopped,
     }
 }
 
@@ -89,10 +107,15 @@ pub fn list(file: &[u8], out: &mut [u8]) -> Wrote
     }
     let lister = lines.lister;
     let closing = text::closing(lister.blocks, lister.damaged);
+    let bytes = closing.bytes;
+    let from = closing.from;
     let count = lines.count;
-    if out.len() - count < Text::ROOM - closing.from {
+    let last = Text::ROOM - from;
+    if out.len() - count < last {
         return Wrote::Refused(Refusal::BufferShort);
     }
+    let total = count + last;
     pass_all(file, true, out);
-    Wrote::Length(listing::put_text(closing, out, count))
+    octets::put(true, &bytes[from..], out, count);
+    Wrote::Length(total)
 }

@@ -3,21 +3,22 @@
 use mathlib.Core.Bool.{true}
 use mathlib.Core.List.{List}
 use mathlib.Core.Path.{_≡_, sym, ap, _∙_}
-use Prim.Native.Nat.{ℕ, _+_, _≤_}
+use Prim.Native.Nat.{ℕ, _+_, _-_, _≤_}
 use native.Mathlib.Omega.{arith}
 use borrow.Author.Needs.{needs}
 use borrow.Author.Tests.{leb-false, not-true, not-false}
 use denote.Ref.{now}
-use lib.ListN.{length}
+use lib.ListN.{length, take, drop, length-drop}
+use lib.Seq.{take-all}
 use Rattle.answer.proofs.Booleans.{clash}
 use Rattle.octets.specs.Writing.{left}
 use Rattle.text.proofs.InRoom as InRoom
 use Rattle.text.specs.Lines.{closingOf}
 use Rattle.capture.specs.Lists.{fileTold, listOf}
 use Rattle.capture.specs.declared.lister.Lister.{Lister}
-use Rattle.capture.proofs.Wholes.{list-length, same-out, too-short, whole}
-use Rattle.capture.proofs.whole.list.Statement.{statement}
-use Rattle.capture.proofs.whole.list.Tie as tie
+use Rattle.boundary.proofs.Wholes.{list-length, same-out, too-short, whole}
+use Rattle.boundary.proofs.whole.list.Statement.{statement}
+use Rattle.boundary.proofs.whole.list.Tie as tie
 
 pass-all-requires : tie.Need-pass-all-requires
 pass-all-requires c κs = λ e. clash (sym e)
@@ -69,8 +70,8 @@ total c =
     let same = ap (λ (l : Lister). length (closingOf (l .blocks) (l .damaged))) (p .ensures .0 .same (fits c)) in
     omega (arith, list-length (fileIn (passIn c)), p .ensures .0 .many (fits c), same)
 
-sub-if2-2 : tie.Need-sub-if2-2
-sub-if2-2 c = omega (arith, place (c .before))
+sub-last : tie.Need-sub-last
+sub-last c = omega (arith, place (c .before))
 
 returns-2 : tie.Need-returns-2
 returns-2 c =
@@ -96,27 +97,37 @@ pass-all-requires-2 c κs =
 second-size : (c : tie.After-pass-all2) → length (c .pass-all2 .last .1 .1 .0) ≡ length (passIn (c .before .before .before .before) .pass-all .last .1 .1 .0)
 second-size c = search needs
 
-put-text-requires : tie.Need-put-text-requires
-put-text-requires c κs =
-    let k = c .before .before .before in
-    let e = k .before .before in
-    let t = e .before .before in
-    (omega (arith, place t), omega (arith, place t, total t, enough e, second-size k, same-size (passIn t)))
+-- ---- the closing line is put
+
+sub-put : tie.Need-sub-put
+sub-put c = omega (arith, place (c .before .before .before .before .before .before))
+
+part-put-start : tie.Need-part-put-start
+part-put-start c = omega (arith, place (c .before .before .before .before .before .before .before))
+
+part-put-end : tie.Need-part-put-end
+part-put-end c =
+    let t = c .before .before .before .before .before .before .before in
+    omega (arith, place t, sixty-four t)
 
 returns-3 : tie.Need-returns-3
 returns-3 c =
-    let put = c .before .before .put-text in
-    let second = c .before .before .before .before .before .before in
+    let put = c .before .before .put in
+    let second = c .before .before .before .before .before .before .before .before in
     let e = second .before .before in
     let t = e .before .before in
     let k = passIn t in
     let p = k .pass-all in
+    let x = t .closing .result in
+    let os : take (64 - x .from) (drop (x .from) (x .bytes)) ≡ closingIn t =
+    take-all (64 - x .from) (drop (x .from) (x .bytes)) (omega (arith, length-drop (x .from) (x .bytes), sixty-four t)) ∙ InRoom.from-place x (closingIn t) (t .closing .ensures)
+    in
     whole (fileIn k) (outIn k) _ (p .ensures .1) _ _ (p .result .lister) (p .result .count) _ (second .pass-all2 .ensures .1)
-    (put .ensures .1 ∙ ap (λ (os : List ℕ). left true os (p .result .count) (second .pass-all2 .last .1 .1 .0)) (InRoom.from-place (t .closing .result) (closingIn t) (t .closing .ensures)))
+    (put .ensures .leaves ∙ ap (λ (xs : List ℕ). left true xs (p .result .count) (second .pass-all2 .last .1 .1 .0)) os)
     (p .ensures .0 .same (fits t))
     (omega (arith, p .ensures .0 .many (fits t)))
-    (omega (arith, place t, put .ensures .0))
-    (omega (arith, enough e, total t, place t, put .ensures .0))
+    (omega (arith, place t))
+    (omega (arith, enough e, total t, place t))
 
 pub list-spec : {M : Type 1} → statement M
 list-spec =
@@ -126,11 +137,15 @@ list-spec =
     (λ c. search needs)
     returns
     (λ c κs. search needs)
+    sub-last
     (λ c. search needs)
-    sub-if2-2
     (λ c. search needs)
     returns-2
+    (λ c. search needs)
     pass-all-requires-2
-    put-text-requires
+    sub-put
+    part-put-start
+    part-put-end
+    (λ c κs. search needs)
     (λ c. search needs)
     returns-3)

@@ -4,9 +4,9 @@ use mathlib.Core.Path.{_≡_}
 use Prim.Native.Nat.{ℕ, _+_, _≤_}
 use lib.Dec.{leb}
 use lib.ListN.{length}
 use Rattle.capture.specs.Listers.{Fits}
 use Rattle.capture.specs.Lists.{Told}
-use Rattle.capture.specs.declared.whole.Progress.{Progress}
+use Rattle.boundary.specs.declared.whole.Progress.{Progress}
 
 -- behind so many octets of lines, and in a buffer of `size`, this was told
 pub record Passed (count : ℕ) (told : Told) (size : ℕ) (progress : Progress) : Type 0 where

@@ -9,12 +9,12 @@ use denote.Ref.{now}
 use lib.ListN.{length}
 use borrow.Author.Tests.{not-true, not-false}
 use Rattle.block.proofs.Ending.{end-inside}
 use Rattle.capture.specs.Listers.{fresh}
 use Rattle.capture.specs.Lists.{blocksIn, blocksTold, fileTold}
 use Rattle.capture.specs.declared.lister.Lister.{Lister}
-use Rattle.capture.proofs.Passes.{Standing, begins, same-size, passed-all, passes, stops}
-use Rattle.capture.proofs.whole.pass_all.Statement.{statement}
-use Rattle.capture.proofs.whole.pass_all.Tie as tie
+use Rattle.boundary.proofs.Passes.{Standing, begins, same-size, passed-all, passes, stops}
+use Rattle.boundary.proofs.whole.pass_all.Statement.{statement}
+use Rattle.boundary.proofs.whole.pass_all.Tie as tie
 
 abbrev Inv-loop : tie.InvT-loop
 Inv-loop file store out₀ room₀ next₀ at₀ out room next at =
