@@ -22,12 +22,12 @@ use Rattle.frame.proofs.Allowing.{frame-allowed}
 use Rattle.frame.specs.Actions.{Body, requests, reports, tpcRequest, tpcReport, switch}
 use Rattle.frame.specs.Allowed.{KindAllowed}
 use Rattle.frame.specs.Frames.{Kind, beacon, probeResponse, action, Sent, frameMeans}
+use Rattle.pending.specs.declared.Pending.{Pending}
 use Rattle.schedule.specs.Schedules.{setBy}
 use Rattle.station.specs.Clock.{switched, clocked, met, reachOf, advanceMeans, advanceOf}
 use Rattle.station.specs.Stations.{inUse}
 use Rattle.station.specs.Taking.{schedulesOf, rescheduled, constrained, announced, announcedIf, told, heard, takeMeans, takeOf}
 use Rattle.station.specs.declared.Station.{Station}
-use Rattle.station.specs.declared.pending.Pending.{Pending}
 use Rattle.claims.specs.Histories.{Settings, Call, frame, advance, ask, History, clockAfter, Hears, Says, announcementIn, Tells, Announces, Latest, Throughout}
 use Rattle.claims.specs.Records.{recordAfter, Agrees}
 use Rattle.claims.specs.Standing.{NoAnnouncement, Switches, at-once, reached, NoSwitch, ChannelIs, PowerIs, PendingIs, SetsEach, SchedulesAre}

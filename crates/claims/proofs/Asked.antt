@@ -9,12 +9,12 @@ use borrow.Author.Tests.{lt-ltb, le-ltb, ltb-true, ltb-false, eq-eqb, ne-eqb, eq
 use lib.Dec.{ltb, eqb}
 use Rattle.answer.proofs.Booleans.{clash, either}
 use Rattle.element.specs.declared.channel_switch.ChannelSwitch.{ChannelSwitch}
+use Rattle.pending.specs.Waiting.{silences, upTo, comesBefore}
+use Rattle.pending.specs.declared.Pending.{Pending}
 use Rattle.station.specs.Asking.{firstOf, quietIn, permissionOf}
 use Rattle.station.specs.Stations.{inUse}
-use Rattle.station.specs.Waiting.{silences, upTo, comesBefore}
 use Rattle.station.specs.declared.Station.{Station}
 use Rattle.station.specs.declared.asking.Permission.{Permission}
-use Rattle.station.specs.declared.pending.Pending.{Pending}
 use Rattle.claims.specs.Histories.{Settings, History, clockAfter}
 use Rattle.claims.specs.OpenUnits.{QuietUnit, AllOpen, Waits, QuietLater, SwitchWithin, Applies}
 use Rattle.claims.specs.Records.{Agrees}

@@ -9,11 +9,11 @@ use lib.Seq.{length-take-le}
 use Rattle.beacon.specs.Beacons.{Said, quietLimit}
 use Rattle.beacon.specs.declared.MaybePower.{MaybePower}
 use Rattle.element.specs.declared.quiet.Quiet.{Quiet}
+use Rattle.pending.specs.declared.Pending.{Pending}
 use Rattle.schedule.specs.declared.Schedule.{Schedule}
 use Rattle.station.specs.Stations.{inUse, noSchedule}
 use Rattle.station.specs.Validity.{Valid}
 use Rattle.station.specs.declared.Station.{Station}
-use Rattle.station.specs.declared.pending.Pending.{Pending}
 use Rattle.claims.specs.Histories.{Settings, History}
 use Rattle.claims.specs.Records.{Agrees}
 use Rattle.claims.specs.Standing.{Sets, SetsEach, SchedulesAre}

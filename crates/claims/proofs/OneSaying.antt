@@ -11,7 +11,7 @@ use Rattle.beacon.specs.declared.MaybeSwitch.{MaybeSwitch}
 use Rattle.element.specs.declared.channel_switch.ChannelSwitch.{ChannelSwitch}
 use Rattle.element.specs.declared.power_constraint.PowerConstraint.{PowerConstraint}
 use Rattle.frame.specs.Frames.{Kind, beacon, probeResponse, action, Sent}
-use Rattle.station.specs.declared.pending.Pending.{Pending}
+use Rattle.pending.specs.declared.Pending.{Pending}
 use Rattle.claims.specs.Histories.{Settings, Call, frame, advance, ask, History, clockAfter, Hears, Says, announcementIn, Tells, Announces, Constrains, Latest, Throughout}
 use Rattle.claims.specs.Standing.{NoAnnouncement, LastAnnounced, Switches, at-once, reached, NoSwitch, Counts, ChannelIs, LastConstrained, PowerIs, PendingIs}
 use Rattle.claims.specs.Tbtts.{CountedTo}

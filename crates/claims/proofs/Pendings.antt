@@ -5,8 +5,8 @@ use mathlib.Core.Path.{_≡_, refl, ap, _∙_, subst}
 use Prim.Native.Nat.{ℕ, _+_, _*_, _/_, _<_, _≤_}
 use native.Mathlib.Omega.{arith}
 use Rattle.element.specs.declared.channel_switch.ChannelSwitch.{ChannelSwitch}
+use Rattle.pending.specs.declared.Pending.{Pending}
 use Rattle.station.proofs.Keeping.{moment-after}
-use Rattle.station.specs.declared.pending.Pending.{Pending}
 use Rattle.claims.specs.Histories.{Settings, Call, History, clockAfter, Announces, Latest}
 use Rattle.claims.specs.Standing.{NoAnnouncement, Awaits, Switches, at-once, reached, NoSwitch, PendingIs}
 use Rattle.claims.specs.Tbtts.{CountedTo}

@@ -16,12 +16,12 @@ use Rattle.element.specs.Quiet.{quietMeans}
 use Rattle.frame.specs.Actions.{actionMeans}
 use Rattle.frame.specs.Frames.{frameMeans}
 use Rattle.header.specs.Headers.{foreignHeader, foreignAddress, toAll, headerMeans}
+use Rattle.pending.specs.declared.Pending.{Pending}
 use Rattle.schedule.specs.Schedules.{covered}
 use Rattle.schedule.specs.Units.{someUnit}
 use Rattle.station.specs.Asking.{firstOf, quietIn, permissionOf}
 use Rattle.station.specs.Clock.{advanceMeans}
 use Rattle.station.specs.Taking.{announced, told, takeMeans}
-use Rattle.station.specs.declared.pending.Pending.{Pending}
 use Rattle.walk.specs.Elements.{elementsBehind, elementsIn}
 use Rattle.claims.specs.Histories.{frame, advance}
 use Rattle.claims.specs.Moments.{Moment, asking, AllRight, ours, heard, beaconOf, quiet, announcement}

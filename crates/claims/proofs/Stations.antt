@@ -10,15 +10,16 @@ use denote.Triple.Clauses.{AtExit}
 use Rattle.answer.specs.Checks.{Outcome, refused, accepted}
 use Rattle.answer.specs.declared.Answer.{Answer}
 use Rattle.answer.specs.declared.Refusal.{Refusal}
+use Rattle.pending.proofs.Pending.comes_before as Comes-before
+use Rattle.pending.proofs.Pending.set_by as Pending-set-by
+use Rattle.pending.proofs.Pending.silences as Silences
+use Rattle.pending.proofs.Pending.up_to as Up-to
 use Rattle.station.proofs.Station.advance as Advance
 use Rattle.station.proofs.Station.ask as Ask
 use Rattle.station.proofs.Station.start as Start
 use Rattle.station.proofs.Station.take as Take
 use Rattle.station.proofs.asking.Permission.number as Permission-number
 use Rattle.station.proofs.advance_clock as Advance-clock
-use Rattle.station.proofs.pending.Pending.comes_before as Comes-before
-use Rattle.station.proofs.pending.Pending.silences as Silences
-use Rattle.station.proofs.pending.Pending.up_to as Up-to
 use Rattle.station.specs.Clock.{stepped, advanceMeans}
 use Rattle.station.specs.Starting.{blank}
 use Rattle.station.specs.Taking.{takeMeans}
@@ -45,6 +46,9 @@ ask κs a e f x y p q = once p q
 
 pub permission-number : OneResult 0 Permission-number.Kinds.ps Permission-number.Kinds.r Permission-number.Reads.Post
 permission-number κs a e f x y p q = once p q
+
+pub pending-set-by : OneResult 0 Pending-set-by.Kinds.ps Pending-set-by.Kinds.r Pending-set-by.Reads.Post
+pending-set-by κs a e f x y p q = once p q
 
 pub pending-silences : OneResult 0 Silences.Kinds.ps Silences.Kinds.r Silences.Reads.Post
 pending-silences κs a e f x y p q = once p q

@@ -10,8 +10,8 @@ use Rattle.beacon.specs.declared.MaybePower.{MaybePower}
 use Rattle.element.specs.declared.channel_switch.ChannelSwitch.{ChannelSwitch}
 use Rattle.element.specs.declared.power_constraint.PowerConstraint.{PowerConstraint}
 use Rattle.element.specs.declared.quiet.Quiet.{Quiet}
+use Rattle.pending.specs.declared.Pending.{Pending}
 use Rattle.schedule.specs.declared.Schedule.{Schedule}
-use Rattle.station.specs.declared.pending.Pending.{Pending}
 use Rattle.claims.specs.Histories.{Settings, Call, History, clockAfter, Tells, Announces, Constrains, Latest, Throughout}
 use Rattle.claims.specs.Tbtts.{CountedTo}
 

@@ -5,6 +5,7 @@ use Prim.Native.Nat.{ℕ, _+_}
 use lib.Dec.{ltb}
 use Rattle.answer.specs.Checks.{refused, accepted, pick, checked}
 use Rattle.answer.specs.declared.Refusal.{Refusal}
+use Rattle.pending.specs.declared.Pending.{Pending}
 use Rattle.station.specs.Clock.{stepped, switched, clocked, met, reachOf, advanceMeans, advanceOf}
 use Rattle.station.specs.Stations.{clockLimit, longest}
 use Rattle.station.specs.Advancing.{reached, clockAdvance, advancedBy}
@@ -12,7 +13,6 @@ use Rattle.station.specs.Validity.{Valid}
 use Rattle.station.specs.declared.Station.{Station}
 use Rattle.station.specs.declared.clock.Stepped.{Stepped}
 use Rattle.station.specs.declared.clock.Advanced.{Advanced}
-use Rattle.station.specs.declared.pending.Pending.{Pending}
 use Rattle.station.proofs.Keeping.{valid-reach}
 
 module _ (s : Station) (t : ℕ) where

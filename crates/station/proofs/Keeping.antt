@@ -23,6 +23,7 @@ use Rattle.frame.specs.Actions.{requests, reports, tpcRequest, tpcReport, switc
 use Rattle.frame.specs.Allowed.{KindAllowed}
 use Rattle.frame.specs.Frames.{Kind, beacon, probeResponse, action}
 use Rattle.octets.specs.Numbers.{bit, octet}
+use Rattle.pending.specs.declared.Pending.{Pending}
 use Rattle.schedule.specs.Schedules.{setBy}
 use Rattle.schedule.specs.declared.Schedule.{Schedule}
 use Rattle.station.specs.Clock.{switched, clocked, met, reachOf}
@@ -31,7 +32,6 @@ use Rattle.station.specs.Stations.{fresh, noSchedule}
 use Rattle.station.specs.Taking.{passed, schedulesOf, rescheduled, constrained, announced, announcedIf, told, heard}
 use Rattle.station.specs.Validity.{PendingFits, Valid}
 use Rattle.station.specs.declared.Station.{Station}
-use Rattle.station.specs.declared.pending.Pending.{Pending}
 
 pub valid-fresh : (own ap : List ℕ) (b channel : ℕ) → startForbids own ap b channel ≡ false → Valid (fresh own ap b channel)
 valid-fresh own ap b channel e =

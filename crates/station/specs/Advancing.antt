@@ -3,12 +3,12 @@ use Prim.Native.Nat.{ℕ, _+_}
 use lib.Dec.{ltb}
 use Rattle.answer.specs.Checks.{refused, accepted, pick}
 use Rattle.answer.specs.declared.Refusal.{Refusal}
+use Rattle.pending.specs.declared.Pending.{Pending}
 use Rattle.station.specs.Clock.{stepped, switched, clocked}
 use Rattle.station.specs.Stations.{clockLimit, longest}
 use Rattle.station.specs.declared.Station.{Station}
 use Rattle.station.specs.declared.clock.Stepped.{Stepped}
 use Rattle.station.specs.declared.clock.Advanced.{Advanced}
-use Rattle.station.specs.declared.pending.Pending.{Pending}
 
 -- with the clock at t, a switch that lies no later has come
 abbrev pub reached : Pending → ℕ → Advanced

@@ -4,11 +4,11 @@ use mathlib.Core.List.{List, [], _∷_}
 use Prim.Native.Nat.{ℕ, _+_, _-_}
 use lib.Dec.{ltb, eqb}
 use Rattle.answer.specs.Checks.{pick}
+use Rattle.pending.specs.Waiting.{silences, upTo, comesBefore}
 use Rattle.schedule.specs.Schedules.{covered}
 use Rattle.schedule.specs.Units.{someUnit}
 use Rattle.schedule.specs.declared.Schedule.{Schedule}
 use Rattle.station.specs.Stations.{longest, inUse}
-use Rattle.station.specs.Waiting.{silences, upTo, comesBefore}
 use Rattle.station.specs.declared.Station.{Station}
 use Rattle.station.specs.declared.asking.Permission.{Permission}
 

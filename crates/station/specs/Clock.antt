@@ -7,10 +7,10 @@ use Rattle.answer.specs.Checks.{Outcome, refused, accepted, _⇒_, judged, pick
 use Rattle.answer.specs.declared.Answer.{Answer}
 use Rattle.answer.specs.declared.Refusal.{Refusal}
 use Rattle.beacon.specs.declared.MaybePower.{MaybePower}
+use Rattle.pending.specs.declared.Pending.{Pending}
 use Rattle.station.specs.Stations.{clockLimit, longest, emptySlots}
 use Rattle.station.specs.declared.Station.{Station}
 use Rattle.station.specs.declared.clock.Stepped.{Stepped}
-use Rattle.station.specs.declared.pending.Pending.{Pending}
 
 -- the answer of a call that may be refused, and the station after it
 abbrev pub stepped : Station → Outcome Station → Stepped

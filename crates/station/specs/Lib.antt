@@ -6,4 +6,3 @@ pub mod Starting
 pub mod Stations
 pub mod Taking
 pub mod Validity
-pub mod Waiting

@@ -5,9 +5,9 @@ use Prim.Native.Nat.{ℕ}
 use lib.ListN.{take, replicate}
 use Rattle.beacon.specs.Beacons.{quietLimit}
 use Rattle.beacon.specs.declared.MaybePower.{MaybePower}
+use Rattle.pending.specs.declared.Pending.{Pending}
 use Rattle.schedule.specs.declared.Schedule.{Schedule}
 use Rattle.station.specs.declared.Station.{Station}
-use Rattle.station.specs.declared.pending.Pending.{Pending}
 
 -- the last moment that the clock tells
 abbrev pub clockLimit : ℕ

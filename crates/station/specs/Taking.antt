@@ -1,6 +1,6 @@
 -- Taking a frame (01, "The station"): what an accepted one changes.
 use mathlib.Core.List.{List, _++_, map}
-use Prim.Native.Nat.{ℕ, _+_, _-_, _*_, _/_}
+use Prim.Native.Nat.{ℕ, _-_, _/_}
 use lib.Dec.{eqb}
 use lib.ListN.{length, replicate}
 use Rattle.answer.specs.Checks.{Outcome, accepted, pick, andThen}
@@ -11,13 +11,14 @@ use Rattle.element.specs.declared.channel_switch.ChannelSwitch.{ChannelSwitch}
 use Rattle.element.specs.declared.quiet.Quiet.{Quiet}
 use Rattle.frame.specs.Actions.{requests, reports, tpcRequest, tpcReport, switch}
 use Rattle.frame.specs.Frames.{Kind, beacon, probeResponse, action, frameMeans}
+use Rattle.pending.specs.Waiting.{pendingBy}
+use Rattle.pending.specs.declared.Pending.{Pending}
 use Rattle.schedule.specs.Schedules.{setBy}
 use Rattle.schedule.specs.declared.Schedule.{Schedule}
 use Rattle.station.specs.Clock.{stepped, switched}
 use Rattle.station.specs.Stations.{noSchedule}
 use Rattle.station.specs.declared.Station.{Station}
 use Rattle.station.specs.declared.clock.Stepped.{Stepped}
-use Rattle.station.specs.declared.pending.Pending.{Pending}
 
 -- k, the whole part of t / B
 abbrev pub passed : Station → ℕ
@@ -80,7 +81,7 @@ awaiting s p =
 unfoldable pub announced : Station → ChannelSwitch → Station
 announced s w =
     pick (eqb (w .count) 0) (switched s (w .channel))
-    (awaiting s (Pending.Switch ((passed s + w .count) * s .interval) (w .mode) (w .channel)))
+    (awaiting s (pendingBy w (passed s) (s .interval)))
 
 abbrev pub announcedIf : Station → MaybeSwitch → Station
 announcedIf s MaybeSwitch.Absent = s

@@ -6,9 +6,9 @@ use lib.ListN.{length, drop, replicate}
 use Rattle.beacon.specs.Beacons.{quietLimit}
 use Rattle.channel.specs.Centres.{highest}
 use Rattle.octets.specs.Numbers.{bit, octet}
+use Rattle.pending.specs.declared.Pending.{Pending}
 use Rattle.station.specs.Stations.{noSchedule}
 use Rattle.station.specs.declared.Station.{Station}
-use Rattle.station.specs.declared.pending.Pending.{Pending}
 
 -- a pending switch lies after the clock, and says what an accepted announcement may say
 abbrev pub PendingFits : ℕ → Pending → Type 0

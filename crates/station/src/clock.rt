@@ -3,10 +3,10 @@ ghost use mathlib.Core.Path.{_≡_};
 ghost use Rattle.station.specs.Advancing.{clockAdvance};
 ghost use Rattle.station.specs.Clock.{clocked, advanceOf};
 ghost use Rattle.station.specs.Validity.{Valid};
-use crate::Pending;
 use crate::Station;
 use answer::Answer;
 use answer::Refusal;
+use pending::Pending;
 
 // What an advance comes to: it is refused, or the clock goes to a moment, with no switch reached by then or with this one.
 pub enum Advanced {

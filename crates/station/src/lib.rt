@@ -1,7 +1,6 @@
 // The station (document 01, "The station"; 802.11h 11.6.2 and 11.6.7).
 mod asking;
 mod clock;
-mod pending;
 mod starting;
 mod taking;
 
@@ -9,7 +8,6 @@ pub use asking::Permission;
 pub use clock::Advanced;
 pub use clock::Stepped;
 pub use clock::advance_clock;
-pub use pending::Pending;
 pub use starting::Started;
 ghost use mathlib.Core.Path.{_≡_};
 ghost use Rattle.answer.specs.Checks.{refused, accepted};
@@ -17,6 +15,7 @@ ghost use Rattle.station.specs.Clock.{stepped, switched};
 use answer::Answer;
 use answer::Refusal;
 use beacon::MaybePower;
+use pending::Pending;
 use schedule::Schedule;
 
 // What one station keeps between calls. The first `count` slots are the quiet schedules in use, the others are blank.

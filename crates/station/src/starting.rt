@@ -4,11 +4,11 @@ ghost use Rattle.answer.specs.declared.Answer.{Answer};
 ghost use Rattle.station.specs.Starting.{blank, startForbids, started, startMeans};
 ghost use Rattle.station.specs.Stations.{fresh};
 ghost use Rattle.station.specs.Validity.{Valid};
-use crate::Pending;
 use crate::Station;
 use answer::Answer;
 use answer::Refusal;
 use beacon::MaybePower;
+use pending::Pending;
 
 // What starting a station answers. Behind a refusal stands one fixed station that no call may be handed.
 pub struct Started {

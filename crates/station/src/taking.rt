@@ -6,7 +6,6 @@ ghost use Rattle.beacon.specs.Beacons.{quietLimit};
 ghost use Rattle.station.specs.Handing.{saidIn, heardAs};
 ghost use Rattle.station.specs.Taking.{passed, rescheduled, constrained, announced, told, takeOf};
 ghost use Rattle.station.specs.Validity.{Valid};
-use crate::Pending;
 use crate::Station;
 use crate::Stepped;
 use beacon::MaybePower;
@@ -17,6 +16,7 @@ use element::channel_switch::ChannelSwitch;
 use element::quiet::Quiet;
 use frame::Frame;
 use frame::Reading;
+use pending::Pending;
 use schedule::Schedule;
 
 impl Station {
@@ -70,13 +70,7 @@ impl Station {
         if switch.count == 0 {
             return self.switched(switch.channel);
         }
-        let passed = self.passed();
-        let at = ((passed as u64) + (switch.count as u64)) * (self.interval as u64);
-        let pending = Pending::Switch {
-            at,
-            mode: switch.mode,
-            channel: switch.channel,
-        };
+        let pending = Pending::set_by(switch, self.passed(), self.interval);
         Station { pending, ..self }
     }
 

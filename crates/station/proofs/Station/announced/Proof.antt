@@ -1,9 +1,6 @@
 -- `Station::announced` meets its contract: the switch itself, or one that is pending.
 -- Assumes nothing.
 use mathlib.Core.Path.{_∙_}
-use Prim.Native.Nat.{_+_}
-use native.Mathlib.Nat.{mul-le-mul}
-use native.Mathlib.Omega.{arith}
 use borrow.Author.Needs.{needs}
 use borrow.Author.Tests.{eq-eqb, ne-eqb}
 use Rattle.station.specs.Taking.{announced}
@@ -14,25 +11,11 @@ returns : tie.Need-returns
 unfolding announced
 returns c = c .switched .ensures ∙ rw (eq-eqb _ _ (c .before .if1 .taken))
 
-mul-at : tie.Need-mul-at
-mul-at c =
-    let a = c .before .before .before .before .before .args in
-    omega (arith, mul-le-mul {n₁ = c .before .before .passed .result + a .switch .count} {m₁ = a .self .interval} {n₂ = 4294967550} {m₂ = 65535} (omega arith) (omega arith))
-
 returns-2 : tie.Need-returns-2
 unfolding announced
-returns-2 c = rw (ne-eqb _ _ (c .before .before .before .before .before .before .if1 .left), c .before .before .before .before .before .passed .ensures)
+returns-2 c =
+    rw (ne-eqb _ _ (c .before .before .before .before .before .if1 .left), c .before .before .before .set-by .ensures, c .before .before .before .before .passed .ensures)
 
 pub announced-spec : {M : Type 1} → statement M
 announced-spec =
-    tie.close
-    (tie.spec
-    (λ c κs. search needs)
-    returns
-    (λ c κs. search needs)
-    (λ c. search needs)
-    (λ c. search needs)
-    (λ c. search needs)
-    (λ c. search needs)
-    mul-at
-    returns-2)
+    tie.close (tie.spec (λ c κs. search needs) returns (λ c κs. search needs) (λ c κs. search needs) returns-2)

@@ -6,9 +6,9 @@ use mathlib.Core.Path.{_≡_, sym, ap, _∙_}
 use Prim.Native.Nat.{_+_}
 use borrow.Author.Needs.{needs}
 use borrow.Author.Tests.{eq-eqb, ne-eqb, lt-ltb, le-ltb}
+use Rattle.pending.specs.Waiting.{silences, upTo, comesBefore}
 use Rattle.station.specs.Asking.{quietIn, _gives_, firstOf, permissionOf}
 use Rattle.station.specs.Stations.{inUse}
-use Rattle.station.specs.Waiting.{silences, upTo, comesBefore}
 use Rattle.station.specs.declared.asking.Permission.{Permission}
 use Rattle.station.proofs.Answers.{past, stop, done}
 use Rattle.station.proofs.Station.ask.Statement.{statement}

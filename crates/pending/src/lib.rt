@@ -1,6 +1,7 @@
 // A pending channel switch (document 01, "The station"; 802.11h 11.6.7).
 ghost use mathlib.Core.Path.{_≡_};
-ghost use Rattle.station.specs.Waiting.{silences, upTo, comesBefore};
+ghost use Rattle.pending.specs.Waiting.{pendingBy, silences, upTo, comesBefore};
+use element::channel_switch::ChannelSwitch;
 
 pub enum Pending {
     Nothing,
@@ -8,6 +9,19 @@ pub enum Pending {
 }
 
 impl Pending {
+    // The switch that an announcement sets when so many whole beacon intervals have passed: its count is one of TBTTs, not of intervals from now.
+    // Every factor has a narrow type, so nothing wraps.
+    pub fn set_by(switch: ChannelSwitch, passed: u32, interval: u16) -> Pending
+        ensures { λ r. ⌜ r ≡ pendingBy switch passed interval ⌝ }
+    {
+        let at = ((passed as u64) + (switch.count as u64)) * (interval as u64);
+        Pending::Switch {
+            at,
+            mode: switch.mode,
+            channel: switch.channel,
+        }
+    }
+
     // Whether nothing may be sent until the switch.
     pub fn silences(self) -> bool
         ensures { λ r. ⌜ r ≡ silences self ⌝ }

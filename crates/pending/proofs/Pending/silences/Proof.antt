@@ -2,9 +2,9 @@
 -- Assumes nothing.
 use mathlib.Core.Path.{sym, ap}
 use borrow.Author.Needs.{needs}
-use Rattle.station.specs.Waiting.{silences}
-use Rattle.station.proofs.pending.Pending.silences.Statement.{statement}
-use Rattle.station.proofs.pending.Pending.silences.Tie as tie
+use Rattle.pending.specs.Waiting.{silences}
+use Rattle.pending.proofs.Pending.silences.Statement.{statement}
+use Rattle.pending.proofs.Pending.silences.Tie as tie
 
 returns-2 : tie.Need-returns-2
 returns-2 c = sym (ap silences (c .before .self .given .1))

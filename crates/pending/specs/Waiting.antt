@@ -1,9 +1,14 @@
--- The pending switch, if any, as a question meets it (01, "The station").
+-- The pending switch, if any: what an announcement sets, and how a question meets it (01, "The station").
 use mathlib.Core.Bool.{Bool, false}
-use Prim.Native.Nat.{ℕ}
+use Prim.Native.Nat.{ℕ, _+_, _*_}
 use lib.Dec.{ltb, eqb}
 use Rattle.answer.specs.Checks.{pick}
-use Rattle.station.specs.declared.pending.Pending.{Pending}
+use Rattle.element.specs.declared.channel_switch.ChannelSwitch.{ChannelSwitch}
+use Rattle.pending.specs.declared.Pending.{Pending}
+
+-- the switch of an announcement of count c ≥ 1, k beacon intervals of b units having passed: at (k + c) times b
+abbrev pub pendingBy : ChannelSwitch → ℕ → ℕ → Pending
+pendingBy w k b = Pending.Switch ((k + w .count) * b) (w .mode) (w .channel)
 
 -- a mode-1 switch is pending
 abbrev pub silences : Pending → Bool

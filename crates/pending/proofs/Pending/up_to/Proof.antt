@@ -2,8 +2,8 @@
 -- Assumes nothing.
 use borrow.Author.Needs.{needs}
 use borrow.Author.Tests.{lt-ltb, le-ltb}
-use Rattle.station.proofs.pending.Pending.up_to.Statement.{statement}
-use Rattle.station.proofs.pending.Pending.up_to.Tie as tie
+use Rattle.pending.proofs.Pending.up_to.Statement.{statement}
+use Rattle.pending.proofs.Pending.up_to.Tie as tie
 
 returns-2 : tie.Need-returns-2
 returns-2 c = rw (c .before .before .self .given .1, lt-ltb _ _ (c .if1 .taken))

@@ -1,8 +1,8 @@
 -- `Pending::comes_before` meets its contract, case by case.
 -- Assumes nothing.
 use borrow.Author.Needs.{needs}
-use Rattle.station.proofs.pending.Pending.comes_before.Statement.{statement}
-use Rattle.station.proofs.pending.Pending.comes_before.Tie as tie
+use Rattle.pending.proofs.Pending.comes_before.Statement.{statement}
+use Rattle.pending.proofs.Pending.comes_before.Tie as tie
 
 returns-2 : tie.Need-returns-2
 returns-2 c = rw (c .before .self .given .1)
