@@ -1,3 +1,4 @@
 pub mod Checks
 pub mod Numbers
+pub mod Outcomes
 pub mod Sums

@@ -1,5 +1,6 @@
 pub mod Coded
 pub mod InARow
+pub mod OneOutcome
 pub mod Passes
 pub mod Slots
 pub mod Unlaid

@@ -10,7 +10,6 @@ pub mod HistoriesTell
 pub mod ListedFiles
 pub mod MomentsHold
 pub mod Numbers
-pub mod OneOutcomeBoundary
 pub mod OneOutcomeCaptures
 pub mod OneOutcomeElements
 pub mod OneOutcomeFrames

@@ -19,7 +19,7 @@ use Rattle.record.specs.declared.entry.Entry.{Entry}
 use Rattle.station.proofs.Station.nobody as Nobody
 use Rattle.text.proofs.closing as Closing
 use Rattle.text.proofs.line as Line
-use Rattle.claims.specs.Outcomes.{OneResult, OneOutcome}
+use Rattle.answer.specs.Outcomes.{OneResult, OneOutcome}
 use Rattle.claims.proofs.OneOutcomeWalk.{long}
 use Rattle.claims.proofs.Same.{once, told-once}
 

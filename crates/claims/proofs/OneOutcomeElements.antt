@@ -47,7 +47,7 @@ use Rattle.measure.proofs.measurement_report.to_octets as Report-to-octets
 use Rattle.measure.proofs.span.Span.none as Span-none
 use Rattle.measure.proofs.span.Span.to_octets as Span-to-octets
 use Rattle.measure.proofs.measurement_report.refused as Report-refused
-use Rattle.claims.specs.Outcomes.{OneResult, OneOutcome}
+use Rattle.answer.specs.Outcomes.{OneResult, OneOutcome}
 use Rattle.claims.proofs.Same.{once, told-once, written-once}
 
 power-of : Outcome PowerConstraint → Power-reading.Reading

@@ -32,7 +32,7 @@ use Rattle.measurement.proofs.reports.append as Reports-append
 use Rattle.measurement.proofs.reports.survey as Reports-survey
 use Rattle.measurement.proofs.requests.append as Requests-append
 use Rattle.measurement.proofs.requests.survey as Requests-survey
-use Rattle.claims.specs.Outcomes.{OneResult, OneOutcome}
+use Rattle.answer.specs.Outcomes.{OneResult, OneOutcome}
 use Rattle.claims.proofs.OneOutcomeElements.{switch-of, switch-told, request-of, request-told, tpc-report-of, tpc-report-told, tpc-request-of, tpc-request-told}
 use Rattle.claims.proofs.Same.{once, told-once, written-once}
 

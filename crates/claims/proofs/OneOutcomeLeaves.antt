@@ -20,7 +20,7 @@ use Rattle.octets.proofs.octets64 as Octets64
 use Rattle.octets.proofs.from_signed as From-signed
 use Rattle.octets.proofs.to_signed as To-signed
 use Rattle.octets.proofs.put as Put
-use Rattle.claims.specs.Outcomes.{OneResult, OneOutcome}
+use Rattle.answer.specs.Outcomes.{OneResult, OneOutcome}
 use Rattle.claims.proofs.Same.{once, told-once, written-once}
 
 pub refusal-number : OneResult 0 Refusal-number.Kinds.ps Refusal-number.Kinds.r Refusal-number.Reads.Post

@@ -9,7 +9,7 @@ use lib.Seq.{length-take-le}
 use Rattle.walk.proofs.element_at as Element-at
 use Rattle.walk.specs.Found.{follow, Within}
 use Rattle.walk.specs.declared.Found.{Found}
-use Rattle.claims.specs.Outcomes.{OneResult}
+use Rattle.answer.specs.Outcomes.{OneResult}
 
 -- contents that lie in the run are as long as the places say
 pub long : (run : List ℕ) (start stop : ℕ) → start ≤ stop → stop ≤ length run → length (take (stop - start) (drop start run)) ≡ stop - start

@@ -12,7 +12,7 @@ use Rattle.owed.proofs.report_for as Report-for
 use Rattle.reply.proofs.to_measurement_request as To-measurement-request
 use Rattle.reply.proofs.to_tpc_request as To-tpc-request
 use Rattle.reply.specs.Replies.{leftBy, Replied}
-use Rattle.claims.specs.Outcomes.{OneOutcome, OneResult}
+use Rattle.answer.specs.Outcomes.{OneOutcome, OneResult}
 use Rattle.claims.proofs.Same.{once, told-once, answer, answer-told}
 
 replied-once : {o : Outcome (List ℕ)} {buffer : List ℕ} {x y : Wrote} {e f : List ℕ} → Replied o buffer x e → Replied o buffer y f → (x ≡ y) × (e ≡ f)

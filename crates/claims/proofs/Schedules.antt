@@ -9,7 +9,7 @@ use Rattle.schedule.proofs.FirstUnit.{found, some-one}
 use Rattle.schedule.specs.Schedules.{Covers, covered}
 use Rattle.schedule.specs.Units.{someUnit}
 use Rattle.schedule.specs.declared.Schedule.{Schedule}
-use Rattle.claims.specs.Outcomes.{OneResult}
+use Rattle.answer.specs.Outcomes.{OneResult}
 use Rattle.claims.proofs.Same.{once}
 
 pub set-by : OneResult 0 Set-by.Kinds.ps Set-by.Kinds.r Set-by.Reads.Post

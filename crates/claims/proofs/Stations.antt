@@ -26,7 +26,7 @@ use Rattle.station.specs.Taking.{takeMeans}
 use Rattle.station.specs.Validity.{Valid}
 use Rattle.station.specs.declared.Station.{Station}
 use Rattle.station.specs.declared.clock.Stepped.{Stepped}
-use Rattle.claims.specs.Outcomes.{OneResult}
+use Rattle.answer.specs.Outcomes.{OneResult}
 use Rattle.claims.proofs.Same.{once}
 
 pub start : OneResult 0 Start.Kinds.ps Start.Kinds.r Start.Reads.Post

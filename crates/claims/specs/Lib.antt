@@ -6,7 +6,6 @@ pub mod HistoryLines
 pub mod Moments
 pub mod Numbered
 pub mod OpenUnits
-pub mod Outcomes
 pub mod Records
 pub mod Runs
 pub mod Standing

@@ -5,30 +5,29 @@ use mathlib.Core.Path.{_≡_, sym, _∙_}
 use Prim.Native.Nat.{ℕ}
 use denote.Ref.{now}
 use Rattle.answer.specs.Checks.{Outcome}
 use Rattle.boundary.specs.Codes.{Put, Given}
-use Rattle.boundary.proofs.oneiralth_read_frame as Read-frame
-use Rattle.boundary.proofs.oneiralth_read_request as Read-request
-use Rattle.boundary.proofs.oneiralth_read_report as Read-report
-use Rattle.boundary.proofs.oneiralth_write_power_constraint as Write-power-constraint
-use Rattle.boundary.proofs.oneiralth_write_tpc_request as Write-tpc-request
-use Rattle.boundary.proofs.oneiralth_write_tpc_report as Write-tpc-report
-use Rattle.boundary.proofs.oneiralth_write_channel_switch as Write-channel-switch
-use Rattle.boundary.proofs.oneiralth_write_quiet as Write-quiet
-use Rattle.boundary.proofs.oneiralth_write_request as Write-request
-use Rattle.boundary.proofs.oneiralth_write_report as Write-report
-use Rattle.boundary.proofs.oneiralth_write_tpc_request_body as Write-tpc-request-body
-use Rattle.boundary.proofs.oneiralth_write_tpc_report_body as Write-tpc-report-body
-use Rattle.boundary.proofs.oneiralth_write_channel_switch_body as Write-channel-switch-body
-use Rattle.boundary.proofs.oneiralth_append_request as Append-request
-use Rattle.boundary.proofs.oneiralth_append_report as Append-report
-use Rattle.boundary.proofs.oneiralth_reply_to_tpc_request as Reply-to-tpc-request
-use Rattle.boundary.proofs.oneiralth_reply_to_measurement_request as Reply-to-measurement-request
-use Rattle.boundary.proofs.oneiralth_busy_fraction as Busy-fraction
-use Rattle.boundary.proofs.oneiralth_rpi_densities as Rpi-densities
-use Rattle.boundary.proofs.oneiralth_centre as Centre
-use Rattle.boundary.proofs.oneiralth_list as List
-use Rattle.claims.specs.Outcomes.{OneResult, OneOutcome}
-use Rattle.claims.proofs.Same.{once}
+use Rattle.boundary.proofs.reading.oneiralth_read_frame as Read-frame
+use Rattle.boundary.proofs.reading.oneiralth_read_request as Read-request
+use Rattle.boundary.proofs.reading.oneiralth_read_report as Read-report
+use Rattle.boundary.proofs.elements.oneiralth_write_power_constraint as Write-power-constraint
+use Rattle.boundary.proofs.elements.oneiralth_write_tpc_request as Write-tpc-request
+use Rattle.boundary.proofs.elements.oneiralth_write_tpc_report as Write-tpc-report
+use Rattle.boundary.proofs.elements.oneiralth_write_channel_switch as Write-channel-switch
+use Rattle.boundary.proofs.elements.oneiralth_write_quiet as Write-quiet
+use Rattle.boundary.proofs.elements.oneiralth_write_request as Write-request
+use Rattle.boundary.proofs.elements.oneiralth_write_report as Write-report
+use Rattle.boundary.proofs.bodies.oneiralth_write_tpc_request_body as Write-tpc-request-body
+use Rattle.boundary.proofs.bodies.oneiralth_write_tpc_report_body as Write-tpc-report-body
+use Rattle.boundary.proofs.bodies.oneiralth_write_channel_switch_body as Write-channel-switch-body
+use Rattle.boundary.proofs.bodies.oneiralth_append_request as Append-request
+use Rattle.boundary.proofs.bodies.oneiralth_append_report as Append-report
+use Rattle.boundary.proofs.replies.oneiralth_reply_to_tpc_request as Reply-to-tpc-request
+use Rattle.boundary.proofs.replies.oneiralth_reply_to_measurement_request as Reply-to-measurement-request
+use Rattle.boundary.proofs.numbers.oneiralth_busy_fraction as Busy-fraction
+use Rattle.boundary.proofs.numbers.oneiralth_rpi_densities as Rpi-densities
+use Rattle.boundary.proofs.numbers.oneiralth_centre as Centre
+use Rattle.boundary.proofs.lists.oneiralth_list as List
+use Rattle.answer.specs.Outcomes.{OneResult, OneOutcome}
 
 put-once : {may : Bool} {os : List ℕ} {at : ℕ} {buffer : List ℕ} {code code' : ℕ} {exit exit' : List ℕ} → Put may os at buffer code exit → Put may os at buffer code' exit' → (code ≡ code') × (exit ≡ exit')
 put-once p q = (p .answers ∙ sym (q .answers), p .leaves ∙ sym (q .leaves))
@@ -88,13 +87,13 @@ pub boundary-reply-to-measurement-request : OneOutcome 2 Reply-to-measurement-re
 boundary-reply-to-measurement-request κs a e f x y p q = given-once p q
 
 pub boundary-busy-fraction : OneResult 0 Busy-fraction.Kinds.ps Busy-fraction.Kinds.r Busy-fraction.Reads.Post
-boundary-busy-fraction κs a e f x y p q = once p q
+boundary-busy-fraction κs a e f x y p q = p ∙ sym q
 
 pub boundary-rpi-densities : OneOutcome 1 Rpi-densities.Kinds.ps Rpi-densities.Kinds.r Rpi-densities.Reads.Post (λ κs e. now (e .1 .1 .1 .1 .1 .1 .1 .1 .1 .0))
 boundary-rpi-densities κs a e f x y p q = given-once p q
 
 pub boundary-centre : OneResult 0 Centre.Kinds.ps Centre.Kinds.r Centre.Reads.Post
-boundary-centre κs a e f x y p q = once p q
+boundary-centre κs a e f x y p q = p ∙ sym q
 
 pub boundary-list : OneOutcome 2 List.Kinds.ps List.Kinds.r List.Reads.Post (λ κs e. now (e .1 .0))
 boundary-list κs a e f x y p q = put-once p q
