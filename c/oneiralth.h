@@ -75,7 +75,7 @@ int64_t oneiralth_write_request(uint8_t token, uint8_t kind, uint8_t asks, bool 
 int64_t oneiralth_write_report(uint8_t token, uint8_t kind, uint8_t says, uint8_t value, uint8_t channel, uint64_t start, uint16_t duration,
                                uint64_t densities, uint8_t *out, size_t out_length);
 
-/* ---- action bodies; those of measurements are written element by element behind the first `used` octets of the buffer */
+/* ---- action bodies; those of measurements are written element by element after the first `used` octets of the buffer */
 
 int64_t oneiralth_write_tpc_request_body(uint8_t token, uint8_t *out, size_t out_length);
 int64_t oneiralth_write_tpc_report_body(uint8_t token, uint8_t power, uint8_t margin, uint8_t *out, size_t out_length);

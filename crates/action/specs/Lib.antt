@@ -1,3 +1,1 @@
 pub mod Openings
-pub mod Singles
-pub mod Places

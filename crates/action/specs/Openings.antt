@@ -8,7 +8,7 @@ use lib.ListN.{length}
 use Rattle.answer.specs.Checks.{Outcome, refused, accepted, pick, _⇒_, checked, judged}
 use Rattle.answer.specs.declared.Refusal.{Refusal}
 use Rattle.octets.specs.Numbers.{octet}
-use Rattle.action.specs.declared.opening.Opening.{Opening}
+use Rattle.action.specs.declared.Opening.{Opening}
 
 pub data Opens : Type 0 where
   -- action 4
@@ -22,8 +22,8 @@ openingTold (Opening.Refused r) = refused r
 openingTold Opening.Switch = accepted switching
 openingTold (Opening.Token a t) = accepted (with a t)
 
-abbrev pub needsToken : ℕ → Bool
-needsToken action = eqb action 0 || eqb action 2
+abbrev pub forbidsZeroToken : ℕ → Bool
+forbidsZeroToken action = eqb action 0 || eqb action 2
 
 unfoldable pub opensWith : List ℕ → Outcome Opens
 opensWith body =
@@ -36,6 +36,6 @@ opensWith body =
     (pick (eqb (octet 1 body) 4) (accepted switching)
     (judged
     (ltb (length body) 3 ⇒ Refusal.TooShort
-    ∷ (needsToken (octet 1 body) && eqb (octet 2 body) 0) ⇒ Refusal.ForbiddenValue
+    ∷ (forbidsZeroToken (octet 1 body) && eqb (octet 2 body) 0) ⇒ Refusal.ForbiddenValue
     ∷ [])
     (with (octet 1 body) (octet 2 body))))

@@ -1,13 +1,52 @@
-// Action bodies (document 01, "Octets"; 802.11h 7.2.3.12, 7.3.1.11 and 7.4.1): how each begins, and those of one element.
-mod opening;
-mod single;
-mod writing;
+// How an action body begins (document 01, "Octets" and "Order"; 802.11h 7.2.3.12, 7.3.1.11 and 7.4.1): category, action and, but for action 4, a dialog token.
+ghost use mathlib.Core.Path.{_≡_};
+ghost use Rattle.action.specs.Openings.{forbidsZeroToken, openingTold, opensWith};
+use answer::Refusal;
 
-pub use opening::Opening;
-pub use opening::open;
-pub use single::read_channel_switch;
-pub use single::read_tpc_report;
-pub use single::read_tpc_request;
-pub use writing::write_channel_switch;
-pub use writing::write_tpc_report;
-pub use writing::write_tpc_request;
+// How a body begins: with no token (action 4), or with an action below 4 and its token.
+pub enum Opening {
+    Refused(Refusal),
+    Switch,
+    Token { action: u8, token: u8 },
+}
+
+// Token 0 is forbidden in actions 0 and 2; reports may have it.
+fn forbids_zero_token(action: u8) -> bool
+    ensures { λ r. ⌜ r ≡ forbidsZeroToken action ⌝ }
+{
+    if action == 0 {
+        return true;
+    }
+    action == 2
+}
+
+pub fn open(body: &[u8]) -> Opening
+    ensures { λ r. ⌜ openingTold r ≡ opensWith (now (body .entry)) ⌝ }
+{
+    if body.len() < 1 {
+        return Opening::Refused(Refusal::TooShort);
+    }
+    if body[0] != 0 {
+        return Opening::Refused(Refusal::ForeignAction);
+    }
+    if body.len() < 2 {
+        return Opening::Refused(Refusal::TooShort);
+    }
+    let action = body[1];
+    if 4 < action {
+        return Opening::Refused(Refusal::ForeignAction);
+    }
+    if action == 4 {
+        return Opening::Switch;
+    }
+    if body.len() < 3 {
+        return Opening::Refused(Refusal::TooShort);
+    }
+    let token = body[2];
+    if forbids_zero_token(action) {
+        if token == 0 {
+            return Opening::Refused(Refusal::ForbiddenValue);
+        }
+    }
+    Opening::Token { action, token }
+}

@@ -15,7 +15,7 @@ module _ {A : Type 0} {a : A} where
   first true r o e = absurd (never e)
   first false r o e = (refl, e)
 
-  -- behind an accepted value the first check did not fail, and the others were made
+  -- after an accepted value the first check did not fail, and the others were made
   pub passed : (c : Check) (cs : List Check) (o : Outcome A) → checked (c ∷ cs) o ≡ accepted a → (c .fails ≡ false) × (checked cs o ≡ accepted a)
   unfolding checked
   passed c cs o e = first (c .fails) (c .gives) (checked cs o) e

@@ -1,4 +1,3 @@
 pub mod Booleans
 pub mod Judged
-pub mod SumLaws
 pub mod Yielding

@@ -23,16 +23,16 @@ module _ {A : Type 0} (P : A → Type 0) where
   either-way true o p h k = h
   either-way false o p h k = k
 
-  -- behind a check that did not fail
-  pub behind-check : (c : Check) (cs : List Check) (o : Outcome A) → (c .fails ≡ false → Yields P (checked cs o)) → Yields P (checked (c ∷ cs) o)
+  -- after a check that did not fail
+  pub after-check : (c : Check) (cs : List Check) (o : Outcome A) → (c .fails ≡ false → Yields P (checked cs o)) → Yields P (checked (c ∷ cs) o)
   unfolding Yields
-  behind-check c cs o h a e = let p = passed c cs o e in h (p .0) a (p .1)
+  after-check c cs o h a e = let p = passed c cs o e in h (p .0) a (p .1)
 
-  pub behind-all : (o : Outcome A) → Yields P o → Yields P (checked [] o)
+  pub after-all : (o : Outcome A) → Yields P o → Yields P (checked [] o)
   unfolding Yields
-  behind-all o h a e = h a (stands o e)
+  after-all o h a e = h a (stands o e)
 
-  -- behind another outcome that was accepted
-  pub behind-value : {B : Type 0} (o : Outcome B) (f : B → Outcome A) → ((b : B) → o ≡ accepted b → Yields P (f b)) → Yields P (andThen o f)
-  behind-value (refused r) f h = of-refusal r
-  behind-value (accepted b) f h = h b refl
+  -- after another outcome that was accepted
+  pub after-value : {B : Type 0} (o : Outcome B) (f : B → Outcome A) → ((b : B) → o ≡ accepted b → Yields P (f b)) → Yields P (andThen o f)
+  after-value (refused r) f h = of-refusal r
+  after-value (accepted b) f h = h b refl

@@ -1,4 +1,3 @@
 pub mod Checks
 pub mod Numbers
 pub mod Outcomes
-pub mod Sums

@@ -8,7 +8,7 @@ use borrow.Author.Tests.{leb-false}
 use lib.Dec.{leb, eqb}
 use lib.ListN.{length, drop}
 use Rattle.answer.specs.Checks.{accepted}
-use Rattle.answer.proofs.Yielding.{Yields, of-refusal, of-value, either-way, behind-check, behind-all, behind-value}
+use Rattle.answer.proofs.Yielding.{Yields, of-refusal, of-value, either-way, after-check, after-all, after-value}
 use Rattle.element.proofs.FixedLength.{opened}
 use Rattle.element.specs.ChannelSwitch.{switchMeans, switchIn, switchForbids}
 use Rattle.element.specs.PowerConstraint.{powerMeans}
@@ -64,10 +64,10 @@ module _ (b : ℕ) where
   pub allowed-takes : (id : ℕ) (c : List ℕ) (said : Said) → Allowed b said → Yields (Allowed b) (takes b id c said)
   unfolding takes
   allowed-takes id c said a =
-      either-way _ (eqb id 32) _ _ (behind-value _ (powerMeans c) (addPower said) (λ p e. behind-check _ _ _ _ (λ w. behind-all _ _ (of-value _ (others _ _ a)))))
-      (either-way _ (eqb id 35) _ _ (behind-value _ (tpcReportMeans c) (addReport said) (λ r e. behind-check _ _ _ _ (λ w. behind-all _ _ (of-value _ (others _ _ a)))))
-      (either-way _ (eqb id 37) _ _ (behind-value _ (switchMeans c) (addSwitch said) (λ w e. behind-check _ _ _ _ (λ t. behind-all _ _ (of-value _ (announcing said c w a e)))))
-      (either-way _ (eqb id 40) _ _ (behind-value _ (quietMeans b c) (addQuiet said) (λ q e. behind-check _ _ _ _ (λ t. behind-all _ _ (of-value _ (quieting said c q a e t)))))
+      either-way _ (eqb id 32) _ _ (after-value _ (powerMeans c) (addPower said) (λ p e. after-check _ _ _ _ (λ w. after-all _ _ (of-value _ (others _ _ a)))))
+      (either-way _ (eqb id 35) _ _ (after-value _ (tpcReportMeans c) (addReport said) (λ r e. after-check _ _ _ _ (λ w. after-all _ _ (of-value _ (others _ _ a)))))
+      (either-way _ (eqb id 37) _ _ (after-value _ (switchMeans c) (addSwitch said) (λ w e. after-check _ _ _ _ (λ t. after-all _ _ (of-value _ (announcing said c w a e)))))
+      (either-way _ (eqb id 40) _ _ (after-value _ (quietMeans b c) (addQuiet said) (λ q e. after-check _ _ _ _ (λ t. after-all _ _ (of-value _ (quieting said c q a e t)))))
       (of-value _ a))))
 
   allowed-says : (es : Elements) (said : Said) → Allowed b said → Yields (Allowed b) (says b es said)
@@ -76,10 +76,10 @@ module _ (b : ℕ) where
   allowed-says cutHeader said a = of-refusal (Allowed b) _
   allowed-says (cutContents id) said a = of-refusal (Allowed b) _
   allowed-says (more id c es) said a =
-      behind-value (Allowed b) (takes b id c said) (says b es) (λ next e. allowed-says es next (allowed-takes id c said a next e))
+      after-value (Allowed b) (takes b id c said) (says b es) (λ next e. allowed-says es next (allowed-takes id c said a next e))
 
   pub beacon-allowed : (body : List ℕ) → Yields (λ (t : Told). Allowed b (t .said)) (beaconMeans b body)
   unfolding beaconMeans Yields
   beacon-allowed body =
-      behind-check _ _ _ _ (λ w. behind-check _ _ _ _ (λ x. behind-all _ _
-      (behind-value _ (says b (elementsIn (drop 12 body)) nothing) _ (λ said e. of-value _ (allowed-says (elementsIn (drop 12 body)) nothing nothing-allowed said e)))))
+      after-check _ _ _ _ (λ w. after-check _ _ _ _ (λ x. after-all _ _
+      (after-value _ (says b (elementsIn (drop 12 body)) nothing) _ (λ said e. of-value _ (allowed-says (elementsIn (drop 12 body)) nothing nothing-allowed said e)))))

@@ -1,4 +1,4 @@
--- Laws of what elements say: by their IDs, and what a body says behind its fixed fields.
+-- Laws of what elements say: by their IDs, and what a body says after its fixed fields.
 -- Assumes nothing.
 use mathlib.Core.Path.{_≡_, refl, sym, ap, _∙_}
 use mathlib.Core.List.{List}

@@ -19,7 +19,7 @@ module _ {A : Type 0} (o : Outcome A) where
   pub refuses : (next : A → Outcome Said) (r : Refusal) → o ≡ refused r → refused r ≡ andThen o next
   refuses next r e = rw e refl
 
-  -- an accepted element, behind the one check that is left
+  -- an accepted element, after the one check that is left
   module _ (test : Bool) (r : Refusal) (add : A → Said) (a : A) (e : o ≡ accepted a) where
     pub no-room : test ≡ true → refused r ≡ andThen o (λ x. judged (test ⇒ r ∷ []) (add x))
     unfolding checked

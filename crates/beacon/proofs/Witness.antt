@@ -9,7 +9,7 @@ use Rattle.answer.specs.declared.Refusal.{Refusal}
 use Rattle.octets.specs.Elements.{fixed}
 use Rattle.element.specs.Quiet.{quietMeans, quietOctets}
 use Rattle.element.specs.declared.quiet.Quiet.{Quiet}
-use Rattle.walk.specs.Elements.{elementsBehind, elementsIn}
+use Rattle.walk.specs.Elements.{elementsAfter, elementsIn}
 use Rattle.beacon.specs.Beacons.{Said, Told, nothing, takes, says, beaconMeans}
 use Rattle.beacon.specs.Laid.{noQuiet, laid}
 use Rattle.beacon.specs.declared.Heard.{Heard}
@@ -41,7 +41,7 @@ octetsOf (q ∷ qs) = quietOctets q ++ octetsOf qs
 
 -- 12 octets and no element: accepted, and nothing is said
 pub bare : beaconMeans 100 (body 1 []) ≡ accepted (tells 1 nothing)
-unfolding beaconMeans checked says elementsIn elementsBehind
+unfolding beaconMeans checked says elementsIn elementsAfter
 bare = refl
 
 -- 11 octets: too short
@@ -56,7 +56,7 @@ other = refl
 
 -- two different Quiet elements: both are kept, in their order
 pub two-quiets : beaconMeans 100 (body 1 (octetsOf (quietIn 3 ∷ quietIn 5 ∷ []))) ≡ accepted (tells 1 (quietly (quietIn 3 ∷ quietIn 5 ∷ [])))
-unfolding beaconMeans checked says takes elementsIn elementsBehind quietMeans fixed quietOctets
+unfolding beaconMeans checked says takes elementsIn elementsAfter quietMeans fixed quietOctets
 two-quiets = refl
 
 -- as the reader hands them out
@@ -65,17 +65,17 @@ two-slots = ap (λ (o : Outcome Told). laid o .quiets) two-quiets
 
 -- eight are kept
 pub eight-quiets : beaconMeans 100 (body 1 (octetsOf (several 8))) ≡ accepted (tells 1 (quietly (several 8)))
-unfolding beaconMeans checked says takes elementsIn elementsBehind quietMeans fixed quietOctets
+unfolding beaconMeans checked says takes elementsIn elementsAfter quietMeans fixed quietOctets
 eight-quiets = refl
 
 -- a ninth is refused
 pub nine-quiets : beaconMeans 100 (body 1 (octetsOf (several 9))) ≡ refused Refusal.TooManyQuiets
-unfolding beaconMeans checked says takes elementsIn elementsBehind quietMeans fixed quietOctets
+unfolding beaconMeans checked says takes elementsIn elementsAfter quietMeans fixed quietOctets
 nine-quiets = refl
 
 -- bodies that differ in one octet of the capability are told apart
 pub capability-counts : laid (beaconMeans 100 (body 0 [])) ≡ laid (beaconMeans 100 (body 1 [])) → ⊥
-unfolding beaconMeans checked says elementsIn elementsBehind
+unfolding beaconMeans checked says elementsIn elementsAfter
 capability-counts e =
     let z : _≡_ {A = ℕ} 0 1 = ap (λ (h : Heard). h .notice .capability) e in
     omega arith

@@ -6,7 +6,7 @@ use Prim.Native.Nat.{ℕ, _+_, _%_}
 use lib.Dec.{ltb, leb, eqb}
 use lib.ListN.{length, take, drop}
 use Rattle.answer.specs.Checks.{pick}
-use Rattle.answer.specs.Sums.{sumOf}
+use Rattle.octets.specs.Sums.{sumOf}
 use Rattle.octets.specs.Numbers.{number}
 use Rattle.block.specs.declared.Block.{Block}
 

@@ -2,7 +2,7 @@
 ghost use mathlib.Core.Path.{_≡_};
 ghost use Prim.Native.Nat.{_*_, _≤_};
 ghost use lib.ListN.{length, take};
-ghost use Rattle.answer.specs.Sums.{sumOf};
+ghost use Rattle.octets.specs.Sums.{sumOf};
 ghost use Rattle.block.specs.Blocks.{endAfter, blockMeans};
 
 // How many octets a block has, how many of them come before its check, and how many of these the records may use.

@@ -1,4 +1,4 @@
--- A pass over the blocks of a capture: their lines are stored behind others, or do not fit, or are only counted. Assumes nothing.
+-- A pass over the blocks of a capture: their lines are stored after others, or do not fit, or are only counted. Assumes nothing.
 use mathlib.Core.Bool.{Bool, true, false}
 use mathlib.Core.List.{List, [], _∷_, _++_, append-nil}
 use mathlib.Core.Path.{_≡_, refl, sym, ap, ap₂, _∙_, subst}
@@ -10,9 +10,9 @@ use Rattle.answer.proofs.Booleans.{clash}
 use Rattle.block.proofs.Ending.{end-inside, end-whole}
 use Rattle.block.specs.Blocks.{endAfter}
 use Rattle.octets.specs.Writing.{left}
-use Rattle.octets.proofs.Storing.{left-not, left-short, left-nothing, left-length, left-behind}
+use Rattle.octets.proofs.Storing.{left-not, left-short, left-nothing, left-length, left-after}
 use Rattle.capture.specs.Listers.{Fits}
-use Rattle.capture.specs.Lists.{Told, nothing, before, blockTold, blocksBehind, blocksIn, blocksTold, fileTold}
+use Rattle.capture.specs.Lists.{Told, nothing, before, blockTold, blocksAfter, blocksIn, blocksTold, fileTold}
 use Rattle.boundary.specs.Passing.{Passed}
 use Rattle.capture.specs.declared.lister.Lister.{Lister}
 use Rattle.boundary.specs.declared.whole.Progress.{Progress}
@@ -74,7 +74,7 @@ module _ {file : List ℕ} {store : Bool} {out₀ out : List ℕ} {p : Progress}
 
   -- all blocks are passed
   pub passed-all : length file ≤ at → Passed 0 (fileTold file) (length out₀) p × (out ≡ left store (fileTold file .text) 0 out₀)
-  unfolding blocksTold blocksIn blocksBehind
+  unfolding blocksTold blocksIn blocksAfter
   passed-all h =
       let all : fileTold file ≡ before (i .lines) (nothing (p .lister)) = i .told ∙ ap (λ (rest : List ℕ). before (i .lines) (blocksTold (blocksIn rest) (p .lister))) (drop-of-length-le file {i = at} h) in
       let text : fileTold file .text ≡ i .lines = ap (λ (t : Told). t .text) all ∙ append-nil (i .lines) in
@@ -117,7 +117,7 @@ module _ {file : List ℕ} {store : Bool} {out₀ out : List ℕ} {p : Progress}
             inside = omega (arith, w .inside, size);
             stands =
                 e ∙ ap₂ (λ (n : ℕ) (os : List ℕ). left store (told-next .text) n os) (i .many) (i .stands)
-                ∙ left-behind store (i .lines) (told-next .text) out₀ (omega (arith, many, i .many, w .inside, size));
+                ∙ left-after store (i .lines) (told-next .text) out₀ (omega (arith, many, i .many, w .inside, size));
             going = fits;
             fits = w .fits fits;
             place = omega (arith, ends, end-inside at (length file) h);

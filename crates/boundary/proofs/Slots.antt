@@ -9,7 +9,7 @@ use lib.Seq.{take-all}
 use Rattle.element.specs.Quiet.{quietContents}
 use Rattle.element.specs.declared.quiet.Quiet.{Quiet}
 use Rattle.octets.specs.Writing.{left, filled}
-use Rattle.octets.proofs.Storing.{filled-length, behind-left}
+use Rattle.octets.proofs.Storing.{filled-length, after-left}
 use Rattle.boundary.specs.Fields.{quietFields}
 
 -- six octets each
@@ -56,7 +56,7 @@ module _ {qs : List Quiet} {blanks all : List ℕ} {i : ℕ} (p : Placed qs blan
         stands =
             f ∙ ap (λ (n : ℕ). left true slot n all) (sym many) ∙ ap (left true slot (length (quietFields (take i qs)))) (p .stands)
             ∙ ap (λ (os : List ℕ). left true os (length (quietFields (take i qs))) (filled (quietFields (take i qs)) blanks)) e
-            ∙ behind-left (quietFields (take i qs)) q blanks (omega (arith, many, p .room, h))
+            ∙ after-left (quietFields (take i qs)) q blanks (omega (arith, many, p .room, h))
             ∙ ap (λ (os : List ℕ). filled os blanks) (sym (next qs i blank (omega (arith, p .eight, h))) ∙ ap (λ (n : ℕ). quietFields (take n qs)) (sym more));
       }
 

@@ -6,8 +6,8 @@ use native.Mathlib.Omega.{arith}
 use Rattle.answer.specs.Checks.{Outcome, refused, accepted}
 use Rattle.answer.specs.declared.Answer.{Answer}
 use Rattle.answer.specs.declared.Refusal.{Refusal}
-use Rattle.measure.specs.MeasurementReport.{reportLaid}
-use Rattle.measure.specs.declared.measurement_report.Report.{Report}
+use Rattle.measurement_element.specs.MeasurementReport.{reportLaid}
+use Rattle.measurement_element.specs.declared.measurement_report.Report.{Report}
 use Rattle.fraction.specs.Fractions.{laid}
 
 -- the answer alone

@@ -10,7 +10,7 @@ use Rattle.octets.specs.Writing.{left, Written}
 use Rattle.octets.specs.declared.writing.Wrote.{Wrote}
 use Rattle.octets.proofs.Overwriting.{written-as}
 use Rattle.octets.proofs.Storing.{left-not, short-written, parts-written}
-use Rattle.text.specs.Lines.{closingOf}
+use Rattle.line.specs.Lines.{closingOf}
 use Rattle.capture.specs.Lists.{fileTold, listOf}
 use Rattle.capture.specs.declared.lister.Lister.{Lister}
 
@@ -34,7 +34,7 @@ module _ (file out passed : List ℕ) (first : passed ≡ left false (linesIn fi
   pub too-short : length out < length (listOf file) → Written true (listOf file) 0 out (Wrote.Refused Refusal.BufferShort) passed
   too-short h = subst (Written true (listOf file) 0 out (Wrote.Refused Refusal.BufferShort)) (sym same-out) (short-written (listOf file) 0 out (omega (arith, h)))
 
-  -- the second pass stores the lines, and the closing line is put behind them
+  -- the second pass stores the lines, and the closing line is put after them
   module _ (lines exit : List ℕ) (l : Lister) (count n : ℕ) (second : lines ≡ left true (linesIn file) 0 passed) (last : exit ≡ left true (closingIn l) count lines) where
     pub whole : l ≡ fileTold file .lister → count ≡ length (linesIn file) → n ≡ count + length (closingIn l) → n ≤ length out → Written true (listOf file) 0 out (Wrote.Length n) exit
     unfolding listOf

@@ -2,7 +2,7 @@
 use Prim.Native.Nat.{ℕ, _%_}
 use lib.Dec.{eqb}
 use Rattle.answer.specs.Checks.{pick}
-use Rattle.owed.specs.declared.Finding.{Finding}
+use Rattle.measured_report.specs.declared.Finding.{Finding}
 
 -- 0 the caller refuses, 1 a map, which is the value's lowest octet, 2 a busy time; every other number stands for the eight times
 unfoldable pub findingGiven : ℕ → ℕ → Finding

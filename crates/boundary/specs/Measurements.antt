@@ -3,11 +3,11 @@ use mathlib.Core.Bool.{Bool}
 use Prim.Native.Nat.{ℕ}
 use lib.Dec.{eqb}
 use Rattle.answer.specs.Checks.{pick}
-use Rattle.measure.specs.declared.measurement_report.Matter as Says
-use Rattle.measure.specs.declared.measurement_report.Report.{Report}
-use Rattle.measure.specs.declared.measurement_request.Matter as Asks
-use Rattle.measure.specs.declared.measurement_request.Request.{Request}
-use Rattle.measure.specs.declared.span.Span.{Span}
+use Rattle.measurement_element.specs.declared.measurement_report.Matter as Says
+use Rattle.measurement_element.specs.declared.measurement_report.Report.{Report}
+use Rattle.measurement_element.specs.declared.measurement_request.Matter as Asks
+use Rattle.measurement_element.specs.declared.measurement_request.Request.{Request}
+use Rattle.measurement_element.specs.declared.span.Span.{Span}
 use Rattle.element.specs.declared.tpc_report.TpcReport.{TpcReport}
 use Rattle.octets.specs.Numbers.{split}
 use Rattle.octets.specs.Signed.{signedOf}

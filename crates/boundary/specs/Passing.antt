@@ -8,7 +8,7 @@ use Rattle.capture.specs.Listers.{Fits}
 use Rattle.capture.specs.Lists.{Told}
 use Rattle.boundary.specs.declared.whole.Progress.{Progress}
 
--- behind so many octets of lines, and in a buffer of `size`, this was told
+-- after so many octets of lines, and in a buffer of `size`, this was told
 pub record Passed (count : ℕ) (told : Told) (size : ℕ) (progress : Progress) : Type 0 where
   pub inside : progress .count ≤ size
   pub enough : progress .fits ≡ leb (count + length (told .text)) size

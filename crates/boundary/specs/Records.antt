@@ -1,11 +1,11 @@
 -- A measurement element as its fields, one after the other at fixed places (docs/BOUNDARY.md). What it has not got is 0.
 use mathlib.Core.List.{List, [], _∷_, _++_}
 use Prim.Native.Nat.{ℕ}
-use Rattle.measure.specs.Span.{noSpan, spanOctets}
-use Rattle.measure.specs.declared.measurement_report.Matter as Says
-use Rattle.measure.specs.declared.measurement_report.Report.{Report}
-use Rattle.measure.specs.declared.measurement_request.Matter as Asks
-use Rattle.measure.specs.declared.measurement_request.Request.{Request}
+use Rattle.measurement_element.specs.Span.{noSpan, spanOctets}
+use Rattle.measurement_element.specs.declared.measurement_report.Matter as Says
+use Rattle.measurement_element.specs.declared.measurement_report.Report.{Report}
+use Rattle.measurement_element.specs.declared.measurement_request.Matter as Asks
+use Rattle.measurement_element.specs.declared.measurement_request.Request.{Request}
 use Rattle.boundary.specs.Fields.{flag}
 use Rattle.boundary.specs.declared.records.Asked.{Asked}
 use Rattle.boundary.specs.declared.records.Said.{Said}

@@ -1,13 +1,13 @@
 // The five action bodies (document 01, "Octets"). Those of one element are written from the front of the buffer on, a measurement body element by
-// element behind what the buffer holds.
+// element after what the buffer holds.
 ghost use mathlib.Core.Bool.{true, not, _&&_};
 ghost use lib.Dec.{leb, eqb};
 ghost use lib.ListN.{length, take};
-ghost use Rattle.action.specs.Singles.{tpcRequestBody, tpcReportBody, switchBody};
+ghost use Rattle.single_body.specs.Singles.{tpcRequestBody, tpcReportBody, switchBody};
 ghost use Rattle.element.specs.ChannelSwitch.{switchMay};
-ghost use Rattle.measurement.specs.Bodies.{mayAppend, appended};
-ghost use Rattle.measurement.specs.Reports.{reportSort};
-ghost use Rattle.measurement.specs.Requests.{requestSort};
+ghost use Rattle.measurement_body.specs.Bodies.{mayAppend, appended};
+ghost use Rattle.measurement_body.specs.Reports.{reportSort};
+ghost use Rattle.measurement_body.specs.Requests.{requestSort};
 ghost use Rattle.boundary.specs.Codes.{Put};
 ghost use Rattle.boundary.specs.Measurements.{tpcGiven, requestGiven, reportGiven};
 use crate::codes;
@@ -19,7 +19,7 @@ use element::channel_switch::ChannelSwitch;
 pub extern "C" fn oneiralth_write_tpc_request_body(token: u8, out: &mut [u8]) -> u64
     ensures { λ r. ⌜ Put (not (eqb token 0)) (tpcRequestBody token) 0 (now (out .entry)) r (now (out .exit)) ⌝ }
 {
-    codes::wrote(action::write_tpc_request(token, out, 0))
+    codes::wrote(single_body::write_tpc_request(token, out, 0))
 }
 
 #[no_mangle]
@@ -31,7 +31,7 @@ pub extern "C" fn oneiralth_write_tpc_report_body(
 ) -> u64
     ensures { λ r. ⌜ Put true (tpcReportBody token (tpcGiven power margin)) 0 (now (out .entry)) r (now (out .exit)) ⌝ }
 {
-    codes::wrote(action::write_tpc_report(token, reports::tpc(power, margin), out, 0))
+    codes::wrote(single_body::write_tpc_report(token, reports::tpc(power, margin), out, 0))
 }
 
 #[no_mangle]
@@ -48,10 +48,10 @@ pub extern "C" fn oneiralth_write_channel_switch_body(
         channel,
         count,
     };
-    codes::wrote(action::write_channel_switch(switch, out, 0))
+    codes::wrote(single_body::write_channel_switch(switch, out, 0))
 }
 
-// Behind the first `used` octets of the buffer, which are a body with this token; with none used a body begins.
+// After the first `used` octets of the buffer, which are a body with this token; with none used a body begins.
 #[no_mangle]
 pub extern "C" fn oneiralth_append_request(
     buffer: &mut [u8],
@@ -69,7 +69,7 @@ pub extern "C" fn oneiralth_append_request(
     ensures { λ r. ⌜ Put (leb used (length (now (buffer .entry))) && mayAppend requestSort 0 dialog (requestGiven token kind asks request report channel start duration) (not (eqb dialog 0)) (take used (now (buffer .entry)))) (appended requestSort 0 dialog (requestGiven token kind asks request report channel start duration) (take used (now (buffer .entry)))) used (now (buffer .entry)) r (now (buffer .exit)) ⌝ }
 {
     let given = measurements::request(token, kind, asks, request, report, channel, start, duration);
-    codes::wrote(measurement::requests::append(buffer, used, dialog, given))
+    codes::wrote(measurement_body::requests::append(buffer, used, dialog, given))
 }
 
 // The same of reports.
@@ -99,5 +99,5 @@ pub extern "C" fn oneiralth_append_report(
         duration,
         densities,
     );
-    codes::wrote(measurement::reports::append(buffer, used, dialog, given))
+    codes::wrote(measurement_body::reports::append(buffer, used, dialog, given))
 }

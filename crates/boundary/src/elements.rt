@@ -1,8 +1,8 @@
 // The seven elements, written from the front of the buffer on (document 01, "Octets").
 ghost use mathlib.Core.Bool.{true};
 ghost use Rattle.element.specs.ChannelSwitch.{switchMay, switchOctets};
-ghost use Rattle.measure.specs.MeasurementReport.{reportMay, reportOctets};
-ghost use Rattle.measure.specs.MeasurementRequest.{requestMay, requestOctets};
+ghost use Rattle.measurement_element.specs.MeasurementReport.{reportMay, reportOctets};
+ghost use Rattle.measurement_element.specs.MeasurementRequest.{requestMay, requestOctets};
 ghost use Rattle.element.specs.PowerConstraint.{powerOctets};
 ghost use Rattle.element.specs.Quiet.{quietMay, quietOctets};
 ghost use Rattle.element.specs.TpcReport.{tpcReportOctets};
@@ -20,8 +20,8 @@ use element::quiet;
 use element::quiet::Quiet;
 use element::tpc_report;
 use element::tpc_request;
-use measure::measurement_report;
-use measure::measurement_request;
+use measurement_element::measurement_report;
+use measurement_element::measurement_request;
 
 #[no_mangle]
 pub extern "C" fn oneiralth_write_power_constraint(decibels: u8, out: &mut [u8]) -> u64

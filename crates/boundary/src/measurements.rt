@@ -1,11 +1,11 @@
 // Records of the measurement elements from numbers.
 ghost use mathlib.Core.Path.{_≡_};
 ghost use Rattle.boundary.specs.Measurements.{asksGiven, saysGiven, requestGiven, reportGiven};
-use measure::Span;
-use measure::measurement_report;
-use measure::measurement_report::Report;
-use measure::measurement_request;
-use measure::measurement_request::Request;
+use measurement_element::Span;
+use measurement_element::measurement_report;
+use measurement_element::measurement_report::Report;
+use measurement_element::measurement_request;
+use measurement_element::measurement_request::Request;
 
 // 0 an Enable element, 1 a measurement; every other number stands for what is not interpreted, which no writer takes.
 fn asks(number: u8, request: bool, report: bool, span: Span) -> measurement_request::Matter

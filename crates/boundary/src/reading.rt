@@ -16,7 +16,7 @@ use answer::Answer;
 use answer::Refusal;
 use element::quiet::Quiet;
 use frame::Reading;
-use measure::measurement_request;
+use measurement_element::measurement_request;
 use octets::Wrote;
 
 // How many octets the fields of a frame are: the head's 38, and six for each of eight Quiet elements.

@@ -2,11 +2,11 @@
 ghost use mathlib.Core.Path.{_≡_};
 ghost use Rattle.boundary.specs.Records.{askedBy, requestFields, saidBy, reportFields};
 use crate::fields;
-use measure::Span;
-use measure::measurement_report;
-use measure::measurement_report::Report;
-use measure::measurement_request;
-use measure::measurement_request::Request;
+use measurement_element::Span;
+use measurement_element::measurement_report;
+use measurement_element::measurement_report::Report;
+use measurement_element::measurement_request;
+use measurement_element::measurement_request::Request;
 
 // What is asked, by the numbers that a writer takes.
 pub struct Asked {

@@ -7,8 +7,8 @@ ghost use Rattle.boundary.specs.Findings.{findingGiven};
 ghost use Rattle.boundary.specs.Measurements.{tpcGiven};
 use crate::codes;
 use crate::reports;
-use owed::Finding;
-use owed::Readings;
+use measured_report::Finding;
+use measured_report::Readings;
 
 #[no_mangle]
 pub extern "C" fn oneiralth_reply_to_tpc_request(

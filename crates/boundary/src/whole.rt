@@ -10,8 +10,8 @@ ghost use Rattle.boundary.specs.Passing.{Passed};
 use answer::Refusal;
 use capture::Feed;
 use capture::Lister;
+use line::Text;
 use octets::Wrote;
-use text::Text;
 
 // Where a pass over the blocks stands: whether their lines fit the buffer so far, how many octets they are, and the lister.
 pub struct Progress {
@@ -20,7 +20,7 @@ pub struct Progress {
     pub lister: Lister,
 }
 
-// Lines behind those before them, where they fit: stored where `store` says so.
+// Lines after those before them, where they fit: stored where `store` says so.
 fn put_lines(lister: Lister, lines: &[u8], store: bool, out: &mut [u8], count: usize) -> Progress
     requires { ⌜ Fits lister ⌝ }
     requires { ⌜ count ≤ length (now out) ⌝ }
@@ -106,7 +106,7 @@ pub fn list(file: &[u8], out: &mut [u8]) -> Wrote
         return Wrote::Refused(Refusal::BufferShort);
     }
     let lister = lines.lister;
-    let closing = text::closing(lister.blocks, lister.damaged);
+    let closing = line::closing(lister.blocks, lister.damaged);
     let bytes = closing.bytes;
     let from = closing.from;
     let count = lines.count;

@@ -5,14 +5,14 @@ use Prim.Native.Nat.{ℕ}
 use Rattle.answer.proofs.Booleans.{clash}
 use Rattle.answer.specs.Numbers.{numberOf}
 use Rattle.answer.specs.declared.Refusal.{Refusal}
-use Rattle.record.specs.Entries.{advancing}
+use Rattle.capture_record.specs.Entries.{advancing}
 use Rattle.station.proofs.Advancing.{advanced}
 use Rattle.station.specs.Clock.{clocked}
 use Rattle.station.specs.Advancing.{clockAdvance}
 use Rattle.station.specs.Validity.{Valid}
 use Rattle.station.specs.declared.Station.{Station}
 use Rattle.station.specs.declared.clock.Advanced.{Advanced}
-use Rattle.text.specs.declared.words.Word.{Word}
+use Rattle.line.specs.declared.words.Word.{Word}
 use Rattle.capture.specs.Following.{Sound}
 use Rattle.capture.specs.Listers.{following}
 use Rattle.capture.specs.Lists.{line, stepped, noted}

@@ -4,11 +4,11 @@ use mathlib.Core.List.{List}
 use mathlib.Core.Path.{_≡_, sym, ap}
 use Prim.Native.Nat.{ℕ}
 use Rattle.answer.specs.Checks.{pick}
-use Rattle.record.specs.Entries.{advancing, hearing, asking}
+use Rattle.capture_record.specs.Entries.{advancing, hearing, asking}
 use Rattle.station.specs.Asking.{permissionNumber, permissionOf}
 use Rattle.station.specs.Clock.{advanceOf}
 use Rattle.station.specs.Taking.{takeOf}
-use Rattle.text.specs.declared.words.Word.{Word}
+use Rattle.line.specs.declared.words.Word.{Word}
 use Rattle.capture.specs.Lists.{line, stepped, noStation, noted}
 use Rattle.capture.specs.declared.lister.Lister.{Lister}
 

@@ -11,26 +11,26 @@ use lib.Seq.{take-all, drop-drop}
 use Rattle.answer.specs.Checks.{Outcome, refused, accepted, pick}
 use Rattle.block.specs.Blocks.{endAfter, usedPart, blockMeans}
 use Rattle.block.specs.declared.Block.{Block}
-use Rattle.record.specs.Entries.{Noted, malformed, starting, advancing, hearing, asking, entryMeans}
-use Rattle.record.specs.Records.{Records, end, cut, more, recordsIn}
+use Rattle.capture_record.specs.Entries.{Noted, malformed, starting, advancing, hearing, asking, entryMeans}
+use Rattle.capture_record.specs.Records.{Records, end, cut, more, recordsIn}
 use Rattle.station.specs.Starting.{startMeans}
 use Rattle.station.specs.declared.Station.{Station}
 use Rattle.capture.specs.Listers.{oneBlockMore}
-use Rattle.capture.specs.Lists.{Told, before, started, badRecord, noted, isMalformed, recorded, judged, blockTold, blocksBehind, blocksIn}
+use Rattle.capture.specs.Lists.{Told, before, started, badRecord, noted, isMalformed, recorded, judged, blockTold, blocksAfter, blocksIn}
 use Rattle.capture.specs.declared.lister.Lister.{Lister}
 
 -- ---- the first block, and the others
 
-behind : (skip : ℕ) (os : List ℕ) → blocksBehind skip os ≡ blocksIn (drop skip os)
-unfolding blocksBehind blocksIn
-behind zero os = refl
-behind (suc skip) [] = refl
-behind (suc skip) (o ∷ os) = behind skip os
+after : (skip : ℕ) (os : List ℕ) → blocksAfter skip os ≡ blocksIn (drop skip os)
+unfolding blocksAfter blocksIn
+after zero os = refl
+after (suc skip) [] = refl
+after (suc skip) (o ∷ os) = after skip os
 
 first-block : (os : List ℕ) → 0 < length os → blocksIn os ≡ take 512 os ∷ blocksIn (drop 512 os)
-unfolding blocksBehind blocksIn
+unfolding blocksAfter blocksIn
 first-block [] h = absurd (omega arith)
-first-block (o ∷ os) h = ap (λ (bs : List (List ℕ)). take 512 (o ∷ os) ∷ bs) (behind 511 os)
+first-block (o ∷ os) h = ap (λ (bs : List (List ℕ)). take 512 (o ∷ os) ∷ bs) (after 511 os)
 
 module _ (file : List ℕ) (at : ℕ) (h : at < length file) where
   -- the block that begins at a place, and the place where it ends

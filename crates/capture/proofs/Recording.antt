@@ -7,10 +7,10 @@ use native.Mathlib.Omega.{arith}
 use lib.ListN.{length, drop, length-append}
 use Rattle.answer.specs.Checks.{pick}
 use Rattle.octets.specs.Writing.{left, filled}
-use Rattle.octets.proofs.Storing.{filled-length, behind-left}
-use Rattle.record.specs.Entries.{Noted, malformed, starting, advancing, hearing, asking, entryTold, entryMeans}
-use Rattle.record.specs.Records.{Records, end, cut, more, recordsIn}
-use Rattle.record.specs.declared.entry.Entry.{Entry}
+use Rattle.octets.proofs.Storing.{filled-length, after-left}
+use Rattle.capture_record.specs.Entries.{Noted, malformed, starting, advancing, hearing, asking, entryTold, entryMeans}
+use Rattle.capture_record.specs.Records.{Records, end, cut, more, recordsIn}
+use Rattle.capture_record.specs.declared.entry.Entry.{Entry}
 use Rattle.capture.specs.Following.{lineFor, Sound, Follows, Listed}
 use Rattle.capture.specs.Listers.{oneLineMore}
 use Rattle.capture.specs.Lists.{Told, nothing, before, badRecord, noted, isMalformed, recorded}
@@ -66,11 +66,11 @@ module _ {used : List ℕ} {l₀ : Lister} {out₀ out : List ℕ} {l : Lister} 
   pub same-size : length out ≡ length out₀
   same-size = ap (λ (xs : List ℕ). length xs) (i .stands) ∙ filled-length (i .lines) out₀ (omega (arith, i .many, i .room))
 
-  -- the line stands behind those before it
-  behind : (text exit : List ℕ) → length text ≤ 64 → exit ≡ left true text count out → exit ≡ filled (i .lines ++ text) out₀
-  behind text exit h e =
+  -- the line stands after those before it
+  after : (text exit : List ℕ) → length text ≤ 64 → exit ≡ left true text count out → exit ≡ filled (i .lines ++ text) out₀
+  after text exit h e =
       e ∙ ap (λ (n : ℕ). left true text n out) (i .many) ∙ ap (left true text (length (i .lines))) (i .stands)
-      ∙ behind-left (i .lines) text out₀ (omega (arith, i .many, i .room))
+      ∙ after-left (i .lines) text out₀ (omega (arith, i .many, i .room))
 
   -- ---- the ways out
 
@@ -103,7 +103,7 @@ module _ {used : List ℕ} {l₀ : Lister} {out₀ out : List ℕ} {l : Lister} 
     pub size-after : length exit ≡ length out₀
     size-after =
         let s : length (lineFor a .text) ≤ 64 = omega (arith, w .place, w .short) in
-        ap (λ (xs : List ℕ). length xs) (behind (lineFor a .text) exit s (w .leaves))
+        ap (λ (xs : List ℕ). length xs) (after (lineFor a .text) exit s (w .leaves))
         ∙ filled-length (i .lines ++ lineFor a .text) out₀ (omega (arith, i .many, i .room, length-append (i .lines) (lineFor a .text)))
 
     module _ (e : recorded (recordsIn (drop at used)) l ≡ lineFor a) where
@@ -123,10 +123,10 @@ module _ {used : List ℕ} {l₀ : Lister} {out₀ out : List ℕ} {l : Lister} 
               same-blocks = ap (λ (x : Lister). x .blocks) (w .after) ∙ w .follows .same-blocks ∙ i .same-blocks;
               same-damaged = ap (λ (x : Lister). x .damaged) (w .after) ∙ w .follows .same-damaged ∙ i .same-damaged;
             },
-            behind (lineFor a .text) exit (omega (arith, w .place, w .short)) (w .leaves) ∙ ap (λ (xs : List ℕ). filled xs out₀) (sym text),
+            after (lineFor a .text) exit (omega (arith, w .place, w .short)) (w .leaves) ∙ ap (λ (xs : List ℕ). filled xs out₀) (sym text),
           )
 
-    -- a line with more behind it: `stop` is where the next record begins
+    -- a line with more after it: `stop` is where the next record begins
     module _ (kind : ℕ) (c : List ℕ) (stop : ℕ) (e : recordsIn (drop at used) ≡ more kind c (recordsIn (drop stop used))) (past : at + 3 ≤ stop)
         (within : stop ≤ length used) (says : lineFor a ≡ noted l (entryMeans kind c)) where
       pub bad-line : isMalformed (entryMeans kind c) ≡ true → recorded (recordsIn (drop at used)) l ≡ lineFor a
@@ -149,7 +149,7 @@ module _ {used : List ℕ} {l₀ : Lister} {out₀ out : List ℕ} {l : Lister} 
           record {
             lines = i .lines ++ lineFor a .text;
             told = i .told ∙ ap (before (i .lines)) (good-line m) ∙ before-before (i .lines) (lineFor a .text) (recorded (recordsIn (drop stop used)) (put .lister));
-            stands = behind (lineFor a .text) exit (omega (arith, w .place, w .short)) (w .leaves);
+            stands = after (lineFor a .text) exit (omega (arith, w .place, w .short)) (w .leaves);
             many = w .place ∙ ap (λ (n : ℕ). n + length (lineFor a .text)) (i .many) ∙ sym (length-append (i .lines) (lineFor a .text));
             sound = sound-more;
             inside = within;

@@ -11,7 +11,7 @@ use Rattle.station.specs.Validity.{Valid}
 use Rattle.station.specs.Starting as Starting
 use Rattle.station.specs.declared.Station.{Station}
 use Rattle.station.specs.declared.starting.Started.{Started}
-use Rattle.text.specs.declared.words.Word.{Word}
+use Rattle.line.specs.declared.words.Word.{Word}
 use Rattle.capture.specs.Following.{Follows}
 use Rattle.capture.specs.Listers.{without, following}
 use Rattle.capture.specs.Lists.{line, started}
@@ -24,7 +24,7 @@ sound-without l =
 pub sound-following : (l : Lister) (s : Station) → Valid s → Follows l (following l s)
 sound-following l s v = record { sound = record { followed = λ e. v; idle = λ e. clash e }; same-lines = refl; same-blocks = refl; same-damaged = refl }
 
--- the answer of a start, and the station behind it
+-- the answer of a start, and the station after it
 module _ (l : Lister) (o : Outcome Station) (x : Started) (e : x ≡ Starting.started o) where
   pub start-accepted : x .answer ≡ Answer.Accepted → line (following l (x .station)) Word.Start (answerNumber (x .answer)) ≡ started l o
   start-accepted f = by-outcome o e

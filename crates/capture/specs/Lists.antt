@@ -8,16 +8,16 @@ use Rattle.answer.specs.Numbers.{numberOf, answerNumber}
 use Rattle.answer.specs.declared.Refusal.{Refusal}
 use Rattle.block.specs.Blocks.{usedPart, blockMeans}
 use Rattle.block.specs.declared.Block.{Block}
-use Rattle.record.specs.Entries.{Noted, malformed, starting, advancing, hearing, asking, entryMeans}
-use Rattle.record.specs.Records.{Records, end, cut, more, recordsIn}
+use Rattle.capture_record.specs.Entries.{Noted, malformed, starting, advancing, hearing, asking, entryMeans}
+use Rattle.capture_record.specs.Records.{Records, end, cut, more, recordsIn}
 use Rattle.station.specs.Asking.{permissionNumber, permissionOf}
 use Rattle.station.specs.Clock.{advanceOf}
 use Rattle.station.specs.Starting.{startMeans}
 use Rattle.station.specs.Taking.{takeOf}
 use Rattle.station.specs.declared.Station.{Station}
 use Rattle.station.specs.declared.clock.Stepped.{Stepped}
-use Rattle.text.specs.Lines.{lineOf, closingOf}
-use Rattle.text.specs.declared.words.Word.{Word}
+use Rattle.line.specs.Lines.{lineOf, closingOf}
+use Rattle.line.specs.declared.words.Word.{Word}
 use Rattle.capture.specs.Listers.{fresh, without, following, oneLineMore, oneBlockMore}
 use Rattle.capture.specs.declared.lister.Lister.{Lister}
 
@@ -90,15 +90,15 @@ blockTold b l = judged (blockMeans b) b l
 
 -- ---- a file
 
--- the blocks behind the first `skip` octets, which belong to the block before: 512 octets each, the last one shorter where the file ends
-unfoldable pub blocksBehind : ℕ → List ℕ → List (List ℕ)
-blocksBehind zero [] = []
-blocksBehind zero (o ∷ os) = take 512 (o ∷ os) ∷ blocksBehind 511 os
-blocksBehind (suc skip) [] = []
-blocksBehind (suc skip) (o ∷ os) = blocksBehind skip os
+-- the blocks after the first `skip` octets, which belong to the block before: 512 octets each, the last one shorter where the file ends
+unfoldable pub blocksAfter : ℕ → List ℕ → List (List ℕ)
+blocksAfter zero [] = []
+blocksAfter zero (o ∷ os) = take 512 (o ∷ os) ∷ blocksAfter 511 os
+blocksAfter (suc skip) [] = []
+blocksAfter (suc skip) (o ∷ os) = blocksAfter skip os
 
 unfoldable pub blocksIn : List ℕ → List (List ℕ)
-blocksIn file = blocksBehind 0 file
+blocksIn file = blocksAfter 0 file
 
 unfoldable pub blocksTold : List (List ℕ) → Lister → Told
 blocksTold [] l = nothing l

@@ -3,8 +3,8 @@ use mathlib.Core.Bool.{Bool, true, false}
 use mathlib.Core.List.{List}
 use mathlib.Core.Path.{_≡_}
 use Prim.Native.Nat.{ℕ}
-use Rattle.record.specs.Entries.{Noted, starting, advancing, hearing, settingsOf}
-use Rattle.record.specs.declared.entry.Entry.{Entry}
+use Rattle.capture_record.specs.Entries.{Noted, starting, advancing, hearing, settingsOf}
+use Rattle.capture_record.specs.declared.entry.Entry.{Entry}
 use Rattle.station.specs.Clock.{clocked}
 use Rattle.capture.specs.Following.{Sound}
 use Rattle.capture.specs.Lists.{Told, line, badRecord, noted}

@@ -13,7 +13,7 @@ use crate::listing::Put;
 use crate::noting::Answered;
 use answer::Refusal;
 use block::Block;
-use text::Word;
+use line::Word;
 
 // What feeding a block answers: how many octets of the buffer are its lines, or why there are none.
 pub enum Feed {

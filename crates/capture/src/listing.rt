@@ -4,8 +4,8 @@ ghost use mathlib.Core.Bool.{true};
 ghost use Prim.Native.Nat.{_+_, _-_, _≤_};
 ghost use lib.ListN.{length, drop};
 ghost use Rattle.octets.specs.Writing.{left, filled};
-ghost use Rattle.record.specs.Records.{recordsIn};
-ghost use Rattle.text.specs.Lines.{lineOf};
+ghost use Rattle.capture_record.specs.Records.{recordsIn};
+ghost use Rattle.line.specs.Lines.{lineOf};
 ghost use Rattle.capture.specs.Following.{Sound, lineFor, Listed};
 ghost use Rattle.capture.specs.Listers.{oneLineMore};
 ghost use Rattle.capture.specs.Lists.{recorded};
@@ -14,9 +14,9 @@ use crate::noting;
 use crate::noting::Answered;
 use crate::stepping;
 use crate::stepping::Step;
-use record::Found;
-use text::Text;
-use text::Word;
+use capture_record::Found;
+use line::Text;
+use line::Word;
 
 // The lister, and how many octets of the buffer are lines by now.
 pub struct Put {
@@ -24,7 +24,7 @@ pub struct Put {
     pub count: usize,
 }
 
-// A text behind what the buffer holds already: how many octets there are then.
+// A text after what the buffer holds already: how many octets there are then.
 fn put_text(text: Text, out: &mut [u8], count: usize) -> usize
     requires { ⌜ (text .from ≤ 64) × (count + (64 - text .from) ≤ length (now out)) ⌝ }
     ensures { λ r. ⌜ r ≡ count + (64 - text .from) ⌝ }
@@ -36,16 +36,16 @@ fn put_text(text: Text, out: &mut [u8], count: usize) -> usize
     count + (Text::ROOM - from)
 }
 
-// The line of this number, behind the lines before it: how many octets there are then.
+// The line of this number, after the lines before it: how many octets there are then.
 fn put_numbered(number: u64, word: Word, answer: u8, out: &mut [u8], count: usize) -> usize
     requires { ⌜ count + 64 ≤ length (now out) ⌝ }
     ensures { λ r. ⌜ (r ≡ count + length (lineOf number word answer)) × (r ≤ count + 64) ⌝ }
     ensures { λ _. ⌜ now (out .exit) ≡ left true (lineOf number word answer) count (now (out .entry)) ⌝ }
 {
-    put_text(text::line(number, word, answer), out, count)
+    put_text(line::line(number, word, answer), out, count)
 }
 
-// The line that tells a record's answer, behind the lines before it.
+// The line that tells a record's answer, after the lines before it.
 pub fn put_line(answered: Answered, out: &mut [u8], count: usize) -> Put
     requires { ⌜ (count + 64 ≤ length (now out)) × (answered .lister .lines ≤ 9223372036854775807) ⌝ }
     ensures { λ r. ⌜ r .lister ≡ oneLineMore (answered .lister) ⌝ }
@@ -71,7 +71,7 @@ pub fn put_records(lister: Lister, used: &[u8], out: &mut [u8]) -> Put
     let mut count = 0;
     let mut at = 0;
     loop {
-        match record::record_at(used, at) {
+        match capture_record::record_at(used, at) {
             Found::End => {
                 return Put {
                     lister: next,
@@ -83,7 +83,7 @@ pub fn put_records(lister: Lister, used: &[u8], out: &mut [u8]) -> Put
             }
             Found::Whole { kind, start, end } => {
                 let contents = &used[start..end];
-                match stepping::step_by(next, record::entry_of(kind, contents)) {
+                match stepping::step_by(next, capture_record::entry_of(kind, contents)) {
                     Step::Malformed => {
                         return put_line(noting::malformed(next), out, count);
                     }

@@ -2,7 +2,7 @@
 // station after it.
 ghost use mathlib.Core.Path.{_≡_};
 ghost use mathlib.Core.Bool.{true};
-ghost use Rattle.record.specs.Entries.{starting, settingsOf, advancing, hearing};
+ghost use Rattle.capture_record.specs.Entries.{starting, settingsOf, advancing, hearing};
 ghost use Rattle.capture.specs.Following.{Sound, Follows, lineFor};
 ghost use Rattle.capture.specs.Lists.{badRecord, noted};
 ghost use Rattle.capture.specs.Stepping.{changeNotes, ChangeFits};
@@ -11,8 +11,8 @@ use crate::lister;
 use crate::stepping::Change;
 use answer::Answer;
 use answer::Refusal;
+use line::Word;
 use station::Station;
-use text::Word;
 
 // The lister before the line that tells this word and this answer.
 pub struct Answered {
@@ -39,7 +39,7 @@ fn start(lister: Lister, contents: &[u8]) -> Answered
     ensures { λ r. ⌜ lineFor r ≡ noted lister (starting (settingsOf (now (contents .entry)))) ⌝ }
     ensures { λ r. ⌜ Follows lister (r .lister) ⌝ }
 {
-    let settings = record::settings_in(contents);
+    let settings = capture_record::settings_in(contents);
     let own = settings.own;
     let ap = settings.ap;
     let started = Station::start(own, ap, settings.interval, settings.channel);

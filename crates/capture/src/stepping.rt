@@ -4,15 +4,15 @@ ghost use mathlib.Core.Path.{_≡_};
 ghost use mathlib.Core.Bool.{false};
 ghost use mathlib.Core.List.{List};
 ghost use Prim.Native.Nat.{ℕ};
-ghost use Rattle.record.specs.Entries.{advancing, hearing, asking, entryTold};
+ghost use Rattle.capture_record.specs.Entries.{advancing, hearing, asking, entryTold};
 ghost use Rattle.capture.specs.Following.{Sound};
 ghost use Rattle.capture.specs.Lists.{line, noStation, noted};
 ghost use Rattle.capture.specs.Stepping.{stepTold, entryMalformed, StepFits};
 use crate::Lister;
 use answer::Refusal;
-use record::Entry;
+use capture_record::Entry;
+use line::Word;
 use station::Advanced;
-use text::Word;
 
 // What changes more of a lister than its clock.
 pub enum Change {

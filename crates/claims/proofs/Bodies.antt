@@ -1,6 +1,6 @@
 -- Demand 2 for the five action bodies, and for any number of measurement elements in them: each body that may be written reads back
 -- the same, and each accepted body with nothing uninterpreted and no reserved bit set is written back octet for octet.
--- `action-bodies` says it of octets and records, whatever their length; the laws behind it say it of the calls that write, and of
+-- `action-bodies` says it of octets and records, whatever their length; the laws that it cites say it of the calls that write, and of
 -- frames: the calls write at most `longestBody` octets, and no accepted frame has a longer body. Assumes nothing.
 use mathlib.Core.Bool.{Bool, true, false, not}
 use mathlib.Core.List.{List}
@@ -10,7 +10,7 @@ use native.Mathlib.Omega.{arith}
 use borrow.Author.Tests.{ltb-false, le-ltb}
 use lib.Dec.{eqb}
 use lib.ListN.{length, take, drop, length-drop, take-append-drop}
-use Rattle.action.specs.Singles.{tpcRequestBody, tpcReportBody, switchBody}
+use Rattle.single_body.specs.Singles.{tpcRequestBody, tpcReportBody, switchBody}
 use Rattle.answer.proofs.Booleans.{both}
 use Rattle.answer.proofs.Judged.{past, done, passed, kept}
 use Rattle.answer.specs.Checks.{Outcome, accepted}
@@ -24,20 +24,20 @@ use Rattle.frame.specs.Actions.{Body, requests, reports, tpcRequest, tpcReport,
 use Rattle.frame.specs.Frames.{action, Sent, kindOf, frameMeans}
 use Rattle.header.specs.Headers.{subtype, subtypeOf, toAll, foreignHeader, foreignAddress, headerMeans}
 use Rattle.header.specs.declared.Subtype.{Subtype}
-use Rattle.measurement.proofs.NeverLonger.{never-longer}
-use Rattle.measurement.proofs.RunLaws.{octets-behind}
-use Rattle.measurement.specs.Bodies.{longestBody}
-use Rattle.measurement.specs.Lists.{mayList}
-use Rattle.measurement.specs.Reports.{reportSort}
-use Rattle.measurement.specs.Requests.{requestSort}
+use Rattle.measurement_body.proofs.NeverLonger.{never-longer}
+use Rattle.measurement_body.proofs.RunLaws.{octets-after}
+use Rattle.measurement_body.specs.Bodies.{longestBody}
+use Rattle.measurement_body.specs.Lists.{mayList}
+use Rattle.measurement_body.specs.Reports.{reportSort}
+use Rattle.measurement_body.specs.Requests.{requestSort}
 use Rattle.octets.specs.Numbers.{Octets}
 use Rattle.octets.specs.Writing.{room, wrote}
 use Rattle.octets.proofs.Storing.{room-answer, front-left}
 use Rattle.claims.specs.BodyCalls.{once, bodyCalls, holding}
 -- a measurement body of any number of elements is written by one call for each: where it is not too long and the buffer has room
 -- every call is accepted, and the buffer then begins with the body's octets; a run that was read is written back
-pub use Rattle.measurement.proofs.ReportLists.{reports-append-all, reports-append-back}
-pub use Rattle.measurement.proofs.RequestLists.{requests-append-all, requests-append-back}
+pub use Rattle.measurement_body.proofs.ReportLists.{reports-append-all, reports-append-back}
+pub use Rattle.measurement_body.proofs.RequestLists.{requests-append-all, requests-append-back}
 
 pub action-bodies : RoundTrip actionMeans actionOctets actionMay ActionFits actionInterpreted actionClear
 action-bodies = action-trip
@@ -120,10 +120,10 @@ module _ (own ap' : List ℕ) (b : ℕ) (f : List ℕ) where
       → bodyCalls body buffer ≡ holding (drop 24 f) buffer
   frame-written-back x body buffer o e k i c room =
       let m = kind-means x e in
-      body-written-back (drop 24 f) body buffer (octets-behind (take 24 f) (drop 24 f) (subst Octets (sym (take-append-drop 24 f)) o))
+      body-written-back (drop 24 f) body buffer (octets-after (take 24 f) (drop 24 f) (subst Octets (sym (take-append-drop 24 f)) o))
       (body-means (m .0) body (m .1 ∙ ap accepted k)) i c (accepted-short x e) room
 
-  -- and behind a header that is not refused, each body that may be written, and is not too long, reads back the same
+  -- and after a header that is not refused, each body that may be written, and is not too long, reads back the same
   pub frame-read-back : (body : Body) → ActionFits body → actionMay body ≡ true → length (actionOctets body) ≤ longestBody
       → 24 ≤ length f → foreignHeader f ≡ false → foreignAddress own ap' f ≡ false → subtypeOf (subtype f) ≡ Subtype.Action
       → drop 24 f ≡ actionOctets body → frameMeans own ap' b f ≡ accepted (record { toAll = toAll f; kind = action body })

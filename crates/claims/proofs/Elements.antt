@@ -6,14 +6,14 @@ use mathlib.Core.List.{[]}
 use Prim.Native.Nat.{ℕ}
 use Rattle.element.specs.ChannelSwitch.{switchMeans, switchContents, switchMay}
 use Rattle.octets.specs.Elements.{RoundTrip}
-use Rattle.measure.specs.MeasurementReport.{reportMeans, reportContents, reportMay, ReportFits, reportInterpreted, reportClear}
-use Rattle.measure.specs.MeasurementRequest.{requestMeans, requestContents, requestMay, RequestFits, requestInterpreted, requestClear}
+use Rattle.measurement_element.specs.MeasurementReport.{reportMeans, reportContents, reportMay, ReportFits, reportInterpreted, reportClear}
+use Rattle.measurement_element.specs.MeasurementRequest.{requestMeans, requestContents, requestMay, RequestFits, requestInterpreted, requestClear}
 use Rattle.element.specs.PowerConstraint.{powerMeans, powerContents, powerMay}
 use Rattle.element.specs.Quiet.{quietMeans, quietContents, quietMay, QuietFits}
 use Rattle.element.specs.TpcReport.{tpcReportMeans, tpcReportContents, tpcReportMay, TpcReportFits}
 use Rattle.element.specs.TpcRequest.{tpcRequestMeans}
-use Rattle.measure.proofs.ReportTrip.{report-trip}
-use Rattle.measure.proofs.RequestTrip.{request-trip}
+use Rattle.measurement_element.proofs.ReportTrip.{report-trip}
+use Rattle.measurement_element.proofs.RequestTrip.{request-trip}
 use Rattle.element.proofs.RoundTrips.{power-trip, tpc-request-trip, tpc-report-trip, switch-trip, quiet-trip}
 
 pub power-constraint : RoundTrip powerMeans powerContents powerMay (λ p. Unit {0}) (λ p. true) (λ c. true)

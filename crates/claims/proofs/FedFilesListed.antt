@@ -13,8 +13,8 @@ use Rattle.capture.specs.Lists.{Told, blockTold, blocksIn, blocksTold, listOf}
 use Rattle.capture.specs.declared.feeding.Feed.{Feed}
 use Rattle.capture.specs.declared.feeding.Listing.{Listing}
 use Rattle.capture.specs.declared.lister.Lister.{Lister}
-use Rattle.text.proofs.InRoom.{from-place}
-use Rattle.text.specs.Lines.{closingOf}
+use Rattle.line.proofs.InRoom.{from-place}
+use Rattle.line.specs.Lines.{closingOf}
 use Rattle.claims.specs.FedFiles.{Begins, Feeds, FedAll, Closes}
 
 -- ---- a block

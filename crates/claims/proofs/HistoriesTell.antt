@@ -19,9 +19,9 @@ use Rattle.capture.specs.Listers.{fresh, oneBlockMore}
 use Rattle.capture.specs.Lists.{Told, line, before, started, stepped, noStation, badRecord, noted, isMalformed, recorded, damagedTold, judged, blockTold, blocksIn, blocksTold, listOf}
 use Rattle.capture.specs.declared.lister.Lister.{Lister}
 use Rattle.frame.specs.Frames.{frameMeans}
-use Rattle.record.specs.Entries.{Noted, malformed, starting, advancing, hearing, asking, entryMeans}
-use Rattle.record.specs.declared.entry.Settings as Entry
-use Rattle.record.specs.Records.{Records, end, cut, more, recordsIn}
+use Rattle.capture_record.specs.Entries.{Noted, malformed, starting, advancing, hearing, asking, entryMeans}
+use Rattle.capture_record.specs.declared.entry.Settings as Entry
+use Rattle.capture_record.specs.Records.{Records, end, cut, more, recordsIn}
 use Rattle.station.specs.Asking.{permissionNumber, permissionOf}
 use Rattle.station.specs.Clock.{advanceMeans, advanceOf}
 use Rattle.station.specs.Clock as Clock
@@ -29,8 +29,8 @@ use Rattle.station.specs.Starting.{startForbids, startMeans}
 use Rattle.station.specs.Stations as Stations
 use Rattle.station.specs.Taking.{takeMeans, takeOf}
 use Rattle.station.specs.declared.Station.{Station}
-use Rattle.text.specs.Lines.{lineOf, closingOf}
-use Rattle.text.specs.declared.words.Word.{Word}
+use Rattle.line.specs.Lines.{lineOf, closingOf}
+use Rattle.line.specs.declared.words.Word.{Word}
 use Rattle.claims.specs.Histories.{Settings, History, tooFar}
 use Rattle.claims.specs.HistoryLines.{Followed, nobody, since, startedWith, refusesStart, followedAfter, says, outcomeNumber, Tells, TellsRecords, TellsBlock, TellsBlocks, ToldByHistories}
 use Rattle.claims.specs.Numbered.{Said, numberedFrom}
@@ -76,7 +76,7 @@ take-number r f = by-outcome (frameMeans (r .own) (r .ap) (r .interval) f) _
 
 -- ---- a record
 
--- one line, which is what the history says, and who is followed behind it
+-- one line, which is what the history says, and who is followed after it
 record One (l : Lister) (x : Followed) (e : Noted) (t : Told) : Type 0 where
   said : Said
   tells : Tells e x said
@@ -178,7 +178,7 @@ one l (since s h) (asking n) (active, same, positive) = chosen l (since s h) (as
 
 -- ---- records, blocks, a file
 
--- lines that are what the histories say, and who is followed behind them
+-- lines that are what the histories say, and who is followed after them
 record Lines (l : Lister) (t : Told) (Telling : List Said → Followed → Type 0) : Type 0 where
   said : List Said
   next : Followed

@@ -12,12 +12,12 @@ use Rattle.block.specs.declared.Block.{Block}
 use Rattle.capture.specs.Listers.{fresh, without, following, oneBlockMore}
 use Rattle.capture.specs.Lists.{Told, nothing, line, before, started, badRecord, noted, isMalformed, recorded, damagedTold, judged, blockTold, blocksIn, blocksTold, listOf}
 use Rattle.capture.specs.declared.lister.Lister.{Lister}
-use Rattle.record.specs.Entries.{Noted, malformed, starting, advancing, hearing, asking, entryMeans}
-use Rattle.record.specs.Records.{Records, end, cut, more, recordsIn}
+use Rattle.capture_record.specs.Entries.{Noted, malformed, starting, advancing, hearing, asking, entryMeans}
+use Rattle.capture_record.specs.Records.{Records, end, cut, more, recordsIn}
 use Rattle.station.specs.Starting.{startMeans}
 use Rattle.station.specs.declared.Station.{Station}
-use Rattle.text.specs.Lines.{lineOf, closingOf}
-use Rattle.text.specs.declared.words.Word.{Word}
+use Rattle.line.specs.Lines.{lineOf, closingOf}
+use Rattle.line.specs.declared.words.Word.{Word}
 use Rattle.claims.specs.Numbered.{Said, numberedFrom, recordsCounted, linesIn, linesAmong, damagedAmong, ListedAs}
 
 -- so many lines, blocks and damaged blocks were told
@@ -59,10 +59,10 @@ one l next word answer same-lines same-blocks same-damaged =
 -- some lines, and those that follow
 both : (l : Lister) (t u : Told) (lines blocks damaged lines' blocks' damaged' : ℕ) → Counted l t lines blocks damaged → Counted (t .lister) u lines' blocks' damaged' → Counted l (before (t .text) u) (lines + lines') (blocks + blocks') (damaged + damaged')
 both l t u lines blocks damaged lines' blocks' damaged' a b =
-    let behind : t .lister .lines ≡ l .lines + length (a .said) = omega (arith, a .line-count, a .many) in
+    let after : t .lister .lines ≡ l .lines + length (a .said) = omega (arith, a .line-count, a .many) in
     record {
       said = a .said ++ b .said;
-      text = ap₂ _++_ (a .text) (b .text ∙ ap (λ (n : ℕ). numberedFrom n (b .said)) behind) ∙ sym (numbered-append (l .lines) (a .said) (b .said));
+      text = ap₂ _++_ (a .text) (b .text ∙ ap (λ (n : ℕ). numberedFrom n (b .said)) after) ∙ sym (numbered-append (l .lines) (a .said) (b .said));
       many = length-append (a .said) (b .said) ∙ ap₂ _+_ (a .many) (b .many);
       line-count = omega (arith, a .line-count, b .line-count);
       block-count = omega (arith, a .block-count, b .block-count);

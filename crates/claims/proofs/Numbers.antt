@@ -6,7 +6,7 @@ use lib.IntN.{ℤ}
 use lib.ListN.{length}
 use mir.Syntax.{w8}
 use mir.Val.{SFits}
-use Rattle.answer.specs.Sums.{sumOf}
+use Rattle.octets.specs.Sums.{sumOf}
 use Rattle.fraction.specs.Fractions.{ceiling, fractionOf}
 use Rattle.fraction.proofs.Ceilings.{enough, least}
 use Rattle.fraction.proofs.SumBound.{sum-bound}

@@ -9,16 +9,16 @@ use Rattle.block.proofs.end_after as End-after
 use Rattle.block.proofs.judge as Judge
 use Rattle.capture.proofs.lister.Lister.feed as Feed-block
 use Rattle.capture.proofs.lister.Lister.fresh as Fresh
-use Rattle.record.proofs.entry_of as Entry-of
-use Rattle.record.proofs.settings_in as Settings-in
-use Rattle.record.proofs.record_at as Record-at
-use Rattle.record.specs.Entries.{Noted, malformed, starting, advancing, hearing, asking, entryTold}
-use Rattle.record.specs.Found.{follow, Within}
-use Rattle.record.specs.declared.Found.{Found}
-use Rattle.record.specs.declared.entry.Entry.{Entry}
+use Rattle.capture_record.proofs.entry_of as Entry-of
+use Rattle.capture_record.proofs.settings_in as Settings-in
+use Rattle.capture_record.proofs.record_at as Record-at
+use Rattle.capture_record.specs.Entries.{Noted, malformed, starting, advancing, hearing, asking, entryTold}
+use Rattle.capture_record.specs.Found.{follow, Within}
+use Rattle.capture_record.specs.declared.Found.{Found}
+use Rattle.capture_record.specs.declared.entry.Entry.{Entry}
 use Rattle.station.proofs.Station.nobody as Nobody
-use Rattle.text.proofs.closing as Closing
-use Rattle.text.proofs.line as Line
+use Rattle.line.proofs.closing as Closing
+use Rattle.line.proofs.line as Line
 use Rattle.answer.specs.Outcomes.{OneResult, OneOutcome}
 use Rattle.claims.proofs.OneOutcomeWalk.{long}
 use Rattle.claims.proofs.Same.{once, told-once}

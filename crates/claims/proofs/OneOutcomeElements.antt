@@ -4,10 +4,10 @@ use denote.Ref.{now}
 use Rattle.answer.specs.Checks.{Outcome, refused, accepted}
 use Rattle.element.proofs.channel_switch.read as Switch-read
 use Rattle.element.proofs.channel_switch.write as Switch-write
-use Rattle.measure.proofs.measurement_report.read as Report-read
-use Rattle.measure.proofs.measurement_report.write as Report-write
-use Rattle.measure.proofs.measurement_request.read as Request-read
-use Rattle.measure.proofs.measurement_request.write as Request-write
+use Rattle.measurement_element.proofs.measurement_report.read as Report-read
+use Rattle.measurement_element.proofs.measurement_report.write as Report-write
+use Rattle.measurement_element.proofs.measurement_request.read as Request-read
+use Rattle.measurement_element.proofs.measurement_request.write as Request-write
 use Rattle.element.proofs.power_constraint.read as Power-read
 use Rattle.element.proofs.power_constraint.write as Power-write
 use Rattle.element.proofs.quiet.read as Quiet-read
@@ -17,15 +17,15 @@ use Rattle.element.proofs.tpc_report.write as Tpc-report-write
 use Rattle.element.proofs.tpc_request.read as Tpc-request-read
 use Rattle.element.proofs.tpc_request.write as Tpc-request-write
 use Rattle.element.specs.ChannelSwitch.{switchTold}
-use Rattle.measure.specs.MeasurementRequest.{requestTold}
+use Rattle.measurement_element.specs.MeasurementRequest.{requestTold}
 use Rattle.element.specs.PowerConstraint.{powerTold}
 use Rattle.element.specs.Quiet.{quietTold}
 use Rattle.element.specs.TpcReport.{tpcReportTold}
 use Rattle.element.specs.TpcRequest.{tpcRequestTold}
 use Rattle.element.specs.declared.channel_switch.ChannelSwitch.{ChannelSwitch}
 use Rattle.element.specs.declared.channel_switch.Reading as Switch-reading
-use Rattle.measure.specs.declared.measurement_request.Reading as Request-reading
-use Rattle.measure.specs.declared.measurement_request.Request.{Request}
+use Rattle.measurement_element.specs.declared.measurement_request.Reading as Request-reading
+use Rattle.measurement_element.specs.declared.measurement_request.Request.{Request}
 use Rattle.element.specs.declared.power_constraint.PowerConstraint.{PowerConstraint}
 use Rattle.element.specs.declared.power_constraint.Reading as Power-reading
 use Rattle.element.specs.declared.quiet.Quiet.{Quiet}
@@ -34,19 +34,19 @@ use Rattle.element.specs.declared.tpc_report.Reading as Tpc-report-reading
 use Rattle.element.specs.declared.tpc_report.TpcReport.{TpcReport}
 use Rattle.element.specs.declared.tpc_request.Reading as Tpc-request-reading
 use Rattle.element.proofs.channel_switch.may_write as Switch-may-write
-use Rattle.measure.proofs.measurement_request.is_clear as Request-is-clear
-use Rattle.measure.proofs.measurement_request.is_interpreted as Request-is-interpreted
-use Rattle.measure.proofs.measurement_request.may_write as Request-may-write
-use Rattle.measure.proofs.measurement_request.octet_count as Request-octet-count
-use Rattle.measure.proofs.measurement_request.to_octets as Request-to-octets
-use Rattle.measure.proofs.measurement_report.is_clear as Report-is-clear
-use Rattle.measure.proofs.measurement_report.is_interpreted as Report-is-interpreted
-use Rattle.measure.proofs.measurement_report.may_write as Report-may-write
-use Rattle.measure.proofs.measurement_report.octet_count as Report-octet-count
-use Rattle.measure.proofs.measurement_report.to_octets as Report-to-octets
-use Rattle.measure.proofs.span.Span.none as Span-none
-use Rattle.measure.proofs.span.Span.to_octets as Span-to-octets
-use Rattle.measure.proofs.measurement_report.refused as Report-refused
+use Rattle.measurement_element.proofs.measurement_request.is_clear as Request-is-clear
+use Rattle.measurement_element.proofs.measurement_request.is_interpreted as Request-is-interpreted
+use Rattle.measurement_element.proofs.measurement_request.may_write as Request-may-write
+use Rattle.measurement_element.proofs.measurement_request.octet_count as Request-octet-count
+use Rattle.measurement_element.proofs.measurement_request.to_octets as Request-to-octets
+use Rattle.measurement_element.proofs.measurement_report.is_clear as Report-is-clear
+use Rattle.measurement_element.proofs.measurement_report.is_interpreted as Report-is-interpreted
+use Rattle.measurement_element.proofs.measurement_report.may_write as Report-may-write
+use Rattle.measurement_element.proofs.measurement_report.octet_count as Report-octet-count
+use Rattle.measurement_element.proofs.measurement_report.to_octets as Report-to-octets
+use Rattle.measurement_element.proofs.span.Span.none as Span-none
+use Rattle.measurement_element.proofs.span.Span.to_octets as Span-to-octets
+use Rattle.measurement_element.proofs.measurement_report.refused as Report-refused
 use Rattle.answer.specs.Outcomes.{OneResult, OneOutcome}
 use Rattle.claims.proofs.Same.{once, told-once, written-once}
 

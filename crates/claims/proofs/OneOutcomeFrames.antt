@@ -3,18 +3,18 @@
 use mathlib.Core.Path.{_≡_, refl}
 use denote.Ref.{now}
 use Rattle.action.proofs.«open» as Open
-use Rattle.action.proofs.read_channel_switch as Read-channel-switch
-use Rattle.action.proofs.read_tpc_report as Read-tpc-report
-use Rattle.action.proofs.read_tpc_request as Read-tpc-request
-use Rattle.action.proofs.write_channel_switch as Write-channel-switch
-use Rattle.action.proofs.write_tpc_report as Write-tpc-report
-use Rattle.action.proofs.write_tpc_request as Write-tpc-request
+use Rattle.single_body.proofs.read_channel_switch as Read-channel-switch
+use Rattle.single_body.proofs.read_tpc_report as Read-tpc-report
+use Rattle.single_body.proofs.read_tpc_request as Read-tpc-request
+use Rattle.single_body.proofs.write_channel_switch as Write-channel-switch
+use Rattle.single_body.proofs.write_tpc_report as Write-tpc-report
+use Rattle.single_body.proofs.write_tpc_request as Write-tpc-request
 use Rattle.action.specs.Openings.{Opens, switching, with, openingTold}
-use Rattle.action.specs.declared.opening.Opening.{Opening}
+use Rattle.action.specs.declared.Opening.{Opening}
 use Rattle.answer.specs.Checks.{Outcome, refused, accepted}
 use Rattle.beacon.proofs.read as Beacon-read
 use Rattle.element.specs.ChannelSwitch.{switchTold}
-use Rattle.measure.specs.MeasurementRequest.{requestTold}
+use Rattle.measurement_element.specs.MeasurementRequest.{requestTold}
 use Rattle.element.specs.TpcReport.{tpcReportTold}
 use Rattle.element.specs.TpcRequest.{tpcRequestTold}
 use Rattle.frame.proofs.read as Frame-read
@@ -28,10 +28,10 @@ use Rattle.frame.specs.declared.Reading.{Reading}
 use Rattle.header.proofs.read as Header-read
 use Rattle.header.specs.Headers.{Head, told}
 use Rattle.header.specs.declared.Header.{Header}
-use Rattle.measurement.proofs.reports.append as Reports-append
-use Rattle.measurement.proofs.reports.survey as Reports-survey
-use Rattle.measurement.proofs.requests.append as Requests-append
-use Rattle.measurement.proofs.requests.survey as Requests-survey
+use Rattle.measurement_body.proofs.reports.append as Reports-append
+use Rattle.measurement_body.proofs.reports.survey as Reports-survey
+use Rattle.measurement_body.proofs.requests.append as Requests-append
+use Rattle.measurement_body.proofs.requests.survey as Requests-survey
 use Rattle.answer.specs.Outcomes.{OneResult, OneOutcome}
 use Rattle.claims.proofs.OneOutcomeElements.{switch-of, switch-told, request-of, request-told, tpc-report-of, tpc-report-told, tpc-request-of, tpc-request-told}
 use Rattle.claims.proofs.Same.{once, told-once, written-once}

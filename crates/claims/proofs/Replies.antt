@@ -8,7 +8,7 @@ use Rattle.answer.specs.Checks.{Outcome, refused, accepted, andThen}
 use Rattle.answer.specs.declared.Refusal.{Refusal}
 use Rattle.octets.specs.Writing.{told, wrote, after, left}
 use Rattle.octets.specs.declared.writing.Wrote.{Wrote}
-use Rattle.owed.proofs.report_for as Report-for
+use Rattle.measured_report.proofs.report_for as Report-for
 use Rattle.reply.proofs.to_measurement_request as To-measurement-request
 use Rattle.reply.proofs.to_tpc_request as To-tpc-request
 use Rattle.reply.specs.Replies.{leftBy, Replied}

@@ -12,14 +12,14 @@ use Rattle.answer.proofs.Booleans.{clash, and-go, and-stop}
 use Rattle.answer.proofs.Judged.{past, done, passed, kept, never}
 use Rattle.answer.specs.Checks.{Outcome, refused, accepted, _⇒_, pick, judged, andThen}
 use Rattle.answer.specs.declared.Refusal.{Refusal}
-use Rattle.action.specs.Singles.{tpcReportBody}
-use Rattle.measure.specs.MeasurementReport.{ReportFits, reportMay}
+use Rattle.single_body.specs.Singles.{tpcReportBody}
+use Rattle.measurement_element.specs.MeasurementReport.{ReportFits, reportMay}
 use Rattle.element.specs.TpcReport.{TpcReportFits, tpcReportOctets}
-use Rattle.measure.specs.declared.measurement_report.Matter.{Matter}
-use Rattle.measure.specs.declared.measurement_report.Report.{Report}
-use Rattle.measure.specs.declared.measurement_request.Matter as Asked
-use Rattle.measure.specs.declared.measurement_request.Request.{Request}
-use Rattle.measure.specs.declared.span.Span.{Span}
+use Rattle.measurement_element.specs.declared.measurement_report.Matter.{Matter}
+use Rattle.measurement_element.specs.declared.measurement_report.Report.{Report}
+use Rattle.measurement_element.specs.declared.measurement_request.Matter as Asked
+use Rattle.measurement_element.specs.declared.measurement_request.Request.{Request}
+use Rattle.measurement_element.specs.declared.span.Span.{Span}
 use Rattle.element.specs.declared.tpc_report.TpcReport.{TpcReport}
 use Rattle.fraction.specs.Fractions.{busyOf, densitiesOf}
 use Rattle.frame.proofs.ActionTrip.{action-trip}
@@ -27,22 +27,22 @@ use Rattle.frame.specs.Actions.{Body, requests, reports, tpcRequest, tpcReport,
 use Rattle.frame.specs.Frames.{action, frameMeans}
 use Rattle.header.specs.Headers.{same, toAll, foreignHeader, foreignAddress, headerMeans}
 use Rattle.header.specs.declared.Subtype.{Subtype}
-use Rattle.measurement.specs.Bodies.{bodyOctets}
-use Rattle.measurement.specs.Lists.{nth, mayAll, mayList}
-use Rattle.measurement.specs.Reports.{reportSort}
+use Rattle.measurement_body.specs.Bodies.{bodyOctets}
+use Rattle.measurement_body.specs.Lists.{nth, mayAll, mayList}
+use Rattle.measurement_body.specs.Reports.{reportSort}
 use Rattle.octets.specs.Numbers.{bit, octet}
 use Rattle.octets.specs.Writing.{told, wrote}
 use Rattle.octets.specs.declared.writing.Wrote.{Wrote}
-use Rattle.owed.proofs.Findings.{rpiWith}
+use Rattle.measured_report.proofs.Findings.{rpiWith}
 use Rattle.octets.proofs.Storing.{room-answer}
 use Rattle.reply.proofs.Framed.{six}
 use Rattle.reply.proofs.OneReport.{body, short-body}
 use Rattle.reply.specs.Due.{dueMeans}
 use Rattle.reply.specs.Frames.{replyFrame}
 use Rattle.reply.specs.Replies.{tpcReply, measurementAnswer, measurementReply, Replied}
-use Rattle.owed.specs.Reports.{plain, busyReport, rpiReport, foundReport, isLate, begun, byMatter, reportFor}
-use Rattle.owed.specs.declared.Finding.{Finding}
-use Rattle.owed.specs.declared.Readings.{Readings}
+use Rattle.measured_report.specs.Reports.{plain, busyReport, rpiReport, foundReport, isLate, begun, byMatter, reportFor}
+use Rattle.measured_report.specs.declared.Finding.{Finding}
+use Rattle.measured_report.specs.declared.Readings.{Readings}
 use Rattle.claims.specs.Exchanged.{exchanged}
 
 -- ---- the header

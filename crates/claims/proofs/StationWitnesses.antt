@@ -5,7 +5,7 @@ use mathlib.Core.Path.{_≡_, refl}
 use Prim.Native.Nat.{ℕ}
 use lib.ListN.{replicate}
 use Rattle.action.specs.Openings.{opensWith}
-use Rattle.action.specs.Singles.{sole, single}
+use Rattle.single_body.specs.Singles.{sole, single}
 use Rattle.answer.specs.Checks.{checked}
 use Rattle.beacon.specs.Beacons.{takes, says, beaconMeans}
 use Rattle.beacon.specs.declared.MaybePower.{MaybePower}
@@ -22,7 +22,7 @@ use Rattle.schedule.specs.Units.{someUnit}
 use Rattle.station.specs.Asking.{firstOf, quietIn, permissionOf}
 use Rattle.station.specs.Clock.{advanceMeans}
 use Rattle.station.specs.Taking.{announced, told, takeMeans}
-use Rattle.walk.specs.Elements.{elementsBehind, elementsIn}
+use Rattle.walk.specs.Elements.{elementsAfter, elementsIn}
 use Rattle.claims.specs.Histories.{frame, advance}
 use Rattle.claims.specs.Moments.{Moment, asking, AllRight, ours, heard, beaconOf, quiet, announcement}
 use Rattle.claims.specs.Records.{recordAfter}
@@ -60,27 +60,27 @@ witnesses =
     ∷ []
 
 pub witnesses-right : AllRight witnesses
-unfolding recordAfter takeMeans frameMeans headerMeans foreignHeader foreignAddress toAll beaconMeans checked says takes elementsIn elementsBehind quietMeans switchMeans fixed actionMeans opensWith sole single announced told advanceMeans permissionOf firstOf quietIn someUnit covered
+unfolding recordAfter takeMeans frameMeans headerMeans foreignHeader foreignAddress toAll beaconMeans checked says takes elementsIn elementsAfter quietMeans switchMeans fixed actionMeans opensWith sole single announced told advanceMeans permissionOf firstOf quietIn someUnit covered
 witnesses-right = (refl, (refl, (refl, (refl, (refl, (refl, (refl, (refl, (refl, (refl, tt))))))))))
 
 -- ---- the record
 
 -- a Power Constraint is kept
 pub constraint-kept : recordAfter ours (beaconOf constraint ∷ []) .power ≡ MaybePower.Is (record { decibels = 3 })
-unfolding recordAfter takeMeans frameMeans headerMeans foreignHeader foreignAddress toAll beaconMeans checked says takes elementsIn elementsBehind powerMeans fixed announced told
+unfolding recordAfter takeMeans frameMeans headerMeans foreignHeader foreignAddress toAll beaconMeans checked says takes elementsIn elementsAfter powerMeans fixed announced told
 constraint-kept = refl
 
 -- and does not outlive a switch
 pub constraint-gone : recordAfter ours (advance 100 ∷ announcement 0 ∷ beaconOf constraint ∷ []) .power ≡ MaybePower.Absent
-unfolding recordAfter takeMeans frameMeans headerMeans foreignHeader foreignAddress toAll beaconMeans checked says takes elementsIn elementsBehind powerMeans switchMeans fixed actionMeans opensWith sole single announced told advanceMeans
+unfolding recordAfter takeMeans frameMeans headerMeans foreignHeader foreignAddress toAll beaconMeans checked says takes elementsIn elementsAfter powerMeans switchMeans fixed actionMeans opensWith sole single announced told advanceMeans
 constraint-gone = refl
 
 -- a switch is for the next TBTT, wherever in the interval it was announced
 pub counted-from-tbtt : recordAfter ours (announcement 0 ∷ advance 99 ∷ []) .pending ≡ Pending.Switch 100 0 40
-unfolding recordAfter takeMeans frameMeans headerMeans foreignHeader foreignAddress toAll checked elementsIn elementsBehind switchMeans fixed actionMeans opensWith sole single announced told advanceMeans
+unfolding recordAfter takeMeans frameMeans headerMeans foreignHeader foreignAddress toAll checked elementsIn elementsAfter switchMeans fixed actionMeans opensWith sole single announced told advanceMeans
 counted-from-tbtt = refl
 
 -- and when it comes, the channel is the new one
 pub channel-new : recordAfter ours (advance 1 ∷ announcement 0 ∷ advance 99 ∷ []) .channel ≡ 40
-unfolding recordAfter takeMeans frameMeans headerMeans foreignHeader foreignAddress toAll checked elementsIn elementsBehind switchMeans fixed actionMeans opensWith sole single announced told advanceMeans
+unfolding recordAfter takeMeans frameMeans headerMeans foreignHeader foreignAddress toAll checked elementsIn elementsAfter switchMeans fixed actionMeans opensWith sole single announced told advanceMeans
 channel-new = refl

@@ -77,6 +77,6 @@ pub refused-advance : (κs : Lfts 0) (a : Dens κs Advance.Kinds.ps) (e : AtExit
     → Advance.Reads.Post κs a x e → x .answer ≡ Answer.Refused r → x .station ≡ a .0
 refused-advance κs a e x r p f = stepped-same (a .0) (advanceMeans (a .0) (a .1 .0)) x r (p .0) f
 
--- no call may be handed what stands behind a refused start
+-- no call may be handed what stands beside a refused start
 pub refused-start-invalid : Valid blank → ⊥
 refused-start-invalid v = omega (arith, v .interval-positive)

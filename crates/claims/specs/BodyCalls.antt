@@ -5,13 +5,13 @@ use mathlib.Core.List.{List, _++_}
 use Prim.Native.Nat.{ℕ}
 use lib.Dec.{eqb}
 use lib.ListN.{length, drop}
-use Rattle.action.specs.Singles.{tpcRequestBody, tpcReportBody, switchBody}
+use Rattle.single_body.specs.Singles.{tpcRequestBody, tpcReportBody, switchBody}
 use Rattle.answer.specs.Checks.{accepted}
 use Rattle.element.specs.ChannelSwitch.{switchMay}
 use Rattle.frame.specs.Actions.{Body, requests, reports, tpcRequest, tpcReport, switch}
-use Rattle.measurement.specs.Calls.{Buffer, appends}
-use Rattle.measurement.specs.Reports.{reportSort}
-use Rattle.measurement.specs.Requests.{requestSort}
+use Rattle.measurement_body.specs.Calls.{Buffer, appends}
+use Rattle.measurement_body.specs.Reports.{reportSort}
+use Rattle.measurement_body.specs.Requests.{requestSort}
 use Rattle.octets.specs.Writing.{wrote, left}
 
 -- one call of a writer, from the buffer's first octet on

@@ -12,7 +12,7 @@ use Rattle.capture.proofs.lister.Lister.feed as Feed-block
 use Rattle.capture.proofs.lister.Lister.fresh as Fresh
 use Rattle.capture.specs.declared.feeding.Feed.{Feed}
 use Rattle.capture.specs.declared.lister.Lister.{Lister}
-use Rattle.text.proofs.closing as Closing
+use Rattle.line.proofs.closing as Closing
 
 -- `Lister::fresh` was called, and gave this lister
 abbrev pub Begins : Lister → Type 0

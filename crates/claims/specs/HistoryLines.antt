@@ -12,14 +12,14 @@ use Rattle.answer.specs.declared.Refusal.{Refusal}
 use Rattle.block.specs.Blocks.{isDamaged, usedPart}
 use Rattle.capture.specs.Lists.{isMalformed, blocksIn, listOf}
 use Rattle.frame.specs.Frames.{frameMeans}
-use Rattle.record.specs.Entries.{Noted, malformed, starting, advancing, hearing, asking, entryMeans}
-use Rattle.record.specs.Records.{Records, end, cut, more, recordsIn}
-use Rattle.record.specs.declared.entry.Settings as Entry
+use Rattle.capture_record.specs.Entries.{Noted, malformed, starting, advancing, hearing, asking, entryMeans}
+use Rattle.capture_record.specs.Records.{Records, end, cut, more, recordsIn}
+use Rattle.capture_record.specs.declared.entry.Settings as Entry
 use Rattle.station.specs.Asking.{permissionNumber}
 use Rattle.station.specs.Starting.{startForbids}
 use Rattle.station.specs.declared.asking.Permission.{Permission}
-use Rattle.text.specs.Lines.{closingOf}
-use Rattle.text.specs.declared.words.Word.{Word}
+use Rattle.line.specs.Lines.{closingOf}
+use Rattle.line.specs.declared.words.Word.{Word}
 use Rattle.claims.specs.Histories.{Settings, frame, advance, ask, History, tooFar, clockAfter}
 use Rattle.claims.specs.Numbered.{Said, numberedFrom, damagedAmong}
 use Rattle.claims.specs.OpenUnits.{Applies}
@@ -66,7 +66,7 @@ Tells (hearing f) (since s h) line = line ≡ says Word.Frame (outcomeNumber (fr
 Tells (asking n) nobody line = line ≡ says Word.Ask (numberOf Refusal.NoStation)
 Tells (asking n) (since s h) line = (p : Permission) × Applies s h n p × (line ≡ says Word.Ask (permissionNumber p))
 
--- the lines of records, and who is followed behind them
+-- the lines of records, and who is followed after them
 unfoldable pub TellsRecords : Records → Followed → List Said → Followed → Type 0
 TellsRecords end x lines next = (lines ≡ []) × (next ≡ x)
 TellsRecords cut x lines next = (lines ≡ says Word.Record (numberOf Refusal.RecordMalformed) ∷ []) × (next ≡ nobody)

@@ -5,7 +5,7 @@ use mathlib.Core.Path.{_≡_}
 use Prim.Native.Nat.{ℕ}
 use lib.ListN.{replicate}
 use Rattle.answer.specs.Checks.{accepted}
-use Rattle.answer.specs.Sums.{sumOf}
+use Rattle.octets.specs.Sums.{sumOf}
 use Rattle.fraction.specs.Fractions.{densitiesOf}
 use Rattle.station.specs.Asking.{permissionNumber, permissionOf}
 use Rattle.claims.specs.Histories.{Settings, Call, frame, advance, ask, History}

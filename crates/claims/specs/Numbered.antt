@@ -7,12 +7,12 @@ use lib.ListN.{length}
 use Rattle.answer.specs.Checks.{pick}
 use Rattle.block.specs.Blocks.{isDamaged, usedPart}
 use Rattle.capture.specs.Lists.{isMalformed, blocksIn, listOf}
-use Rattle.record.specs.Entries.{entryMeans}
-use Rattle.record.specs.Records.{Records, end, cut, more, recordsIn}
-use Rattle.text.specs.Lines.{lineOf, closingOf}
-use Rattle.text.specs.declared.words.Word.{Word}
+use Rattle.capture_record.specs.Entries.{entryMeans}
+use Rattle.capture_record.specs.Records.{Records, end, cut, more, recordsIn}
+use Rattle.line.specs.Lines.{lineOf, closingOf}
+use Rattle.line.specs.declared.words.Word.{Word}
 
--- what a line says behind its number
+-- what a line says after its number
 pub record Said : Type 0 where
   pub word : Word
   pub answer : ℕ

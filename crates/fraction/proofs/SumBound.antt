@@ -5,7 +5,7 @@ use Prim.Native.Nat.{ℕ, _+_, _-_, _*_, _<_, _≤_}
 use native.Mathlib.Nat.{lt-of-mul-lt-mul-left}
 use native.Mathlib.Omega.{arith}
 use lib.ListN.{length}
-use Rattle.answer.specs.Sums.{sumOf}
+use Rattle.octets.specs.Sums.{sumOf}
 use Rattle.fraction.specs.Fractions.{fractionOf}
 use Rattle.fraction.proofs.Ceilings.{least, near}
 

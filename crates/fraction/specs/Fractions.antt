@@ -6,7 +6,7 @@ use Prim.Native.Nat.{ℕ, _+_, _-_, _*_, _/_}
 use lib.ListN.{replicate}
 use lib.Dec.{leb, eqb}
 use Rattle.answer.specs.Checks.{Outcome, refused, accepted, _⇒_, judged}
-use Rattle.answer.specs.Sums.{sumOf}
+use Rattle.octets.specs.Sums.{sumOf}
 use Rattle.answer.specs.declared.Answer.{Answer}
 use Rattle.answer.specs.declared.Refusal.{Refusal}
 use Rattle.fraction.specs.declared.Densities.{Densities}
@@ -36,7 +36,7 @@ unfoldable pub densitiesOf : ℕ → List ℕ → Outcome (List ℕ)
 densitiesOf duration times =
     judged (not (possible duration (sumOf times)) ⇒ Refusal.Impossible ∷ []) (map (fractionOf duration) times)
 
--- the answer with its eight numbers beside it, all 0 behind a refusal
+-- the answer with its eight numbers beside it, all 0 beside a refusal
 abbrev pub laid : Outcome (List ℕ) → Densities
 laid (refused r) = record { answer = Answer.Refused r; values = replicate 8 0 }
 laid (accepted ds) = record { answer = Answer.Accepted; values = ds }

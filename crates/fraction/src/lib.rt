@@ -1,7 +1,7 @@
 // The busy fraction and the eight RPI densities (document 01, "Replies"; 802.11h 7.3.2.22.2 and 7.3.2.22.3).
 ghost use mathlib.Core.Path.{_≡_};
 ghost use Prim.Native.Nat.{_*_, _<_, _≤_};
-ghost use Rattle.answer.specs.Sums.{sumOf};
+ghost use Rattle.octets.specs.Sums.{sumOf};
 ghost use Rattle.fraction.specs.Fractions.{possible, fractionOf, told, busyOf, laid, densitiesOf};
 use answer::Answer;
 use answer::Refusal;

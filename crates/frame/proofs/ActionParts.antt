@@ -1,4 +1,4 @@
--- An action body is accepted exactly where its fixed fields and what stands behind them are. Assumes nothing.
+-- An action body is accepted exactly where its fixed fields and what stands after them are. Assumes nothing.
 use mathlib.Core.Path.{_≡_, refl, ap, subst, _∙_}
 use mathlib.Core.Bool.{Bool, true, false, not, _&&_}
 use mathlib.Core.List.{List, [], _∷_, _++_}
@@ -7,8 +7,8 @@ use native.Mathlib.Omega.{arith}
 use borrow.Author.Tests.{le-ltb, ne-eqb, ltb-false, eqb-true, eqb-false, not-true, not-false}
 use lib.Dec.{ltb, eqb}
 use lib.ListN.{length, drop}
-use Rattle.action.specs.Openings.{Opens, switching, with, opensWith, needsToken}
-use Rattle.action.specs.Singles.{single}
+use Rattle.action.specs.Openings.{Opens, switching, with, opensWith, forbidsZeroToken}
+use Rattle.single_body.specs.Singles.{single}
 use Rattle.answer.specs.Checks.{Outcome, refused, accepted, pick, _⇒_, checked, judged, andThen}
 use Rattle.answer.specs.declared.Refusal.{Refusal}
 use Rattle.answer.proofs.Booleans.{clash}
@@ -16,12 +16,12 @@ use Rattle.answer.proofs.Judged.{never, passed, stands, kept}
 use Rattle.element.specs.ChannelSwitch.{switchMeans}
 use Rattle.element.specs.TpcReport.{tpcReportMeans}
 use Rattle.element.specs.TpcRequest.{tpcRequestMeans}
-use Rattle.measurement.specs.Lists.{recordsIn}
-use Rattle.measurement.specs.Reports.{reportSort}
-use Rattle.measurement.specs.Requests.{requestSort}
+use Rattle.measurement_body.specs.Lists.{recordsIn}
+use Rattle.measurement_body.specs.Reports.{reportSort}
+use Rattle.measurement_body.specs.Requests.{requestSort}
 use Rattle.octets.specs.Numbers.{octet}
 use Rattle.walk.specs.Elements.{elementsIn}
-use Rattle.frame.specs.Actions.{Body, requests, reports, tpcRequest, tpcReport, switch, behind, actionMeans}
+use Rattle.frame.specs.Actions.{Body, requests, reports, tpcRequest, tpcReport, switch, afterOpening, actionMeans}
 use Rattle.frame.proofs.SingleTrip.{followed}
 
 -- the fixed fields of a body
@@ -41,7 +41,7 @@ Holds (tpcReport token t) run = single 35 tpcReportMeans (elementsIn run) ≡ ac
 Holds (switch s) run = single 37 switchMeans (elementsIn run) ≡ accepted s
 
 module _ (run : List ℕ) where
-  opens : (action token : ℕ) → action ≤ 3 → (needsToken action && eqb token 0) ≡ false → opensWith (0 ∷ action ∷ token ∷ run) ≡ accepted (with action token)
+  opens : (action token : ℕ) → action ≤ 3 → (forbidsZeroToken action && eqb token 0) ≡ false → opensWith (0 ∷ action ∷ token ∷ run) ≡ accepted (with action token)
   unfolding opensWith checked
   opens action token h k =
       let n = length (0 ∷ action ∷ token ∷ run) in
@@ -53,9 +53,9 @@ module _ (run : List ℕ) where
       let n = length (0 ∷ 4 ∷ run) in
       simp (le-ltb n 1 (omega arith), le-ltb n 2 (omega arith))
 
-  by-lead : (c : List ℕ) (o : Opens) → opensWith c ≡ accepted o → actionMeans c ≡ behind c o
+  by-lead : (c : List ℕ) (o : Opens) → opensWith c ≡ accepted o → actionMeans c ≡ afterOpening c o
   unfolding actionMeans
-  by-lead c o e = ap (λ (x : Outcome Opens). andThen x (behind c)) e
+  by-lead c o e = ap (λ (x : Outcome Opens). andThen x (afterOpening c)) e
 
   pub reads : (body : Body) → Holds body run → actionMeans (lead body ++ run) ≡ accepted body
   reads (requests token rs) h = by-lead _ _ (opens 0 token (omega arith) (not-true (eqb token 0) (h .0))) ∙ simp (h .1)
@@ -74,12 +74,12 @@ pub record Parts (c : List ℕ) (body : Body) : Type 0 where
 -- what an opening says of the octets
 abbrev Begins : List ℕ → Opens → Type 0
 Begins c switching = c ≡ 0 ∷ 4 ∷ drop 2 c
-Begins c (with action token) = (c ≡ 0 ∷ action ∷ token ∷ drop 3 c) × (action ≤ 3) × ((needsToken action && eqb token 0) ≡ false)
+Begins c (with action token) = (c ≡ 0 ∷ action ∷ token ∷ drop 3 c) × (action ≤ 3) × ((forbidsZeroToken action && eqb token 0) ≡ false)
 
 module _ (y : ℕ) where
-  -- behind category 0 and an action up to 4
+  -- after category 0 and an action up to 4
   by-action : (r : List ℕ) (o : Opens) (t : Bool) → eqb y 4 ≡ t → y ≤ 4
-      → pick t (accepted switching) (judged (ltb (length (0 ∷ y ∷ r)) 3 ⇒ Refusal.TooShort ∷ (needsToken y && eqb (octet 2 (0 ∷ y ∷ r)) 0) ⇒ Refusal.ForbiddenValue ∷ []) (with y (octet 2 (0 ∷ y ∷ r)))) ≡ accepted o
+      → pick t (accepted switching) (judged (ltb (length (0 ∷ y ∷ r)) 3 ⇒ Refusal.TooShort ∷ (forbidsZeroToken y && eqb (octet 2 (0 ∷ y ∷ r)) 0) ⇒ Refusal.ForbiddenValue ∷ []) (with y (octet 2 (0 ∷ y ∷ r)))) ≡ accepted o
       → Begins (0 ∷ y ∷ r) o
   by-action r o true u h e =
       let k : switching ≡ o = cc in
@@ -107,7 +107,7 @@ module _ (c : List ℕ) (body : Body) where
   made make (refused r) k e = absurd (never e)
   made make (accepted a) k e = let g : make a ≡ body = cc in subst (Parts c) g (k a refl)
 
-  by-opening : (o : Opens) → Begins c o → behind c o ≡ accepted body → Parts c body
+  by-opening : (o : Opens) → Begins c o → afterOpening c o ≡ accepted body → Parts c body
   by-opening switching b e = made switch _ (λ s h. record { run = drop 2 c; front = b; holds = h }) e
   by-opening (with zero token) b e =
       made (requests token) _ (λ rs h. record { run = drop 3 c; front = b .0; holds = (ap not (b .2), h) }) e
@@ -119,4 +119,4 @@ module _ (c : List ℕ) (body : Body) where
 
   pub parts : actionMeans c ≡ accepted body → Parts c body
   unfolding actionMeans
-  parts e = let p = followed (opensWith c) (behind c) body e in by-opening (p .0) (begins c (p .0) (p .1)) (p .2)
+  parts e = let p = followed (opensWith c) (afterOpening c) body e in by-opening (p .0) (begins c (p .0) (p .1)) (p .2)

@@ -5,23 +5,23 @@ use mathlib.Core.Bool.{true, not}
 use mathlib.Core.List.{List, [], _++_, append-cancel-left}
 use Prim.Native.Nat.{ℕ}
 use lib.Dec.{eqb}
-use Rattle.action.specs.Singles.{single}
+use Rattle.single_body.specs.Singles.{single}
 use Rattle.answer.specs.Checks.{accepted}
 use Rattle.answer.proofs.Booleans.{both}
 use Rattle.element.specs.ChannelSwitch.{switchMeans, switchContents, switchMay, switchOctets}
 use Rattle.octets.specs.Elements.{RoundTrip}
-use Rattle.measure.specs.MeasurementReport.{ReportFits}
-use Rattle.measure.specs.MeasurementRequest.{RequestFits}
+use Rattle.measurement_element.specs.MeasurementReport.{ReportFits}
+use Rattle.measurement_element.specs.MeasurementRequest.{RequestFits}
 use Rattle.element.specs.TpcReport.{tpcReportMeans, tpcReportContents, tpcReportMay, tpcReportOctets, TpcReportFits}
 use Rattle.element.specs.TpcRequest.{tpcRequestMeans, tpcRequestOctets}
 use Rattle.element.proofs.RoundTrips.{tpc-request-trip, tpc-report-trip, switch-trip}
-use Rattle.measurement.specs.Lists.{AllFit, recordsIn, mayList, allOctets, allInterpreted, allClear}
-use Rattle.measurement.specs.Reports.{reportSort}
-use Rattle.measurement.specs.Requests.{requestSort}
-use Rattle.measurement.proofs.ListTrip.{list-trip}
-use Rattle.measurement.proofs.ReportLists.{reports-trip}
-use Rattle.measurement.proofs.RequestLists.{requests-trip}
-use Rattle.measurement.proofs.RunLaws.{octets-behind}
+use Rattle.measurement_body.specs.Lists.{AllFit, recordsIn, mayList, allOctets, allInterpreted, allClear}
+use Rattle.measurement_body.specs.Reports.{reportSort}
+use Rattle.measurement_body.specs.Requests.{requestSort}
+use Rattle.measurement_body.proofs.ListTrip.{list-trip}
+use Rattle.measurement_body.proofs.ReportLists.{reports-trip}
+use Rattle.measurement_body.proofs.RequestLists.{requests-trip}
+use Rattle.measurement_body.proofs.RunLaws.{octets-after}
 use Rattle.octets.specs.Numbers.{Octets}
 use Rattle.walk.specs.Elements.{elementsIn}
 use Rattle.frame.specs.Actions.{Body, requests, reports, tpcRequest, tpcReport, switch, actionMeans, actionOctets, actionMay, actionInterpreted, actionClear, ActionFits}
@@ -45,7 +45,7 @@ one-switch : RoundTrip (λ run. single 37 switchMeans (elementsIn run)) switchOc
 unfolding switchOctets
 one-switch = single-trip 37 switchMeans switchContents switchMay (λ s. Unit {0}) switch-trip
 
--- the octets behind the fixed fields
+-- the octets after the fixed fields
 abbrev elements : Body → List ℕ
 elements (requests token rs) = allOctets requestSort rs
 elements (reports token rs) = allOctets reportSort rs
@@ -61,7 +61,7 @@ laid (tpcRequest token) = refl
 laid (tpcReport token t) = refl
 laid (switch s) = refl
 
--- ---- what stands behind the fixed fields
+-- ---- what stands after the fixed fields
 
 held : (body : Body) → ActionFits body → actionMay body ≡ true → Holds body (elements body)
 unfolding ActionFits actionMay
@@ -110,7 +110,7 @@ back : (c : List ℕ) (body : Body) → Octets c → actionMeans c ≡ accepted 
 back c body o e i k =
     let p = parts c body e in
     let w =
-    written body (p .run) (octets-behind (lead body) (p .run) (subst Octets (p .front) o)) (p .holds) i
+    written body (p .run) (octets-after (lead body) (p .run) (subst Octets (p .front) o)) (p .holds) i
     (subst (λ (x : List ℕ). actionClear x ≡ true) (p .front) k)
     in
     (w .0, laid body ∙ ap (λ (x : List ℕ). lead body ++ x) (w .1) ∙ sym (p .front))
@@ -124,7 +124,7 @@ exact body f e i =
 fits : (c : List ℕ) (body : Body) → Octets c → actionMeans c ≡ accepted body → ActionFits body
 fits c body o e =
     let p = parts c body e in
-    fitting body (p .run) (octets-behind (lead body) (p .run) (subst Octets (p .front) o)) (p .holds)
+    fitting body (p .run) (octets-after (lead body) (p .run) (subst Octets (p .front) o)) (p .holds)
 
 pub action-trip : RoundTrip actionMeans actionOctets actionMay ActionFits actionInterpreted actionClear
 action-trip = record { there = there; back = back; exact = exact; fits = fits }

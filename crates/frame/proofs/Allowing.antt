@@ -6,8 +6,8 @@ use Prim.Native.Nat.{ℕ}
 use lib.Dec.{eqb}
 use lib.ListN.{drop}
 use Rattle.action.specs.Openings.{Opens, switching, with, opensWith}
-use Rattle.action.specs.Singles.{single, sole, alone}
-use Rattle.answer.proofs.Yielding.{Yields, of-refusal, of-value, either-way, behind-value}
+use Rattle.single_body.specs.Singles.{single, sole, alone}
+use Rattle.answer.proofs.Yielding.{Yields, of-refusal, of-value, either-way, after-value}
 use Rattle.answer.specs.Checks.{accepted}
 use Rattle.beacon.proofs.Allowing.{switch-allowed, beacon-allowed}
 use Rattle.beacon.specs.Beacons.{beaconMeans}
@@ -17,11 +17,11 @@ use Rattle.element.specs.TpcRequest.{tpcRequestMeans}
 use Rattle.element.specs.declared.channel_switch.ChannelSwitch.{ChannelSwitch}
 use Rattle.header.specs.Headers.{headerMeans}
 use Rattle.header.specs.declared.Subtype.{Subtype}
-use Rattle.measurement.specs.Lists.{recordsIn}
-use Rattle.measurement.specs.Reports.{reportSort}
-use Rattle.measurement.specs.Requests.{requestSort}
+use Rattle.measurement_body.specs.Lists.{recordsIn}
+use Rattle.measurement_body.specs.Reports.{reportSort}
+use Rattle.measurement_body.specs.Requests.{requestSort}
 use Rattle.walk.specs.Elements.{Elements, end, cutHeader, cutContents, more, elementsIn}
-use Rattle.frame.specs.Actions.{behind, actionMeans}
+use Rattle.frame.specs.Actions.{afterOpening, actionMeans}
 use Rattle.frame.specs.Allowed.{BodyAllowed, KindAllowed}
 use Rattle.frame.specs.Frames.{Sent, kindOf, frameMeans}
 
@@ -39,35 +39,35 @@ alone-allowed (more id c es) w h = of-refusal Allowed-switch _
 single-allowed : (es : Elements) → Yields Allowed-switch (single 37 switchMeans es)
 unfolding single Allowed-switch
 single-allowed es =
-    behind-value _ (sole 37 es) _
-    (λ s e. behind-value _ (switchMeans (s .contents)) _ (λ w f. alone-allowed (s .rest) w (switch-allowed (s .contents) w f)))
+    after-value _ (sole 37 es) _
+    (λ s e. after-value _ (switchMeans (s .contents)) _ (λ w f. alone-allowed (s .rest) w (switch-allowed (s .contents) w f)))
 
 -- ---- any body, and any frame
 
-behind-allowed : (body : List ℕ) (o : Opens) → Yields BodyAllowed (behind body o)
+after-allowed : (body : List ℕ) (o : Opens) → Yields BodyAllowed (afterOpening body o)
 unfolding Yields Allowed-switch
-behind-allowed body switching =
-    behind-value BodyAllowed (single 37 switchMeans (elementsIn (drop 2 body))) _ (λ w e. of-value BodyAllowed (single-allowed (elementsIn (drop 2 body)) w e))
-behind-allowed body (with k token) =
-    either-way BodyAllowed (eqb k 0) _ _ (behind-value BodyAllowed (recordsIn requestSort (drop 3 body)) _ (λ rs e. of-value BodyAllowed tt))
-    (either-way BodyAllowed (eqb k 1) _ _ (behind-value BodyAllowed (recordsIn reportSort (drop 3 body)) _ (λ rs e. of-value BodyAllowed tt))
-    (either-way BodyAllowed (eqb k 2) _ _ (behind-value BodyAllowed (single 34 tpcRequestMeans (elementsIn (drop 3 body))) _ (λ u e. of-value BodyAllowed tt))
-    (behind-value BodyAllowed (single 35 tpcReportMeans (elementsIn (drop 3 body))) _ (λ t e. of-value BodyAllowed tt))))
+after-allowed body switching =
+    after-value BodyAllowed (single 37 switchMeans (elementsIn (drop 2 body))) _ (λ w e. of-value BodyAllowed (single-allowed (elementsIn (drop 2 body)) w e))
+after-allowed body (with k token) =
+    either-way BodyAllowed (eqb k 0) _ _ (after-value BodyAllowed (recordsIn requestSort (drop 3 body)) _ (λ rs e. of-value BodyAllowed tt))
+    (either-way BodyAllowed (eqb k 1) _ _ (after-value BodyAllowed (recordsIn reportSort (drop 3 body)) _ (λ rs e. of-value BodyAllowed tt))
+    (either-way BodyAllowed (eqb k 2) _ _ (after-value BodyAllowed (single 34 tpcRequestMeans (elementsIn (drop 3 body))) _ (λ u e. of-value BodyAllowed tt))
+    (after-value BodyAllowed (single 35 tpcReportMeans (elementsIn (drop 3 body))) _ (λ t e. of-value BodyAllowed tt))))
 
 body-allowed : (body : List ℕ) → Yields BodyAllowed (actionMeans body)
 unfolding actionMeans
-body-allowed body = behind-value BodyAllowed (opensWith body) (behind body) (λ o e. behind-allowed body o)
+body-allowed body = after-value BodyAllowed (opensWith body) (afterOpening body) (λ o e. after-allowed body o)
 
 module _ (b : ℕ) where
   kind-allowed : (s : Subtype) (body : List ℕ) → Yields (KindAllowed b) (kindOf b s body)
   unfolding Yields
-  kind-allowed Subtype.Beacon body = behind-value (KindAllowed b) (beaconMeans b body) _ (λ t e. of-value (KindAllowed b) (beacon-allowed b body t e))
-  kind-allowed Subtype.ProbeResponse body = behind-value (KindAllowed b) (beaconMeans b body) _ (λ t e. of-value (KindAllowed b) (beacon-allowed b body t e))
-  kind-allowed Subtype.Action body = behind-value (KindAllowed b) (actionMeans body) _ (λ a e. of-value (KindAllowed b) (body-allowed body a e))
+  kind-allowed Subtype.Beacon body = after-value (KindAllowed b) (beaconMeans b body) _ (λ t e. of-value (KindAllowed b) (beacon-allowed b body t e))
+  kind-allowed Subtype.ProbeResponse body = after-value (KindAllowed b) (beaconMeans b body) _ (λ t e. of-value (KindAllowed b) (beacon-allowed b body t e))
+  kind-allowed Subtype.Action body = after-value (KindAllowed b) (actionMeans body) _ (λ a e. of-value (KindAllowed b) (body-allowed body a e))
 
   pub frame-allowed : (own ap' f : List ℕ) (x : Sent) → frameMeans own ap' b f ≡ accepted x → KindAllowed b (x .kind)
   unfolding frameMeans Yields
   frame-allowed own ap' f =
-      behind-value (λ (x : Sent). KindAllowed b (x .kind)) (headerMeans own ap' f) _
-      (λ h e. behind-value (λ (x : Sent). KindAllowed b (x .kind)) (kindOf b (h .subtype) (drop 24 f)) _
+      after-value (λ (x : Sent). KindAllowed b (x .kind)) (headerMeans own ap' f) _
+      (λ h e. after-value (λ (x : Sent). KindAllowed b (x .kind)) (kindOf b (h .subtype) (drop 24 f)) _
       (λ k g. of-value (λ (x : Sent). KindAllowed b (x .kind)) (kind-allowed (h .subtype) (drop 24 f) k g)))

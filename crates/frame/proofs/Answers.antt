@@ -10,11 +10,11 @@ use Rattle.answer.specs.declared.Refusal.{Refusal}
 use Rattle.beacon.specs.Beacons.{Told}
 use Rattle.beacon.specs.Laid.{laid}
 use Rattle.beacon.specs.declared.Heard.{Heard}
-use Rattle.measure.specs.declared.measurement_report.Report.{Report}
-use Rattle.measure.specs.declared.measurement_request.Request.{Request}
-use Rattle.measurement.specs.Surveys.{requestsSurveyed, reportsSurveyed}
-use Rattle.measurement.specs.declared.reports.Surveyed as Reports
-use Rattle.measurement.specs.declared.requests.Surveyed as Requests
+use Rattle.measurement_element.specs.declared.measurement_report.Report.{Report}
+use Rattle.measurement_element.specs.declared.measurement_request.Request.{Request}
+use Rattle.measurement_body.specs.Surveys.{requestsSurveyed, reportsSurveyed}
+use Rattle.measurement_body.specs.declared.reports.Surveyed as Reports
+use Rattle.measurement_body.specs.declared.requests.Surveyed as Requests
 
 unlike : {X : Type 0} {r : Refusal} → Answer.Accepted ≡ Answer.Refused r → X
 unlike e = absurd (let z : _≡_ {A = ℕ} 0 1 = cc in omega arith)

@@ -70,7 +70,7 @@ module _ (toAll : Bool) where
   action-read (refused q) f e = absurd (never (sym e))
   action-read (accepted a) f e = let x : f ≡ actionFrame a = cc in ap (λ (y : Frame). received (Reading.Is y) toAll []) x
 
--- ---- behind the header
+-- ---- after the header
 
 module _ (own ap' : List ℕ) (b : ℕ) (f : List ℕ) where
   pub framed : (o : Outcome Head) → o ≡ headerMeans own ap' f

@@ -7,24 +7,24 @@ use borrow.Author.Tests.{eqb-true}
 use lib.Dec.{eqb}
 use lib.ListN.{drop}
 use Rattle.action.specs.Openings.{Opens, switching, with, opensWith}
-use Rattle.action.specs.Singles.{single}
+use Rattle.single_body.specs.Singles.{single}
 use Rattle.answer.specs.Checks.{Outcome, refused, accepted, pick, andThen}
 use Rattle.answer.specs.declared.Refusal.{Refusal}
 use Rattle.answer.proofs.Booleans.{clash}
 use Rattle.answer.proofs.Judged.{never}
 use Rattle.beacon.specs.Beacons.{Told}
 use Rattle.element.specs.ChannelSwitch.{switchMeans}
-use Rattle.measure.specs.MeasurementRequest.{requestTold}
+use Rattle.measurement_element.specs.MeasurementRequest.{requestTold}
 use Rattle.element.specs.TpcReport.{tpcReportMeans}
 use Rattle.element.specs.TpcRequest.{tpcRequestMeans}
-use Rattle.measure.specs.declared.measurement_report.Report.{Report}
-use Rattle.measure.specs.declared.measurement_request.Request.{Request}
-use Rattle.measurement.specs.Lists.{recordsIn, nth}
-use Rattle.measurement.specs.Reports.{reportSort}
-use Rattle.measurement.specs.Requests.{requestSort}
-use Rattle.measurement.specs.Surveys.{requestRead}
+use Rattle.measurement_element.specs.declared.measurement_report.Report.{Report}
+use Rattle.measurement_element.specs.declared.measurement_request.Request.{Request}
+use Rattle.measurement_body.specs.Lists.{recordsIn, nth}
+use Rattle.measurement_body.specs.Reports.{reportSort}
+use Rattle.measurement_body.specs.Requests.{requestSort}
+use Rattle.measurement_body.specs.Surveys.{requestRead}
 use Rattle.walk.specs.Elements.{elementsIn}
-use Rattle.frame.specs.Actions.{Body, requests, reports, tpcRequest, tpcReport, switch, behind, actionMeans}
+use Rattle.frame.specs.Actions.{Body, requests, reports, tpcRequest, tpcReport, switch, afterOpening, actionMeans}
 use Rattle.frame.specs.Frames.{beacon, probeResponse, action, sent, requestIn, reportIn, elementOf}
 use Rattle.frame.specs.Laid.{frameTold, bodyFrame, opensAs, refusalOf, noticeRefusal}
 use Rattle.frame.specs.declared.Reading.{Reading}
@@ -92,7 +92,7 @@ module _ {A : Type 0} (elementIn : Body → Outcome A) where
   no-element (accepted b) (Reading.Is f) e h = sym (h b refl)
 
 module _ (body : List ℕ) (i : ℕ) where
-  not-requests : (o : Outcome Opens) → opensAs 0 o ≡ false → Bare (requestIn i) (andThen o (behind body))
+  not-requests : (o : Outcome Opens) → opensAs 0 o ≡ false → Bare (requestIn i) (andThen o (afterOpening body))
   not-requests (refused r) e = bare-refused (requestIn i) r
   not-requests (accepted switching) e = bare-built (requestIn i) (single 37 switchMeans (elementsIn (drop 2 body))) switch (λ a. refl)
   not-requests (accepted (with k t)) e =
@@ -101,7 +101,7 @@ module _ (body : List ℕ) (i : ℕ) where
       (λ _. bare-pick (requestIn i) (eqb k 2) _ _ (λ _. bare-built (requestIn i) (single 34 tpcRequestMeans (elementsIn (drop 3 body))) (λ u. tpcRequest t) (λ a. refl))
       (λ _. bare-built (requestIn i) (single 35 tpcReportMeans (elementsIn (drop 3 body))) (tpcReport t) (λ a. refl))))
 
-  not-reports : (o : Outcome Opens) → opensAs 1 o ≡ false → Bare (reportIn i) (andThen o (behind body))
+  not-reports : (o : Outcome Opens) → opensAs 1 o ≡ false → Bare (reportIn i) (andThen o (afterOpening body))
   not-reports (refused r) e = bare-refused (reportIn i) r
   not-reports (accepted switching) e = bare-built (reportIn i) (single 37 switchMeans (elementsIn (drop 2 body))) switch (λ a. refl)
   not-reports (accepted (with k t)) e =

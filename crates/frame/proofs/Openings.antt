@@ -11,7 +11,7 @@ use Rattle.action.specs.Openings.{Opens, switching, with, opensWith}
 use Rattle.answer.specs.Checks.{Outcome, accepted, pick, andThen}
 use Rattle.answer.proofs.Judged.{passed, stands}
 use Rattle.octets.specs.Numbers.{octet}
-use Rattle.frame.specs.Actions.{behind, actionMeans}
+use Rattle.frame.specs.Actions.{afterOpening, actionMeans}
 
 by-action : (t : Bool) (o : Outcome Opens) (action token : ℕ) → pick t (accepted switching) o ≡ accepted (with action token) → o ≡ accepted (with action token)
 by-action true o action token e = absurd (let z : _≡_ {A = ℕ} 0 1 = cc in omega arith)
@@ -29,12 +29,12 @@ three body action token e =
     let u = passed _ _ _ b in
     ltb-false (length body) 3 (u .0)
 
--- a body means what stands behind its opening
-pub opened : (body : List ℕ) (o : Outcome Opens) → o ≡ opensWith body → andThen o (behind body) ≡ actionMeans body
+-- a body means what stands after its opening
+pub opened : (body : List ℕ) (o : Outcome Opens) → o ≡ opensWith body → andThen o (afterOpening body) ≡ actionMeans body
 unfolding actionMeans
-opened body o e = ap (λ (x : Outcome Opens). andThen x (behind body)) e
+opened body o e = ap (λ (x : Outcome Opens). andThen x (afterOpening body)) e
 
 -- past actions 0, 1 and 2 the body is a TPC Report's
 pub last : (body : List ℕ) (action token : ℕ) → (action ≡ 0 → ⊥) → (action ≡ 1 → ⊥) → (action ≡ 2 → ⊥)
-    → behind body (with action token) ≡ behind body (with 3 token)
+    → afterOpening body (with action token) ≡ afterOpening body (with 3 token)
 last body action token a b c = simp (ne-eqb action 0 a, ne-eqb action 1 b, ne-eqb action 2 c)

@@ -6,11 +6,11 @@ use Prim.Native.Nat.{ℕ, suc}
 use borrow.Author.Tests.{eq-eqb, eqb-true, not-false}
 use lib.Dec.{eqb}
 use lib.ListN.{length}
-use Rattle.action.specs.Singles.{Sole, sole, alone, single}
+use Rattle.single_body.specs.Singles.{Sole, sole, alone, single}
 use Rattle.answer.specs.Checks.{Outcome, refused, accepted, checked, andThen}
 use Rattle.answer.proofs.Judged.{never, passed, kept, stands}
 use Rattle.octets.specs.Elements.{element, RoundTrip}
-use Rattle.measurement.proofs.RunLaws.{front, none, split, empty}
+use Rattle.measurement_body.proofs.RunLaws.{front, none, split, empty}
 use Rattle.octets.specs.Numbers.{Octets}
 use Rattle.walk.specs.Elements.{Elements, end, cutHeader, cutContents, more, elementsIn}
 
@@ -21,7 +21,7 @@ followed (refused r) next b e = absurd (never e)
 followed (accepted a) next b e = (a, refl, e)
 
 module _ {A : Type 0} (id : ℕ) (means : List ℕ → Outcome A) where
-  -- one element, of this ID, with these contents, and nothing behind it
+  -- one element, of this ID, with these contents, and nothing after it
   record One (es : Elements) (a : A) : Type 0 where
     contents : List ℕ
     only : es ≡ more id contents end
@@ -70,7 +70,7 @@ module _ {A : Type 0} (id : ℕ) (means : List ℕ → Outcome A) where
     laid : (run c : List ℕ) → elementsIn run ≡ more id c end → run ≡ element id c
     laid run c e =
         let y = split run id c end e in
-        y .octets ∙ ap (λ (os : List ℕ). element id c ++ os) (empty (y .rest) (y .behind)) ∙ append-nil (element id c)
+        y .octets ∙ ap (λ (os : List ℕ). element id c ++ os) (empty (y .rest) (y .after)) ∙ append-nil (element id c)
 
     inner : (run c : List ℕ) → Octets run → run ≡ element id c → Octets c
     inner run c o e = let w : Octets (element id c) = subst Octets e o in λ j. w (suc (suc j))

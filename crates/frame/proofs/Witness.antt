@@ -6,7 +6,7 @@ use Prim.Native.Nat.{ℕ}
 use lib.IntN.{pos, negsuc}
 use lib.ListN.{replicate}
 use Rattle.action.specs.Openings.{opensWith}
-use Rattle.action.specs.Singles.{sole, single}
+use Rattle.single_body.specs.Singles.{sole, single}
 use Rattle.answer.specs.Checks.{Outcome, refused, accepted, checked}
 use Rattle.answer.specs.declared.Refusal.{Refusal}
 use Rattle.beacon.specs.Beacons.{Said, Told, nothing, takes, says, beaconMeans}
@@ -15,21 +15,21 @@ use Rattle.beacon.specs.declared.MaybeReport.{MaybeReport}
 use Rattle.beacon.specs.declared.MaybeSwitch.{MaybeSwitch}
 use Rattle.element.specs.ChannelSwitch.{switchMeans}
 use Rattle.octets.specs.Elements.{fixed}
-use Rattle.measure.specs.MeasurementReport.{reportMeans, noDensities}
-use Rattle.measure.specs.MeasurementRequest.{requestMeans}
+use Rattle.measurement_element.specs.MeasurementReport.{reportMeans, noDensities}
+use Rattle.measurement_element.specs.MeasurementRequest.{requestMeans}
 use Rattle.element.specs.Quiet.{quietMeans}
 use Rattle.element.specs.TpcReport.{tpcReportMeans}
 use Rattle.element.specs.TpcRequest.{tpcRequestMeans}
 use Rattle.element.specs.declared.channel_switch.ChannelSwitch.{ChannelSwitch}
-use Rattle.measure.specs.declared.measurement_report.Matter as Reports
-use Rattle.measure.specs.declared.measurement_report.Report.{Report}
-use Rattle.measure.specs.declared.measurement_request.Matter as Requests
-use Rattle.measure.specs.declared.measurement_request.Request.{Request}
+use Rattle.measurement_element.specs.declared.measurement_report.Matter as Reports
+use Rattle.measurement_element.specs.declared.measurement_report.Report.{Report}
+use Rattle.measurement_element.specs.declared.measurement_request.Matter as Requests
+use Rattle.measurement_element.specs.declared.measurement_request.Request.{Request}
 use Rattle.element.specs.declared.quiet.Quiet.{Quiet}
 use Rattle.header.specs.Headers.{foreignHeader, foreignAddress, toAll, headerMeans}
-use Rattle.measurement.specs.Lists.{listed, recordsIn, nth}
-use Rattle.measurement.specs.Requests.{used}
-use Rattle.walk.specs.Elements.{elementsBehind, elementsIn}
+use Rattle.measurement_body.specs.Lists.{listed, recordsIn, nth}
+use Rattle.measurement_body.specs.Requests.{used}
+use Rattle.walk.specs.Elements.{elementsAfter, elementsIn}
 use Rattle.frame.specs.Actions.{requests, reports, tpcRequest, tpcReport, switch, actionMeans}
 use Rattle.frame.specs.Frames.{Kind, beacon, probeResponse, action, Sent, frameMeans, requestIn, reportIn, elementOf}
 
@@ -65,11 +65,11 @@ told said = record { timestamp = 0; capability = 1; said = said }
 -- ---- the seven kinds
 
 pub a-beacon : heard (beaconFrame []) ≡ to-own (beacon (told nothing))
-unfolding frameMeans headerMeans foreignHeader foreignAddress toAll checked beaconMeans says elementsIn elementsBehind
+unfolding frameMeans headerMeans foreignHeader foreignAddress toAll checked beaconMeans says elementsIn elementsAfter
 a-beacon = refl
 
 pub a-probe-response : heard (probeFrame []) ≡ to-own (probeResponse (told nothing))
-unfolding frameMeans headerMeans foreignHeader foreignAddress toAll checked beaconMeans says elementsIn elementsBehind
+unfolding frameMeans headerMeans foreignHeader foreignAddress toAll checked beaconMeans says elementsIn elementsAfter
 a-probe-response = refl
 
 -- a request to enable, by its token, as octets and as a record
@@ -80,7 +80,7 @@ abbrev asks : ℕ → Request
 asks token = record { token = token; kind = 0; matter = Requests.Matter.Enable true false }
 
 pub a-measurement-request : heard (actionFrame (0 ∷ 0 ∷ 7 ∷ asked 1)) ≡ to-own (action (requests 7 (asks 1 ∷ [])))
-unfolding frameMeans headerMeans foreignHeader foreignAddress toAll checked actionMeans opensWith recordsIn listed elementsIn elementsBehind requestMeans used
+unfolding frameMeans headerMeans foreignHeader foreignAddress toAll checked actionMeans opensWith recordsIn listed elementsIn elementsAfter requestMeans used
 a-measurement-request = refl
 
 -- a report of "incapable"
@@ -91,17 +91,17 @@ abbrev says-unable : ℕ → Report
 says-unable token = record { token = token; kind = 1; matter = Reports.Matter.Incapable; densities = noDensities }
 
 pub a-measurement-report : heard (actionFrame (0 ∷ 1 ∷ 7 ∷ unable 1)) ≡ to-own (action (reports 7 (says-unable 1 ∷ [])))
-unfolding frameMeans headerMeans foreignHeader foreignAddress toAll checked actionMeans opensWith recordsIn listed elementsIn elementsBehind reportMeans
+unfolding frameMeans headerMeans foreignHeader foreignAddress toAll checked actionMeans opensWith recordsIn listed elementsIn elementsAfter reportMeans
 a-measurement-report = refl
 
 pub a-tpc-request : heard (actionFrame (0 ∷ 2 ∷ 7 ∷ 34 ∷ 0 ∷ [])) ≡ to-own (action (tpcRequest 7))
-unfolding frameMeans headerMeans foreignHeader foreignAddress toAll checked actionMeans opensWith single sole elementsIn elementsBehind tpcRequestMeans fixed
+unfolding frameMeans headerMeans foreignHeader foreignAddress toAll checked actionMeans opensWith single sole elementsIn elementsAfter tpcRequestMeans fixed
 a-tpc-request = refl
 
 -- 20 dBm, and a margin of −1 dB
 pub a-tpc-report : heard (actionFrame (0 ∷ 3 ∷ 0 ∷ 35 ∷ 2 ∷ 20 ∷ 255 ∷ []))
     ≡ to-own (action (tpcReport 0 (record { power = pos 20; margin = negsuc 0 })))
-unfolding frameMeans headerMeans foreignHeader foreignAddress toAll checked actionMeans opensWith single sole elementsIn elementsBehind tpcReportMeans fixed
+unfolding frameMeans headerMeans foreignHeader foreignAddress toAll checked actionMeans opensWith single sole elementsIn elementsAfter tpcReportMeans fixed
 a-tpc-report = refl
 
 -- a switch to channel 44, by its count
@@ -112,7 +112,7 @@ abbrev to-switch : ℕ → ChannelSwitch
 to-switch count = record { mode = 1; channel = 44; count = count }
 
 pub a-switch : (count : ℕ) → heard (switched count) ≡ to-own (action (switch (to-switch count)))
-unfolding frameMeans headerMeans foreignHeader foreignAddress toAll checked actionMeans opensWith single sole elementsIn elementsBehind switchMeans fixed
+unfolding frameMeans headerMeans foreignHeader foreignAddress toAll checked actionMeans opensWith single sole elementsIn elementsAfter switchMeans fixed
 a-switch count = refl
 
 -- ---- told apart
@@ -128,12 +128,12 @@ count-counts m n e =
 
 -- one element, two, or three
 pub two-requests : heard (actionFrame ((0 ∷ 0 ∷ 7 ∷ []) ++ asked 5 ++ asked 1)) ≡ to-own (action (requests 7 (asks 5 ∷ asks 1 ∷ [])))
-unfolding frameMeans headerMeans foreignHeader foreignAddress toAll checked actionMeans opensWith recordsIn listed elementsIn elementsBehind requestMeans used
+unfolding frameMeans headerMeans foreignHeader foreignAddress toAll checked actionMeans opensWith recordsIn listed elementsIn elementsAfter requestMeans used
 two-requests = refl
 
 pub three-requests : heard (actionFrame ((0 ∷ 0 ∷ 7 ∷ []) ++ asked 5 ++ asked 1 ++ asked 3))
     ≡ to-own (action (requests 7 (asks 5 ∷ asks 1 ∷ asks 3 ∷ [])))
-unfolding frameMeans headerMeans foreignHeader foreignAddress toAll checked actionMeans opensWith recordsIn listed elementsIn elementsBehind requestMeans used
+unfolding frameMeans headerMeans foreignHeader foreignAddress toAll checked actionMeans opensWith recordsIn listed elementsIn elementsAfter requestMeans used
 three-requests = refl
 
 -- by index: the last, one past it, and one that is no report
@@ -155,7 +155,7 @@ no-report = simp two-requests
 
 -- a token used twice
 pub used-twice : heard (actionFrame ((0 ∷ 0 ∷ 7 ∷ []) ++ asked 5 ++ asked 5)) ≡ refused Refusal.Repeated
-unfolding frameMeans headerMeans foreignHeader foreignAddress toAll checked actionMeans opensWith recordsIn listed elementsIn elementsBehind requestMeans used
+unfolding frameMeans headerMeans foreignHeader foreignAddress toAll checked actionMeans opensWith recordsIn listed elementsIn elementsAfter requestMeans used
 used-twice = refl
 
 -- two Quiet elements of a beacon: both are kept, in their order
@@ -167,10 +167,10 @@ is-quiet count = record { count = count; period = 0; duration = 10; offset = 20 
 
 pub two-quiets : heard (beaconFrame (quietly 3 ++ quietly 5))
     ≡ to-own (beacon (told (record { power = MaybePower.Absent; report = MaybeReport.Absent; switch = MaybeSwitch.Absent; quiets = is-quiet 3 ∷ is-quiet 5 ∷ [] })))
-unfolding frameMeans headerMeans foreignHeader foreignAddress toAll checked beaconMeans says takes elementsIn elementsBehind quietMeans fixed
+unfolding frameMeans headerMeans foreignHeader foreignAddress toAll checked beaconMeans says takes elementsIn elementsAfter quietMeans fixed
 two-quiets = refl
 
 -- the same frame to all ones is told from one to the station
 pub to-all : heard (frame 208 (replicate 6 255) (0 ∷ 2 ∷ 7 ∷ 34 ∷ 0 ∷ [])) ≡ accepted (record { toAll = true; kind = action (tpcRequest 7) })
-unfolding frameMeans headerMeans foreignHeader foreignAddress toAll checked actionMeans opensWith single sole elementsIn elementsBehind tpcRequestMeans fixed
+unfolding frameMeans headerMeans foreignHeader foreignAddress toAll checked actionMeans opensWith single sole elementsIn elementsAfter tpcRequestMeans fixed
 to-all = refl

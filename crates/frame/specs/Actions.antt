@@ -6,21 +6,21 @@ use Prim.Native.Nat.{ℕ}
 use lib.Dec.{eqb}
 use lib.ListN.{drop}
 use Rattle.action.specs.Openings.{Opens, switching, with, opensWith}
-use Rattle.action.specs.Singles.{single, tpcRequestBody, tpcReportBody, switchBody}
+use Rattle.single_body.specs.Singles.{single, tpcRequestBody, tpcReportBody, switchBody}
 use Rattle.answer.specs.Checks.{Outcome, accepted, pick, andThen}
 use Rattle.element.specs.ChannelSwitch.{switchMeans, switchMay}
-use Rattle.measure.specs.MeasurementReport.{ReportFits}
-use Rattle.measure.specs.MeasurementRequest.{RequestFits}
+use Rattle.measurement_element.specs.MeasurementReport.{ReportFits}
+use Rattle.measurement_element.specs.MeasurementRequest.{RequestFits}
 use Rattle.element.specs.TpcReport.{tpcReportMeans, TpcReportFits}
 use Rattle.element.specs.TpcRequest.{tpcRequestMeans}
 use Rattle.element.specs.declared.channel_switch.ChannelSwitch.{ChannelSwitch}
-use Rattle.measure.specs.declared.measurement_report.Report.{Report}
-use Rattle.measure.specs.declared.measurement_request.Request.{Request}
+use Rattle.measurement_element.specs.declared.measurement_report.Report.{Report}
+use Rattle.measurement_element.specs.declared.measurement_request.Request.{Request}
 use Rattle.element.specs.declared.tpc_report.TpcReport.{TpcReport}
-use Rattle.measurement.specs.Bodies.{bodyOctets}
-use Rattle.measurement.specs.Lists.{AllFit, recordsIn, mayList, allInterpreted, allClear}
-use Rattle.measurement.specs.Reports.{reportSort}
-use Rattle.measurement.specs.Requests.{requestSort}
+use Rattle.measurement_body.specs.Bodies.{bodyOctets}
+use Rattle.measurement_body.specs.Lists.{AllFit, recordsIn, mayList, allInterpreted, allClear}
+use Rattle.measurement_body.specs.Reports.{reportSort}
+use Rattle.measurement_body.specs.Requests.{requestSort}
 use Rattle.octets.specs.Numbers.{octet}
 use Rattle.walk.specs.Elements.{elementsIn}
 
@@ -33,16 +33,16 @@ pub data Body : Type 0 where
   switch : ChannelSwitch → Body
 
 -- what follows the fixed fields
-abbrev pub behind : List ℕ → Opens → Outcome Body
-behind body switching = andThen (single 37 switchMeans (elementsIn (drop 2 body))) (λ s. accepted (switch s))
-behind body (with action token) =
+abbrev pub afterOpening : List ℕ → Opens → Outcome Body
+afterOpening body switching = andThen (single 37 switchMeans (elementsIn (drop 2 body))) (λ s. accepted (switch s))
+afterOpening body (with action token) =
     pick (eqb action 0) (andThen (recordsIn requestSort (drop 3 body)) (λ rs. accepted (requests token rs)))
     (pick (eqb action 1) (andThen (recordsIn reportSort (drop 3 body)) (λ rs. accepted (reports token rs)))
     (pick (eqb action 2) (andThen (single 34 tpcRequestMeans (elementsIn (drop 3 body))) (λ u. accepted (tpcRequest token)))
     (andThen (single 35 tpcReportMeans (elementsIn (drop 3 body))) (λ t. accepted (tpcReport token t)))))
 
 unfoldable pub actionMeans : List ℕ → Outcome Body
-actionMeans body = andThen (opensWith body) (behind body)
+actionMeans body = andThen (opensWith body) (afterOpening body)
 
 -- ---- written
 

@@ -7,11 +7,11 @@ use lib.ListN.{drop}
 use Rattle.answer.specs.Checks.{Outcome, refused, accepted, andThen}
 use Rattle.answer.specs.declared.Refusal.{Refusal}
 use Rattle.beacon.specs.Beacons.{Told, beaconMeans}
-use Rattle.measure.specs.declared.measurement_report.Report.{Report}
-use Rattle.measure.specs.declared.measurement_request.Request.{Request}
+use Rattle.measurement_element.specs.declared.measurement_report.Report.{Report}
+use Rattle.measurement_element.specs.declared.measurement_request.Request.{Request}
 use Rattle.header.specs.Headers.{headerMeans}
 use Rattle.header.specs.declared.Subtype.{Subtype}
-use Rattle.measurement.specs.Lists.{nth}
+use Rattle.measurement_body.specs.Lists.{nth}
 use Rattle.frame.specs.Actions.{Body, requests, reports, tpcRequest, tpcReport, switch, actionMeans}
 
 -- Beacon, Probe Response, and the five action bodies

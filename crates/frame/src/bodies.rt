@@ -3,7 +3,7 @@ ghost use mathlib.Core.Path.{_≡_};
 ghost use Prim.Native.Nat.{_≤_};
 ghost use lib.ListN.{length};
 ghost use Rattle.action.specs.Openings.{switching, with};
-ghost use Rattle.frame.specs.Actions.{behind, actionMeans};
+ghost use Rattle.frame.specs.Actions.{afterOpening, actionMeans};
 ghost use Rattle.frame.specs.Laid.{frameTold, bodyFrame};
 use crate::Frame;
 use crate::Reading;
@@ -16,9 +16,9 @@ use element::tpc_request;
 // Action 0: one or more elements 38.
 fn read_requests(body: &[u8], token: u8) -> Reading
     requires { ⌜ 3 ≤ length (now body) ⌝ }
-    ensures { λ r. ⌜ frameTold r ≡ bodyFrame (behind (now (body .entry)) (with 0 token)) ⌝ }
+    ensures { λ r. ⌜ frameTold r ≡ bodyFrame (afterOpening (now (body .entry)) (with 0 token)) ⌝ }
 {
-    let found = measurement::requests::survey(&body[3..], 0, 0);
+    let found = measurement_body::requests::survey(&body[3..], 0, 0);
     let answer = found.answer;
     match answer {
         Answer::Refused(refusal) => Reading::Refused(refusal),
@@ -32,9 +32,9 @@ fn read_requests(body: &[u8], token: u8) -> Reading
 // Action 1: one or more elements 39.
 fn read_reports(body: &[u8], token: u8) -> Reading
     requires { ⌜ 3 ≤ length (now body) ⌝ }
-    ensures { λ r. ⌜ frameTold r ≡ bodyFrame (behind (now (body .entry)) (with 1 token)) ⌝ }
+    ensures { λ r. ⌜ frameTold r ≡ bodyFrame (afterOpening (now (body .entry)) (with 1 token)) ⌝ }
 {
-    let found = measurement::reports::survey(&body[3..], 0);
+    let found = measurement_body::reports::survey(&body[3..], 0);
     let answer = found.answer;
     match answer {
         Answer::Refused(refusal) => Reading::Refused(refusal),
@@ -47,9 +47,9 @@ fn read_reports(body: &[u8], token: u8) -> Reading
 
 // Action 2: one element 34.
 fn read_tpc_request(body: &[u8], token: u8) -> Reading
-    ensures { λ r. ⌜ frameTold r ≡ bodyFrame (behind (now (body .entry)) (with 2 token)) ⌝ }
+    ensures { λ r. ⌜ frameTold r ≡ bodyFrame (afterOpening (now (body .entry)) (with 2 token)) ⌝ }
 {
-    match action::read_tpc_request(body) {
+    match single_body::read_tpc_request(body) {
         tpc_request::Reading::Refused(refusal) => Reading::Refused(refusal),
         tpc_request::Reading::Is => Reading::Is(Frame::TpcRequest { token }),
     }
@@ -57,9 +57,9 @@ fn read_tpc_request(body: &[u8], token: u8) -> Reading
 
 // Action 3: one element 35.
 fn read_tpc_report(body: &[u8], token: u8) -> Reading
-    ensures { λ r. ⌜ frameTold r ≡ bodyFrame (behind (now (body .entry)) (with 3 token)) ⌝ }
+    ensures { λ r. ⌜ frameTold r ≡ bodyFrame (afterOpening (now (body .entry)) (with 3 token)) ⌝ }
 {
-    match action::read_tpc_report(body) {
+    match single_body::read_tpc_report(body) {
         tpc_report::Reading::Refused(refusal) => Reading::Refused(refusal),
         tpc_report::Reading::Is(report) => Reading::Is(Frame::TpcReport { token, report }),
     }
@@ -67,9 +67,9 @@ fn read_tpc_report(body: &[u8], token: u8) -> Reading
 
 // Action 4: one element 37, and no token.
 fn read_switch(body: &[u8]) -> Reading
-    ensures { λ r. ⌜ frameTold r ≡ bodyFrame (behind (now (body .entry)) switching) ⌝ }
+    ensures { λ r. ⌜ frameTold r ≡ bodyFrame (afterOpening (now (body .entry)) switching) ⌝ }
 {
-    match action::read_channel_switch(body) {
+    match single_body::read_channel_switch(body) {
         channel_switch::Reading::Refused(refusal) => Reading::Refused(refusal),
         channel_switch::Reading::Is(switch) => Reading::Is(Frame::ChannelSwitch(switch)),
     }

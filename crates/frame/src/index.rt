@@ -2,8 +2,8 @@
 ghost use mathlib.Core.Path.{_≡_};
 ghost use Rattle.action.specs.Openings.{opensWith};
 ghost use Rattle.answer.specs.Checks.{andThen};
-ghost use Rattle.measure.specs.MeasurementReport.{reportLaid};
-ghost use Rattle.measure.specs.MeasurementRequest.{requestTold};
+ghost use Rattle.measurement_element.specs.MeasurementReport.{reportLaid};
+ghost use Rattle.measurement_element.specs.MeasurementRequest.{requestTold};
 ghost use Rattle.frame.specs.Actions.{actionMeans};
 ghost use Rattle.frame.specs.Frames.{frameMeans, requestIn, reportIn, elementOf};
 ghost use Rattle.frame.specs.Laid.{opensAs, refusalOf, noticeRefusal};
@@ -15,8 +15,8 @@ use answer::Answer;
 use answer::Refusal;
 use header::Header;
 use header::Subtype;
-use measure::measurement_report;
-use measure::measurement_request;
+use measurement_element::measurement_report;
+use measurement_element::measurement_request;
 
 // Whether a body is one of this action, as far as its fixed fields go.
 fn opens_as(body: &[u8], wanted: u8) -> bool
@@ -43,11 +43,11 @@ fn refusal_of(reading: Reading) -> Refusal
 pub fn request_in(body: &[u8], index: usize) -> measurement_request::Reading
     ensures { λ r. ⌜ requestTold r ≡ andThen (actionMeans (now (body .entry))) (requestIn index) ⌝ }
 {
-    if !opens_as(body, measurement::requests::ACTION) {
+    if !opens_as(body, measurement_body::requests::ACTION) {
         let reading = bodies::read_body(body);
         return measurement_request::Reading::Refused(refusal_of(reading));
     }
-    let found = measurement::requests::survey(&body[3..], index, 0);
+    let found = measurement_body::requests::survey(&body[3..], index, 0);
     let answer = found.answer;
     match answer {
         Answer::Refused(refusal) => measurement_request::Reading::Refused(refusal),
@@ -59,11 +59,11 @@ pub fn request_in(body: &[u8], index: usize) -> measurement_request::Reading
 fn report_in(body: &[u8], index: usize) -> measurement_report::Reading
     ensures { λ r. ⌜ r ≡ reportLaid (andThen (actionMeans (now (body .entry))) (reportIn index)) ⌝ }
 {
-    if !opens_as(body, measurement::reports::ACTION) {
+    if !opens_as(body, measurement_body::reports::ACTION) {
         let reading = bodies::read_body(body);
         return measurement_report::refused(refusal_of(reading));
     }
-    let found = measurement::reports::survey(&body[3..], index);
+    let found = measurement_body::reports::survey(&body[3..], index);
     let answer = found.answer;
     match answer {
         Answer::Refused(refusal) => measurement_report::refused(refusal),

@@ -55,7 +55,7 @@ pub fn goes_on(progress: Progress) -> bool {
     }
 }
 
-// The lines of a block behind those that wait.
+// The lines of a block after those that wait.
 fn add_block(progress: Progress, block: &[u8], out: &mut [u8]) -> Progress
     requires { ⌜ Ready progress (length (now out)) ⌝ }
     ensures { λ r. ⌜ Ready r (length (now (out .entry))) ⌝ }
@@ -94,7 +94,7 @@ fn write_waiting(progress: Progress, out: &[u8]) -> Progress
     }
 }
 
-// Writes what waits where the room behind it may not do for another block.
+// Writes what waits where the room after it may not do for another block.
 fn make_room(progress: Progress, out: &[u8]) -> Progress
     requires { ⌜ Ready progress (length (now out)) ⌝ }
     ensures { λ r. ⌜ Ready r (length (now (out .entry))) ⌝ }
@@ -136,7 +136,7 @@ pub fn list_blocks(progress: Progress, octets: &[u8], out: &mut [u8]) -> Progres
 
 fn write_closing(progress: Progress) -> Fate {
     let lister = progress.lister;
-    let closing = text::closing(lister.blocks, lister.damaged);
+    let closing = line::closing(lister.blocks, lister.damaged);
     let bytes = closing.bytes;
     let from = closing.from;
     if io::write_all(STDOUT_FILENO, &bytes[from..]) {

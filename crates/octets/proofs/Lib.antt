@@ -2,4 +2,5 @@ pub mod Bits
 pub mod JoinSplit
 pub mod Overwriting
 pub mod Storing
+pub mod SumLaws
 pub mod TwosComplement

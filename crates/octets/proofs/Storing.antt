@@ -1,4 +1,4 @@
--- What a writer answers and what it leaves: where nothing is stored, where all is, and in front of a buffer, part behind part. Assumes nothing.
+-- What a writer answers and what it leaves: where nothing is stored, where all is, and in front of a buffer, part after part. Assumes nothing.
 use mathlib.Core.Bool.{Bool, true, false}
 use mathlib.Core.List.{List, [], _++_}
 use mathlib.Core.Path.{_≡_, refl, sym, ap, ap₂, _∙_}
@@ -65,11 +65,11 @@ module _ (os buffer exit : List ℕ) (e : exit ≡ filled os buffer) where
   pub filled-front : (n : ℕ) → n ≡ length os → take n exit ≡ os
   filled-front n many = ap (take n) e ∙ take-at os (drop (length os) buffer) n (sym many)
 
--- ---- part behind part
+-- ---- part after part
 
 module _ (there os buffer : List ℕ) (fits : length there + length os ≤ length buffer) where
-  pub behind-answer : wrote true os (length there) (filled there buffer) ≡ accepted (length os)
-  behind-answer = room-answer os (length there) (filled there buffer) (omega (arith, filled-length there buffer (omega arith)))
+  pub after-answer : wrote true os (length there) (filled there buffer) ≡ accepted (length os)
+  after-answer = room-answer os (length there) (filled there buffer) (omega (arith, filled-length there buffer (omega arith)))
 
   later : drop (length there + length os) (filled there buffer) ≡ drop (length (there ++ os)) buffer
   later =
@@ -77,14 +77,14 @@ module _ (there os buffer : List ℕ) (fits : length there + length os ≤ lengt
       ∙ drop-drop (length os) (length there) buffer
       ∙ ap (λ (n : ℕ). drop n buffer) (sym (length-append there os))
 
-  pub behind-left : left true os (length there) (filled there buffer) ≡ filled (there ++ os) buffer
-  behind-left =
+  pub after-left : left true os (length there) (filled there buffer) ≡ filled (there ++ os) buffer
+  after-left =
       room-left os (length there) (filled there buffer) (omega (arith, filled-length there buffer (omega arith)))
       ∙ ap (λ (r : List ℕ). r ++ os ++ drop (length there + length os) (filled there buffer)) (take-append-seam there (drop (length there) buffer))
       ∙ ap (λ (r : List ℕ). there ++ os ++ r) later
 
 pub front-left : (os buffer : List ℕ) → length os ≤ length buffer → left true os 0 buffer ≡ filled os buffer
-front-left os buffer h = behind-left [] os buffer (omega arith)
+front-left os buffer h = after-left [] os buffer (omega arith)
 
 pub left-nothing : (may : Bool) (buffer : List ℕ) → left may [] 0 buffer ≡ buffer
 left-nothing true buffer = front-left [] buffer (omega arith)
@@ -95,12 +95,12 @@ left-length true os buffer h = ap length (front-left os buffer h) ∙ filled-len
 left-length false os buffer h = ap length (left-not os 0 buffer)
 
 -- two parts are as the whole
-pub left-behind : (may : Bool) (xs ys buffer : List ℕ) → length xs + length ys ≤ length buffer
+pub left-after : (may : Bool) (xs ys buffer : List ℕ) → length xs + length ys ≤ length buffer
     → left may ys (length xs) (left may xs 0 buffer) ≡ left may (xs ++ ys) 0 buffer
-left-behind true xs ys buffer h =
-    ap (left true ys (length xs)) (front-left xs buffer (omega arith)) ∙ behind-left xs ys buffer h
+left-after true xs ys buffer h =
+    ap (left true ys (length xs)) (front-left xs buffer (omega arith)) ∙ after-left xs ys buffer h
     ∙ sym (front-left (xs ++ ys) buffer (omega (arith, length-append xs ys)))
-left-behind false xs ys buffer h = left-not ys (length xs) _ ∙ left-not xs 0 buffer ∙ sym (left-not (xs ++ ys) 0 buffer)
+left-after false xs ys buffer h = left-not ys (length xs) _ ∙ left-not xs 0 buffer ∙ sym (left-not (xs ++ ys) 0 buffer)
 
 -- `n` is the length of the first part
 module _ (head body buffer : List ℕ) (n : ℕ) (size : n ≡ length head) (fits : n + length body ≤ length buffer) (middle exit : List ℕ)
@@ -115,5 +115,5 @@ module _ (head body buffer : List ℕ) (n : ℕ) (size : n ≡ length head) (fit
         leaves =
             second
             ∙ ap₂ (λ (k : ℕ) (b : List ℕ). left true body k b) size first
-            ∙ left-behind true head body buffer (omega arith);
+            ∙ left-after true head body buffer (omega arith);
       }

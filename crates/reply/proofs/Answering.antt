@@ -10,10 +10,10 @@ use Rattle.answer.proofs.Judged.{never, passed}
 use Rattle.answer.specs.Checks.{Outcome, refused, accepted, _⇒_, checked, judged, andThen}
 use Rattle.answer.specs.declared.Answer.{Answer}
 use Rattle.answer.specs.declared.Refusal.{Refusal}
-use Rattle.measure.specs.MeasurementReport.{reportLaid}
-use Rattle.measure.specs.declared.measurement_report.Reading.{Reading}
-use Rattle.measure.specs.declared.measurement_report.Report.{Report}
-use Rattle.measure.specs.declared.measurement_request.Request.{Request}
+use Rattle.measurement_element.specs.MeasurementReport.{reportLaid}
+use Rattle.measurement_element.specs.declared.measurement_report.Reading.{Reading}
+use Rattle.measurement_element.specs.declared.measurement_report.Report.{Report}
+use Rattle.measurement_element.specs.declared.measurement_request.Request.{Request}
 use Rattle.element.specs.declared.tpc_report.TpcReport.{TpcReport}
 use Rattle.frame.specs.Actions.{Body, requests, reports, tpcRequest, tpcReport, switch, actionMeans}
 use Rattle.header.specs.Headers.{Head, headerMeans}
@@ -21,15 +21,15 @@ use Rattle.header.specs.declared.Subtype.{Subtype}
 use Rattle.octets.specs.Writing.{wrote, left, Written}
 use Rattle.octets.specs.declared.writing.Wrote.{Wrote}
 use Rattle.octets.proofs.Storing.{not-answer, left-not}
-use Rattle.reply.specs.Due.{orNone, bySubtype, behindHeader, dueMeans, dueOf}
+use Rattle.reply.specs.Due.{orNone, bySubtype, afterHeader, dueMeans, dueOf}
 use Rattle.reply.specs.Replies.{tpcAnswer, measurementAnswer, leftBy, Replied}
 use Rattle.reply.specs.declared.due.Due.{Due}
-use Rattle.owed.specs.declared.Readings.{Readings}
+use Rattle.measured_report.specs.declared.Readings.{Readings}
 
 apart : {A : Type 0} → _≡_ {A = ℕ} 0 1 → A
 apart e = absurd (omega arith)
 
--- ---- the body behind what is due
+-- ---- the body after what is due
 
 pub tpc-due : (o : Outcome Body) (token : ℕ) → Due.Tpc token ≡ dueOf o → o ≡ accepted (tpcRequest token)
 tpc-due (refused r) token e = apart cc
@@ -81,15 +81,15 @@ module _ (own ap' f : List ℕ) (body : Body) where
   by-subtype Subtype.ProbeResponse e = absurd (never e)
   by-subtype Subtype.Action e = kept-body (actionMeans (drop 24 f)) e
 
-  behind : (s : Subtype) (toAll : Bool) → behindHeader f (record { subtype = s; toAll = toAll }) ≡ accepted body → actionMeans (drop 24 f) ≡ accepted body
-  behind s true e = absurd (never e)
-  behind s false e = by-subtype s e
+  after : (s : Subtype) (toAll : Bool) → afterHeader f (record { subtype = s; toAll = toAll }) ≡ accepted body → actionMeans (drop 24 f) ≡ accepted body
+  after s true e = absurd (never e)
+  after s false e = by-subtype s e
 
-  by-header : (o : Outcome Head) → headerMeans own ap' f ≡ o → andThen o (behindHeader f) ≡ accepted body
+  by-header : (o : Outcome Head) → headerMeans own ap' f ≡ o → andThen o (afterHeader f) ≡ accepted body
       → (24 ≤ length f) × (actionMeans (drop 24 f) ≡ accepted body)
   unfolding headerMeans
   by-header (refused r) h e = absurd (never e)
-  by-header (accepted x) h e = (ltb-false (length f) 24 (passed _ _ _ h .0), behind (x .subtype) (x .toAll) e)
+  by-header (accepted x) h e = (ltb-false (length f) 24 (passed _ _ _ h .0), after (x .subtype) (x .toAll) e)
 
   pub due-body : dueMeans own ap' f ≡ accepted body → (24 ≤ length f) × (actionMeans (drop 24 f) ≡ accepted body)
   unfolding dueMeans

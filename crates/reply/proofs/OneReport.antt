@@ -10,12 +10,12 @@ use lib.ListN.{length, take}
 use Rattle.answer.proofs.Judged.{never}
 use Rattle.answer.specs.Checks.{refused, accepted}
 use Rattle.answer.specs.declared.Refusal.{Refusal}
-use Rattle.measure.proofs.ReportLayout.{within, counted}
-use Rattle.measure.specs.MeasurementReport.{reportMay, reportOctets}
-use Rattle.measure.specs.declared.measurement_report.Report.{Report}
-use Rattle.measurement.specs.Bodies.{longestBody, bodyOctets, mayAppend, appended}
-use Rattle.measurement.specs.Lists.{allOctets}
-use Rattle.measurement.specs.Reports.{reportSort}
+use Rattle.measurement_element.proofs.ReportLayout.{within, counted}
+use Rattle.measurement_element.specs.MeasurementReport.{reportMay, reportOctets}
+use Rattle.measurement_element.specs.declared.measurement_report.Report.{Report}
+use Rattle.measurement_body.specs.Bodies.{longestBody, bodyOctets, mayAppend, appended}
+use Rattle.measurement_body.specs.Lists.{allOctets}
+use Rattle.measurement_body.specs.Reports.{reportSort}
 use Rattle.octets.specs.Writing.{told, wrote, left, Written}
 use Rattle.octets.specs.declared.writing.Wrote.{Wrote}
 use Rattle.octets.proofs.Overwriting.{written-as}

@@ -13,7 +13,7 @@ use Rattle.frame.specs.Laid.{actionFrame, bodyFrame}
 use Rattle.frame.specs.declared.Frame.{Frame}
 use Rattle.header.specs.Headers.{Head, headerMeans}
 use Rattle.header.specs.declared.Subtype.{Subtype}
-use Rattle.reply.specs.Due.{orNone, bySubtype, behindHeader, dueMeans, dueOf}
+use Rattle.reply.specs.Due.{orNone, bySubtype, afterHeader, dueMeans, dueOf}
 use Rattle.reply.specs.declared.due.Due.{Due}
 
 -- ---- a body
@@ -50,23 +50,23 @@ module _ (body : List ℕ) where
   pub broken-due : (r : Refusal) → refused r ≡ bodyFrame (actionMeans body) → Due.Refused Refusal.NoReplyDue ≡ dueOf (orNone (actionMeans body))
   broken-due r e = none-due (actionMeans body) r e
 
--- ---- behind the header
+-- ---- after the header
 
 module _ (own ap' f : List ℕ) where
   pub header-refused : (r : Refusal) → refused r ≡ headerMeans own ap' f → Due.Refused r ≡ dueOf (dueMeans own ap' f)
   unfolding dueMeans
-  header-refused r e = ap (λ (o : Outcome Head). dueOf (andThen o (behindHeader f))) e
+  header-refused r e = ap (λ (o : Outcome Head). dueOf (andThen o (afterHeader f))) e
 
   module _ (s : Subtype) (toAll : Bool) (e : accepted (record { subtype = s; toAll = toAll }) ≡ headerMeans own ap' f) where
-    behind : dueOf (behindHeader f (record { subtype = s; toAll = toAll })) ≡ dueOf (dueMeans own ap' f)
+    after : dueOf (afterHeader f (record { subtype = s; toAll = toAll })) ≡ dueOf (dueMeans own ap' f)
     unfolding dueMeans
-    behind = ap (λ (o : Outcome Head). dueOf (andThen o (behindHeader f))) e
+    after = ap (λ (o : Outcome Head). dueOf (andThen o (afterHeader f))) e
 
     pub to-all : toAll ≡ true → Due.Refused Refusal.NoReplyDue ≡ dueOf (dueMeans own ap' f)
-    to-all t = sym (ap (λ (x : Bool). dueOf (behindHeader f (record { subtype = s; toAll = x }))) t) ∙ behind
+    to-all t = sym (ap (λ (x : Bool). dueOf (afterHeader f (record { subtype = s; toAll = x }))) t) ∙ after
 
     pub by-kind : toAll ≡ false → dueOf (bySubtype s (drop 24 f)) ≡ dueOf (dueMeans own ap' f)
-    by-kind t = sym (ap (λ (x : Bool). dueOf (behindHeader f (record { subtype = s; toAll = x }))) t) ∙ behind
+    by-kind t = sym (ap (λ (x : Bool). dueOf (afterHeader f (record { subtype = s; toAll = x }))) t) ∙ after
 
   -- a frame whose header is read has one
   pub headed : (h : Head) → accepted h ≡ headerMeans own ap' f → 24 ≤ length f

@@ -20,13 +20,13 @@ bySubtype Subtype.Beacon body = refused Refusal.NoReplyDue
 bySubtype Subtype.ProbeResponse body = refused Refusal.NoReplyDue
 bySubtype Subtype.Action body = orNone (actionMeans body)
 
--- behind the header: not to all ones, and an action frame
-abbrev pub behindHeader : List ℕ → Head → Outcome Body
-behindHeader f h = pick (h .toAll) (refused Refusal.NoReplyDue) (bySubtype (h .subtype) (drop 24 f))
+-- after the header: not to all ones, and an action frame
+abbrev pub afterHeader : List ℕ → Head → Outcome Body
+afterHeader f h = pick (h .toAll) (refused Refusal.NoReplyDue) (bySubtype (h .subtype) (drop 24 f))
 
 -- the body that a frame asks the station with
 unfoldable pub dueMeans : List ℕ → List ℕ → List ℕ → Outcome Body
-dueMeans own ap f = andThen (headerMeans own ap f) (behindHeader f)
+dueMeans own ap f = andThen (headerMeans own ap f) (afterHeader f)
 
 -- ---- the code's own term, which no public promise cites: the request by its token
 

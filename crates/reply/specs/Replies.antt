@@ -3,21 +3,21 @@ use mathlib.Core.Bool.{true, not}
 use mathlib.Core.List.{List, [], _∷_}
 use mathlib.Core.Path.{_≡_}
 use Prim.Native.Nat.{ℕ}
-use Rattle.action.specs.Singles.{tpcReportBody}
+use Rattle.single_body.specs.Singles.{tpcReportBody}
 use Rattle.answer.specs.Checks.{Outcome, refused, accepted, _⇒_, judged, andThen}
 use Rattle.answer.specs.declared.Refusal.{Refusal}
-use Rattle.measure.specs.MeasurementReport.{reportMay}
+use Rattle.measurement_element.specs.MeasurementReport.{reportMay}
 use Rattle.element.specs.declared.tpc_report.TpcReport.{TpcReport}
 use Rattle.frame.specs.Actions.{Body, requests, reports, tpcRequest, tpcReport, switch}
-use Rattle.measurement.specs.Bodies.{bodyOctets}
-use Rattle.measurement.specs.Lists.{nth}
-use Rattle.measurement.specs.Reports.{reportSort}
+use Rattle.measurement_body.specs.Bodies.{bodyOctets}
+use Rattle.measurement_body.specs.Lists.{nth}
+use Rattle.measurement_body.specs.Reports.{reportSort}
 use Rattle.octets.specs.Writing.{told, wrote, left}
 use Rattle.octets.specs.declared.writing.Wrote.{Wrote}
 use Rattle.reply.specs.Due.{dueMeans}
 use Rattle.reply.specs.Frames.{replyFrame}
-use Rattle.owed.specs.Reports.{reportFor}
-use Rattle.owed.specs.declared.Readings.{Readings}
+use Rattle.measured_report.specs.Reports.{reportFor}
+use Rattle.measured_report.specs.declared.Readings.{Readings}
 
 -- ---- the octets of a reply, or the refusal
 

@@ -4,15 +4,15 @@ ghost use mathlib.Core.Bool.{true};
 ghost use mathlib.Core.List.{[], _∷_};
 ghost use Prim.Native.Nat.{_≤_};
 ghost use lib.ListN.{length};
-ghost use Rattle.action.specs.Singles.{tpcReportBody};
-ghost use Rattle.measure.specs.MeasurementReport.{reportMay};
-ghost use Rattle.measurement.specs.Bodies.{bodyOctets};
-ghost use Rattle.measurement.specs.Reports.{reportSort};
+ghost use Rattle.single_body.specs.Singles.{tpcReportBody};
+ghost use Rattle.measurement_element.specs.MeasurementReport.{reportMay};
+ghost use Rattle.measurement_body.specs.Bodies.{bodyOctets};
+ghost use Rattle.measurement_body.specs.Reports.{reportSort};
 ghost use Rattle.octets.specs.Writing.{Written};
 ghost use Rattle.reply.specs.Frames.{replyHead, replyFrame};
 use answer::Refusal;
 use element::tpc_report::TpcReport;
-use measure::measurement_report::Report;
+use measurement_element::measurement_report::Report;
 use octets::Wrote;
 
 // An action frame to the AP: flags, duration and sequence control are 0.
@@ -73,7 +73,7 @@ pub fn put_tpc_report(
     ensures { λ r. ⌜ Written true (replyFrame own ap (tpcReportBody token report)) 0 (now (buffer .entry)) r (now (buffer .exit)) ⌝ }
 {
     let mut body = [0u8; 7];
-    action::write_tpc_report(token, report, &mut body, 0);
+    single_body::write_tpc_report(token, report, &mut body, 0);
     put_frame(own, ap, &body, buffer)
 }
 
@@ -82,7 +82,7 @@ pub fn put_report(own: [u8; 6], ap: [u8; 6], token: u8, report: Report, buffer: 
     ensures { λ r. ⌜ Written (reportMay report) (replyFrame own ap (bodyOctets reportSort 1 token (report ∷ []))) 0 (now (buffer .entry)) r (now (buffer .exit)) ⌝ }
 {
     let mut body = [0u8; 27];
-    match measurement::reports::append(&mut body, 0, token, report) {
+    match measurement_body::reports::append(&mut body, 0, token, report) {
         Wrote::Refused(refusal) => Wrote::Refused(refusal),
         Wrote::Length(count) => put_frame(own, ap, &body[..count], buffer),
     }

@@ -9,8 +9,8 @@ use answer::Answer;
 use answer::Refusal;
 use due::Due;
 use element::tpc_report::TpcReport;
+use measured_report::Readings;
 use octets::Wrote;
-use owed::Readings;
 
 // The reply to a TPC Request: a TPC Report with its token, and the power and the margin that the caller has measured.
 pub fn to_tpc_request(

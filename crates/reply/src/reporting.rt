@@ -3,11 +3,11 @@ ghost use mathlib.Core.Path.{_≡_};
 ghost use Rattle.answer.specs.Checks.{andThen};
 ghost use Rattle.frame.specs.Actions.{actionMeans};
 ghost use Rattle.frame.specs.Frames.{requestIn};
-ghost use Rattle.measure.specs.MeasurementReport.{reportLaid};
-ghost use Rattle.owed.specs.Reports.{reportFor};
-use measure::measurement_report;
-use measure::measurement_request;
-use owed::Readings;
+ghost use Rattle.measurement_element.specs.MeasurementReport.{reportLaid};
+ghost use Rattle.measured_report.specs.Reports.{reportFor};
+use measured_report::Readings;
+use measurement_element::measurement_report;
+use measurement_element::measurement_request;
 
 // The report for the element at an index of an action body.
 pub fn report_in(
@@ -20,6 +20,10 @@ pub fn report_in(
 {
     match frame::request_in(body, index) {
         measurement_request::Reading::Refused(refusal) => measurement_report::refused(refusal),
-        measurement_request::Reading::Is(request) => owed::report_for(request, clock, readings),
+        measurement_request::Reading::Is(request) => measured_report::report_for(
+            request,
+            clock,
+            readings,
+        ),
     }
 }

@@ -45,7 +45,7 @@ pub fn at(station: Station, moment: u32) -> Station
     told(next.advance(left), false)
 }
 
-// Another station, by its interval and, behind that among the call's octets, the first octets of both addresses and the channel. Where its
+// Another station, by its interval and, after that among the call's octets, the first octets of both addresses and the channel. Where its
 // start is refused the scene keeps the station that it has.
 pub fn start(station: Station, interval: u32, octets: [u8; line::ROOM], always: bool) -> Station
     requires { ⌜ Valid station ⌝ }

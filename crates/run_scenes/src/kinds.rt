@@ -1,6 +1,6 @@
 // A call by its kind, which is the first of its numbers.
 ghost use Rattle.station.specs.Validity.{Valid};
-use crate::behind;
+use crate::after;
 use crate::calls;
 use crate::frames;
 use crate::replies;
@@ -16,11 +16,11 @@ use station::Station;
 fn alone(kind: u8, numbers: [u64; 16], octets: [u8; line::ROOM], count: usize) {
     match kind {
         12 => frames::read(0, octets, (numbers[1] % 2401) as usize),
-        13 => frames::read(24, octets, 22 + behind::end(count, 0)),
-        14 => frames::read(32, octets, 30 + behind::end(count, 0)),
+        13 => frames::read(24, octets, 22 + after::end(count, 0)),
+        14 => frames::read(32, octets, 30 + after::end(count, 0)),
         15 => {
             let interval = (numbers[2] % 65536) as u16;
-            reads::show(octets[1], interval, &octets[3..behind::end(count, 3)]);
+            reads::show(octets[1], interval, &octets[3..after::end(count, 3)]);
         }
         16 => writes::show(numbers, octets),
         17 => replies::tpc(numbers, octets, count),
@@ -60,7 +60,7 @@ fn run(station: Station, line: Line) -> Station
     }
 }
 
-// A bar ends a call, and so does the end of the line, behind which the next scene begins with the fresh station.
+// A bar ends a call, and so does the end of the line, after which the next scene begins with the fresh station.
 pub fn step(station: Station, fresh: Station, line: Line, c: u8) -> Station
     requires { ⌜ Valid station ⌝ }
     requires { ⌜ Valid fresh ⌝ }

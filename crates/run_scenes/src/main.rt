@@ -8,8 +8,8 @@
 //   2 frame: how many octets it has, and the octets, which are cut there or followed by zeros
 //   3 ask: units
 //   4 start: beacon interval, first octet of the own address, first octet of the AP's address, channel
-//   5 frame with a header: first octet of the header, octets behind the header
-//   6 frame with a header and timestamp 7, as a beacon: first octet of the header, octets behind the timestamp
+//   5 frame with a header: first octet of the header, octets after the header
+//   6 frame with a header and timestamp 7, as a beacon: first octet of the header, octets after the timestamp
 //   7 the moment that the clock is brought to, by advances
 //   8 start, as 4
 //   9 the channel
@@ -21,7 +21,7 @@
 //      stands in front of them. Of 38 they are token, type, what is asked (0 enable, 1 measure, 2 not interpreted), and of that two bits or channel,
 //      start and duration; of 39 token, type, what is said (0 late, 1 incapable, 2 refused, 3 basic, 4 CCA, 5 RPI, 6 not interpreted), map or busy
 //      fraction, channel, start, duration and eight densities
-//   17 a request to be replied to by a TPC Report: room of the buffer, zeros behind the frame's octets, power and margin as octets, the frame's octets
+//   17 a request to be replied to by a TPC Report: room of the buffer, zeros after the frame's octets, power and margin as octets, the frame's octets
 //   18 a request to be replied to by a Measurement Report: room, zeros, clock, index, what is found (0 refused, 1 a map, 2 a busy time, 3 times), the map
 //      or the busy time, eight times, the frame's octets
 //   19 the centre of a channel: the channel
@@ -33,7 +33,7 @@
 // cannot be run is told in words: a moment that is gone, a kind or an element that is unknown, a call that is too long, with more than 128 numbers.
 // Every scene begins with a station that is started with beacon interval 100 on channel 36, and frames are read with its addresses and interval. A
 // scene more needs no proof.
-mod behind;
+mod after;
 mod calls;
 mod frames;
 mod kinds;

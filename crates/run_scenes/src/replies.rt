@@ -1,13 +1,13 @@
-// Replies as they are written: the answer's number, of a reply its length and its octets, and whether the buffer is as it was behind the reply, or whole
+// Replies as they are written: the answer's number, of a reply its length and its octets, and whether the buffer is as it was after the reply, or whole
 // where there is none.
 ghost use Prim.Native.Nat.{_≤_};
 use crate::AP;
 use crate::OWN;
-use crate::behind;
+use crate::after;
 use element::tpc_report::TpcReport;
+use measured_report::Finding;
+use measured_report::Readings;
 use octets::Wrote;
-use owed::Finding;
-use owed::Readings;
 use scene::line;
 use scene::say;
 
@@ -81,7 +81,7 @@ fn size(n: [u64; 16], count: usize, from: usize) -> usize
     requires { ⌜ from ≤ 128 ⌝ }
     ensures { λ r. ⌜ r ≤ 2496 ⌝ }
 {
-    let octets = behind::end(count, from) - from;
+    let octets = after::end(count, from) - from;
     octets + ((n[2] % 2337) as usize)
 }
 

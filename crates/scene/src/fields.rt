@@ -8,9 +8,9 @@ use element::channel_switch::ChannelSwitch;
 use element::power_constraint::PowerConstraint;
 use element::quiet::Quiet;
 use element::tpc_report::TpcReport;
-use measure::Span;
-use measure::measurement_report;
-use measure::measurement_request;
+use measurement_element::Span;
+use measurement_element::measurement_report;
+use measurement_element::measurement_request;
 
 pub fn power(p: PowerConstraint) {
     say::text(b" constraint");

@@ -6,8 +6,8 @@ use element::power_constraint;
 use element::quiet;
 use element::tpc_report;
 use element::tpc_request;
-use measure::measurement_report;
-use measure::measurement_request;
+use measurement_element::measurement_report;
+use measurement_element::measurement_request;
 
 fn power(contents: &[u8]) {
     match power_constraint::read(contents) {
@@ -69,7 +69,7 @@ fn asked(contents: &[u8]) {
     }
 }
 
-// The report stands beside the answer, and is blank behind a refusal.
+// The report stands beside the answer, and is blank beside a refusal.
 fn found(contents: &[u8]) {
     let reading = measurement_report::read(contents);
     let answer = reading.answer;

@@ -11,11 +11,11 @@ use element::quiet::Quiet;
 use element::tpc_report;
 use element::tpc_report::TpcReport;
 use element::tpc_request;
-use measure::Span;
-use measure::measurement_report;
-use measure::measurement_report::Report;
-use measure::measurement_request;
-use measure::measurement_request::Request;
+use measurement_element::Span;
+use measurement_element::measurement_report;
+use measurement_element::measurement_report::Report;
+use measurement_element::measurement_request;
+use measurement_element::measurement_request::Request;
 use octets::Wrote;
 
 fn octet(n: u64) -> u8 {

@@ -13,7 +13,7 @@ use Rattle.station.specs.Stations.{fresh}
 use Rattle.station.specs.declared.starting.Started.{Started}
 use Rattle.station.specs.declared.Station.{Station}
 
--- what stands behind a refusal; its interval is 0, so it is not valid
+-- what stands beside a refusal; its interval is 0, so it is not valid
 abbrev pub blank : Station
 blank = fresh (replicate 6 0) (replicate 6 0) 0 0
 

@@ -10,7 +10,7 @@ use answer::Refusal;
 use beacon::MaybePower;
 use pending::Pending;
 
-// What starting a station answers. Behind a refusal stands one fixed station that no call may be handed.
+// What starting a station answers. Beside a refusal stands one fixed station that no call may be handed.
 pub struct Started {
     pub answer: Answer,
     pub station: Station,

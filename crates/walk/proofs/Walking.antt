@@ -9,33 +9,33 @@ use lib.Dec.{leb}
 use lib.ListN.{length, getD, take, drop, length-drop, drop-of-length-le}
 use lib.Seq.{drop-cons, drop-drop}
 use Rattle.answer.specs.Checks.{pick}
-use Rattle.walk.specs.Elements.{Elements, end, cutHeader, cutContents, more, elementsBehind, elementsIn}
+use Rattle.walk.specs.Elements.{Elements, end, cutHeader, cutContents, more, elementsAfter, elementsIn}
 
--- behind so many octets are the elements of what is left without them
-pub behind : (k : ℕ) (os : List ℕ) → elementsBehind k os ≡ elementsIn (drop k os)
-unfolding elementsIn elementsBehind
-behind zero os = refl
-behind (suc k) [] = refl
-behind (suc k) (o ∷ os) = behind k os
+-- after so many octets are the elements of what is left without them
+pub after : (k : ℕ) (os : List ℕ) → elementsAfter k os ≡ elementsIn (drop k os)
+unfolding elementsIn elementsAfter
+after zero os = refl
+after (suc k) [] = refl
+after (suc k) (o ∷ os) = after k os
 
 -- a header, and what it says of the rest
 pub headed : (id n : ℕ) (os : List ℕ)
     → elementsIn (id ∷ n ∷ os) ≡ pick (leb n (length os)) (more id (take n os) (elementsIn (drop n os))) (cutContents id)
-headed id n os = opened ∙ ap (λ (es : Elements). pick (leb n (length os)) (more id (take n os) es) (cutContents id)) (behind n os)
+headed id n os = opened ∙ ap (λ (es : Elements). pick (leb n (length os)) (more id (take n os) es) (cutContents id)) (after n os)
   where
-    opened : elementsIn (id ∷ n ∷ os) ≡ pick (leb n (length os)) (more id (take n os) (elementsBehind n os)) (cutContents id)
-    opened = unfold elementsIn elementsBehind in refl
+    opened : elementsIn (id ∷ n ∷ os) ≡ pick (leb n (length os)) (more id (take n os) (elementsAfter n os)) (cutContents id)
+    opened = unfold elementsIn elementsAfter in refl
 
 module _ (s : List ℕ) (at : ℕ) where
   pub at-end : length s ≤ at → elementsIn (drop at s) ≡ end
-  unfolding elementsIn elementsBehind
+  unfolding elementsIn elementsAfter
   at-end h = simp (drop-of-length-le s h)
 
   pub at-cut-header : at < length s → length s - at < 2 → elementsIn (drop at s) ≡ cutHeader
-  unfolding elementsIn elementsBehind
+  unfolding elementsIn elementsAfter
   at-cut-header h k = simp (drop-cons s at 0 h, drop-of-length-le s {i = suc at} (omega arith))
 
-  -- the header at a place, and what lies behind it
+  -- the header at a place, and what lies after it
   two : at + 2 ≤ length s → drop at s ≡ getD s at 0 ∷ getD s (at + 1) 0 ∷ drop (at + 2) s
   two h =
       let next : suc (at + 1) ≡ at + 2 = omega arith in

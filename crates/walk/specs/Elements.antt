@@ -1,4 +1,4 @@
--- A run of octets as elements, one behind the other, and how the run ends (01, "Octets": an element is an ID, a length,
+-- A run of octets as elements, one after the other, and how the run ends (01, "Octets": an element is an ID, a length,
 -- contents).
 use mathlib.Core.List.{List, [], _∷_}
 use Prim.Native.Nat.{ℕ, zero, suc}
@@ -16,13 +16,13 @@ pub data Elements : Type 0 where
   -- a whole element, with its ID and its contents, and what follows it
   more : ℕ → List ℕ → Elements → Elements
 
--- the elements behind the first `skip` octets, which are the contents of the element before
-unfoldable pub elementsBehind : ℕ → List ℕ → Elements
-elementsBehind zero [] = end
-elementsBehind zero (id ∷ []) = cutHeader
-elementsBehind zero (id ∷ n ∷ os) = pick (leb n (length os)) (more id (take n os) (elementsBehind n os)) (cutContents id)
-elementsBehind (suc skip) [] = end
-elementsBehind (suc skip) (o ∷ os) = elementsBehind skip os
+-- the elements after the first `skip` octets, which are the contents of the element before
+unfoldable pub elementsAfter : ℕ → List ℕ → Elements
+elementsAfter zero [] = end
+elementsAfter zero (id ∷ []) = cutHeader
+elementsAfter zero (id ∷ n ∷ os) = pick (leb n (length os)) (more id (take n os) (elementsAfter n os)) (cutContents id)
+elementsAfter (suc skip) [] = end
+elementsAfter (suc skip) (o ∷ os) = elementsAfter skip os
 
 unfoldable pub elementsIn : List ℕ → Elements
-elementsIn os = elementsBehind 0 os
+elementsIn os = elementsAfter 0 os

@@ -9,7 +9,7 @@ use crate::elements::{
     read_back, report_limits, request_limits, some_report, some_request, switches, Writers,
 };
 use crate::frames;
-use crate::lend::{hex, lend, lend_behind};
+use crate::lend::{hex, lend, lend_after};
 use crate::pairs;
 use crate::rng::Rng;
 use oneiralth::{Frame, Received, Written};
@@ -18,7 +18,7 @@ use std::fmt::Debug;
 const SEED: u64 = 0x8021_1000_2003_0003;
 
 /// Bodies of each sort that are appended from nothing, and single elements
-/// behind octets of all sorts.
+/// after octets of all sorts.
 const APPENDED: usize = 1_200;
 const BEHIND: usize = 12_000;
 
@@ -288,7 +288,7 @@ fn read(body: &[u8]) -> Option<twin::Frame> {
 }
 
 fn measurement_bodies<S: Sort>(count: &mut Count, rng: &mut Rng) {
-    // Each record at a limit as the first of a body, and behind another.
+    // Each record at a limit as the first of a body, and after another.
     for record in S::limits() {
         for dialog in [0, 1, 255] {
             append_all::<S>(count, dialog, &[record, S::shortest(7)], ample::<S>(2));
@@ -300,7 +300,7 @@ fn measurement_bodies<S: Sort>(count: &mut Count, rng: &mut Rng) {
     }
     long_bodies::<S>(count, rng);
     for _ in 0..BEHIND {
-        behind_octets::<S>(count, rng);
+        after_octets::<S>(count, rng);
     }
 }
 
@@ -348,16 +348,16 @@ fn append_all<S: Sort>(
     for &record in records {
         kept.push(record);
         let used = body.len();
-        let library = lend_behind(&body, length, |buffer| {
+        let library = lend_after(&body, length, |buffer| {
             S::append(buffer, used, dialog, record)
         });
-        let twin = lend_behind(&body, length, |buffer| {
+        let twin = lend_after(&body, length, |buffer| {
             S::write(dialog, &kept, buffer).map(|all| all - used)
         });
         count.buffers(Call::WriteBody, &library, &twin, || {
             let body = hex(&body);
             format!(
-                "token {:x}, {:x?} behind {} in {} octets",
+                "token {:x}, {:x?} after {} in {} octets",
                 dialog, record, body, length
             )
         });
@@ -430,7 +430,7 @@ fn long_bodies<S: Sort>(count: &mut Count, rng: &mut Rng) {
                 LONGEST_BODY + 1,
                 AMPLE,
             ] {
-                append_behind::<S>(count, &front, front.len(), length, 9, record);
+                append_after::<S>(count, &front, front.len(), length, 9, record);
             }
         }
     }
@@ -445,8 +445,8 @@ fn long_bodies<S: Sort>(count: &mut Count, rng: &mut Rng) {
     append_all::<S>(count, 9, &shortest, AMPLE);
 }
 
-/// One element behind octets that may be no body at all.
-fn behind_octets<S: Sort>(count: &mut Count, rng: &mut Rng) {
+/// One element after octets that may be no body at all.
+fn after_octets<S: Sort>(count: &mut Count, rng: &mut Rng) {
     let stage = Stage::usual(100);
     let mut dialog = rng.between(1, 255) as u8;
     let mut front = if rng.one_in(2) {
@@ -489,13 +489,13 @@ fn behind_octets<S: Sort>(count: &mut Count, rng: &mut Rng) {
         front.len() + S::LONGEST,
         front.len() + 40,
     ] {
-        append_behind::<S>(count, &front, used, length, dialog, record);
+        append_after::<S>(count, &front, used, length, dialog, record);
     }
 }
 
-/// One element behind the first `used` octets of a buffer that begins with
+/// One element after the first `used` octets of a buffer that begins with
 /// these octets.
-fn append_behind<S: Sort>(
+fn append_after<S: Sort>(
     count: &mut Count,
     front: &[u8],
     used: usize,
@@ -503,16 +503,16 @@ fn append_behind<S: Sort>(
     dialog: u8,
     record: S::Record,
 ) {
-    let library = lend_behind(front, length, |buffer| {
+    let library = lend_after(front, length, |buffer| {
         S::append(buffer, used, dialog, record)
     });
-    let twin = lend_behind(front, length, |buffer| {
+    let twin = lend_after(front, length, |buffer| {
         twin_append::<S>(buffer, used, dialog, record)
     });
     count.buffers(Call::WriteBody, &library, &twin, || {
         let front = hex(front);
         format!(
-            "token {:x}, {:x?} behind {:x} octets of {} in {} octets",
+            "token {:x}, {:x?} after {:x} octets of {} in {} octets",
             dialog, record, used, front, length
         )
     });

@@ -430,7 +430,7 @@ impl<'a> Evening<'a> {
         self.put(&ask(units as u16));
     }
 
-    /// A moment that is marked, and lies ahead or not far behind.
+    /// A moment that is marked, and lies ahead or not far after.
     fn mark(&mut self) -> Option<u64> {
         let clock = self.clock;
         self.marks.retain(|&mark| mark + 3 > clock);
@@ -515,7 +515,7 @@ impl<'a> Evening<'a> {
         vec![mode, self.rng.below(201) as u8, count as u8]
     }
 
-    /// A beacon or probe response. One in eight has a fault, mostly behind what
+    /// A beacon or probe response. One in eight has a fault, mostly after what
     /// would have changed something.
     fn beacon(&mut self) -> Vec<u8> {
         let mut elements = Vec::new();

@@ -296,7 +296,7 @@ impl Drop for Count {
     fn drop(&mut self) {
         if let (true, Some(subject)) = (std::thread::panicking(), self.subjects.last()) {
             println!(
-                "PANICKED: {}, seed {:#x}, behind case {}",
+                "PANICKED: {}, seed {:#x}, after case {}",
                 subject.name, subject.seed, subject.cases
             );
         }

@@ -14,7 +14,7 @@ const SEED: u64 = 0x8021_1000_2003_0001;
 
 /// Frames built at random; each is then changed and cut as well.
 const BUILT: usize = 66_000;
-/// Bodies at random behind a header that is right.
+/// Bodies at random after a header that is right.
 const SOUPS: usize = 150_000;
 
 pub fn run(count: &mut Count) {
@@ -319,7 +319,7 @@ fn intervals(count: &mut Count) {
 }
 
 /// One to ten Quiet elements, each told by its offset, with elements that may
-/// come once and come twice before, among or behind them.
+/// come once and come twice before, among or after them.
 fn repeated_elements(count: &mut Count) {
     let stage = Stage::usual(100);
     for quiets in 0..=10u8 {
@@ -459,7 +459,7 @@ fn built(count: &mut Count, rng: &mut Rng) {
     }
 }
 
-/// Octets at random behind a header that is right, so that a body of any sort
+/// Octets at random after a header that is right, so that a body of any sort
 /// is met, and alone.
 fn soups(count: &mut Count, rng: &mut Rng) {
     for _ in 0..SOUPS {

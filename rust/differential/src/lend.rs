@@ -66,12 +66,12 @@ fn pattern(place: usize) -> u8 {
 
 /// Lends a buffer of this length that holds the pattern.
 pub fn lend(length: usize, call: impl FnOnce(&mut [u8]) -> Result<usize, u8>) -> Left {
-    lend_behind(&[], length, call)
+    lend_after(&[], length, call)
 }
 
 /// Lends a buffer of this length that begins with `front` and goes on with the
 /// pattern. A front that is longer than the buffer is cut.
-pub fn lend_behind(
+pub fn lend_after(
     front: &[u8],
     length: usize,
     call: impl FnOnce(&mut [u8]) -> Result<usize, u8>,

@@ -154,7 +154,7 @@ impl Tape {
 }
 
 /// A wrong check (off by one, without its 1, its octets exchanged, an octet of
-/// the block changed behind it), or a used length over 508.
+/// the block changed after it), or a used length over 508.
 pub fn damage(rng: &mut Rng, block: &mut [u8]) {
     let check = check(block);
     let wrong = match rng.below(6) {

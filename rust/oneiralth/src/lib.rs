@@ -186,7 +186,7 @@ pub fn write_channel_switch_body(switch: Switch, out: &mut [u8]) -> Written {
     written(unsafe { raw::oneiralth_write_channel_switch_body(mode, channel, count, out.as_mut_ptr(), out.len()) })
 }
 
-/// One element more of a Measurement Request body, behind the first `used`
+/// One element more of a Measurement Request body, after the first `used`
 /// octets of the buffer; with none used the body begins. Gives how many octets
 /// were put.
 pub fn append_request(buffer: &mut [u8], used: usize, dialog: u8, request: Request) -> Written {

@@ -447,7 +447,7 @@ mod tests {
 
     #[test]
     fn no_octets_make_it_panic() {
-        // Every short body over a small alphabet, behind each subtype.
+        // Every short body over a small alphabet, after each subtype.
         let alphabet = [0u8, 1, 2, 3, 34, 37, 38, 39];
         for subtype in [5u8, 8, 13] {
             for number in 0..8usize.pow(5) {

@@ -81,7 +81,7 @@ found c = let e = c .before .id .given .0 in Found.Whole (e .0) (e .1 .0) (e .1 
 inside : (c : tie.After-known-told Inv-loop μ-loop) → Within (placeIn c) (length (bodyIn c)) (found c)
 inside c = subst (Within (placeIn c) (length (bodyIn c))) (c .before .id .given .1) (c .before .before .before .element-at .ensures .1)
 
--- it stands first in what is left, and the next one behind it
+-- it stands first in what is left, and the next one after it
 stands : (c : tie.After-known-told Inv-loop μ-loop) → elementsIn (drop (placeIn c) (bodyIn c)) ≡ follow (bodyIn c) (found c)
 stands c = c .before .before .before .element-at .ensures .0 ∙ ap (follow (bodyIn c)) (c .before .id .given .1)
 
@@ -104,14 +104,14 @@ walked : (c : tie.After-step-by Inv-loop μ-loop)
 walked c = c .before .before .before .before .before .before .loop .inv
 
 -- where it ends
-abbrev behind : tie.After-step-by Inv-loop μ-loop → ℕ
-behind c = c .before .before .before .id .given .0 .1 .1 .0
+abbrev after : tie.After-step-by Inv-loop μ-loop → ℕ
+after c = c .before .before .before .id .given .0 .1 .1 .0
 
 -- the step that is made is that of the definition
 comes : (c : tie.After-step-by Inv-loop μ-loop) (x : Step) → c .step-by .result ≡ x
     → let k = c .before .before in
     let e = k .before .id .given .0 in
-    Comes _ _ _ _ _ _ (walked c) (e .0) (take (e .1 .1 .0 - e .1 .0) (drop (e .1 .0) (bodyIn k))) (behind c) (stands k) x
+    Comes _ _ _ _ _ _ (walked c) (e .0) (take (e .1 .1 .0 - e .1 .0) (drop (e .1 .0) (bodyIn k))) (after c) (stands k) x
 comes c x e =
     let w = walked c in
     ap (added (w .said)) (sym e) ∙ c .step-by .ensures (w .said) (w .kept-once) (w .kept-count)
@@ -119,12 +119,12 @@ comes c x e =
 returns-6 : tie.Need-returns-6 Inv-loop μ-loop
 returns-6 c =
     let s = c .before .before .before .before in
-    c .refused5 .ensures ∙ at-refused _ _ _ _ _ _ (walked s) _ _ (behind s) (stands (s .before .before)) _ (comes s _ (c .before .before .refusal .given .1))
+    c .refused5 .ensures ∙ at-refused _ _ _ _ _ _ (walked s) _ _ (after s) (stands (s .before .before)) _ (comes s _ (c .before .before .refusal .given .1))
 
 array-set-from-quiets : tie.Need-array-set-from-quiets Inv-loop μ-loop
 array-set-from-quiets c =
     let s = c .before .before .before in
-    slot-free _ _ _ _ _ _ (walked s) _ _ (behind s) (stands (s .before .before)) _ (comes s _ (c .before .quiet .given .1))
+    slot-free _ _ _ _ _ _ (walked s) _ _ (after s) (stands (s .before .before)) _ (comes s _ (c .before .quiet .given .1))
 
 loop-less : tie.Need-loop-less Inv-loop μ-loop
 loop-less c = let w = inside (c .before .before .before .before .before) in omega arith
@@ -132,7 +132,7 @@ loop-less c = let w = inside (c .before .before .before .before .before) in omeg
 loop-again : tie.Need-loop-again Inv-loop μ-loop
 loop-again c =
     let s = c .before .before .before in
-    at-once _ _ _ _ _ _ (walked s) _ _ (behind s) (stands (s .before .before)) _ (comes s _ (c .before .next .given .1))
+    at-once _ _ _ _ _ _ (walked s) _ _ (after s) (stands (s .before .before)) _ (comes s _ (c .before .next .given .1))
 
 loop-less-2 : tie.Need-loop-less-2 Inv-loop μ-loop
 loop-less-2 c = let w = inside (c .before .before .before .before .before) in omega arith
@@ -140,7 +140,7 @@ loop-less-2 c = let w = inside (c .before .before .before .before .before) in om
 loop-again-2 : tie.Need-loop-again-2 Inv-loop μ-loop
 loop-again-2 c =
     let s = c .before .before .before in
-    at-quiet _ _ _ _ _ _ (walked s) _ _ (behind s) (stands (s .before .before)) _ (comes s _ (c .before .quiet .given .1))
+    at-quiet _ _ _ _ _ _ (walked s) _ _ (after s) (stands (s .before .before)) _ (comes s _ (c .before .quiet .given .1))
 
 pub read-spec : {M : Type 1} → statement M
 read-spec =

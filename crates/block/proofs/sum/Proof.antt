@@ -7,8 +7,8 @@ use native.Mathlib.Omega.{arith}
 use borrow.Author.Needs.{needs}
 use denote.Ref.{now}
 use lib.ListN.{take, getD}
-use Rattle.answer.proofs.SumLaws.{sum-more}
-use Rattle.answer.specs.Sums.{sumOf}
+use Rattle.octets.proofs.SumLaws.{sum-more}
+use Rattle.octets.specs.Sums.{sumOf}
 use Rattle.block.proofs.sum.Statement.{statement}
 use Rattle.block.proofs.sum.Tie as tie
 

@@ -7,8 +7,8 @@ use native.Mathlib.Omega.{arith}
 use borrow.Author.Needs.{needs}
 use lib.ListN.{length, take, length-set}
 use Rattle.answer.specs.Checks.{checked}
-use Rattle.answer.specs.Sums.{sumOf}
-use Rattle.answer.proofs.SumLaws.{entry-in-sum}
+use Rattle.octets.specs.Sums.{sumOf}
+use Rattle.octets.proofs.SumLaws.{entry-in-sum}
 use Rattle.fraction.specs.Fractions.{fractionOf, densitiesOf}
 use Rattle.fraction.proofs.Filling.{filled-more, filled-all}
 use Rattle.fraction.proofs.Possible.{within}

@@ -7,8 +7,8 @@ use lib.ListN.{length, getD, take}
 use lib.Seq.{take-all}
 use mir.Syntax.{w32}
 use mir.Val.{Fits}
-use Rattle.answer.specs.Sums.{sumOf}
-use Rattle.answer.proofs.SumLaws.{sum-more}
+use Rattle.octets.specs.Sums.{sumOf}
+use Rattle.octets.proofs.SumLaws.{sum-more}
 use Rattle.fraction.proofs.total.Statement.{statement}
 use Rattle.fraction.proofs.total.Tie as tie
 

@@ -7,15 +7,15 @@ use borrow.Author.Needs.{needs}
 use denote.Ref.{now}
 use lib.ListN.{length}
 use Rattle.answer.specs.Checks.{Outcome, accepted, andThen}
-use Rattle.measure.specs.MeasurementReport.{reportMay, reportLaid}
-use Rattle.measure.specs.declared.measurement_request.Request.{Request}
+use Rattle.measurement_element.specs.MeasurementReport.{reportMay, reportLaid}
+use Rattle.measurement_element.specs.declared.measurement_request.Request.{Request}
 use Rattle.frame.proofs.Tails.{tail}
 use Rattle.frame.specs.Actions.{Body, requests, actionMeans}
 use Rattle.frame.specs.Frames.{requestIn}
-use Rattle.measurement.specs.Lists.{nth}
+use Rattle.measurement_body.specs.Lists.{nth}
 use Rattle.reply.specs.Due.{dueMeans}
 use Rattle.reply.specs.Replies.{measurementAnswer, measurementReply}
-use Rattle.owed.specs.Reports.{reportFor}
+use Rattle.measured_report.specs.Reports.{reportFor}
 use Rattle.reply.proofs.Answering.{tpc-due, measurement-due, no-measurement, due-body, replied-refused, replied-judged, no-report, a-report}
 use Rattle.reply.proofs.to_measurement_request.Statement.{statement}
 use Rattle.reply.proofs.to_measurement_request.Tie as tie

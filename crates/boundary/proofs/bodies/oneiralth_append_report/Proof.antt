@@ -6,9 +6,9 @@ use denote.Ref.{now}
 use mathlib.Core.Bool.{true, _&&_}
 use lib.Dec.{leb}
 use lib.ListN.{length, take}
-use Rattle.measurement.specs.Bodies.{mayAppend, appended}
-use Rattle.measurement.specs.Reports.{reportSort}
-use Rattle.measure.specs.declared.measurement_report.Report.{Report}
+use Rattle.measurement_body.specs.Bodies.{mayAppend, appended}
+use Rattle.measurement_body.specs.Reports.{reportSort}
+use Rattle.measurement_element.specs.declared.measurement_report.Report.{Report}
 use Rattle.boundary.specs.Codes.{Put}
 use Rattle.boundary.proofs.Coded.{put-as}
 use Rattle.boundary.proofs.bodies.oneiralth_append_report.Statement.{statement}

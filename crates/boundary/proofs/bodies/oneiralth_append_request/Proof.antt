@@ -6,9 +6,9 @@ use denote.Ref.{now}
 use mathlib.Core.Bool.{not, _&&_}
 use lib.Dec.{leb, eqb}
 use lib.ListN.{length, take}
-use Rattle.measurement.specs.Bodies.{mayAppend, appended}
-use Rattle.measurement.specs.Requests.{requestSort}
-use Rattle.measure.specs.declared.measurement_request.Request.{Request}
+use Rattle.measurement_body.specs.Bodies.{mayAppend, appended}
+use Rattle.measurement_body.specs.Requests.{requestSort}
+use Rattle.measurement_element.specs.declared.measurement_request.Request.{Request}
 use Rattle.boundary.specs.Codes.{Put}
 use Rattle.boundary.proofs.Coded.{put-as}
 use Rattle.boundary.proofs.bodies.oneiralth_append_request.Statement.{statement}

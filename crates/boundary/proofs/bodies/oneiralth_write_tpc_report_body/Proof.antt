@@ -4,7 +4,7 @@ use mathlib.Core.Path.{subst}
 use borrow.Author.Needs.{needs}
 use denote.Ref.{now}
 use mathlib.Core.Bool.{true}
-use Rattle.action.specs.Singles.{tpcReportBody}
+use Rattle.single_body.specs.Singles.{tpcReportBody}
 use Rattle.element.specs.declared.tpc_report.TpcReport.{TpcReport}
 use Rattle.boundary.specs.Codes.{Put}
 use Rattle.boundary.proofs.Coded.{put-as}

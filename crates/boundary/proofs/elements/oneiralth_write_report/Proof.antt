@@ -3,8 +3,8 @@
 use mathlib.Core.Path.{subst}
 use borrow.Author.Needs.{needs}
 use denote.Ref.{now}
-use Rattle.measure.specs.MeasurementReport.{reportMay, reportOctets}
-use Rattle.measure.specs.declared.measurement_report.Report.{Report}
+use Rattle.measurement_element.specs.MeasurementReport.{reportMay, reportOctets}
+use Rattle.measurement_element.specs.declared.measurement_report.Report.{Report}
 use Rattle.boundary.specs.Codes.{Put}
 use Rattle.boundary.proofs.Coded.{put-as}
 use Rattle.boundary.proofs.elements.oneiralth_write_report.Statement.{statement}

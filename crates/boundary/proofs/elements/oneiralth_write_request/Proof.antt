@@ -3,8 +3,8 @@
 use mathlib.Core.Path.{subst}
 use borrow.Author.Needs.{needs}
 use denote.Ref.{now}
-use Rattle.measure.specs.MeasurementRequest.{requestMay, requestOctets}
-use Rattle.measure.specs.declared.measurement_request.Request.{Request}
+use Rattle.measurement_element.specs.MeasurementRequest.{requestMay, requestOctets}
+use Rattle.measurement_element.specs.declared.measurement_request.Request.{Request}
 use Rattle.boundary.specs.Codes.{Put}
 use Rattle.boundary.proofs.Coded.{put-as}
 use Rattle.boundary.proofs.elements.oneiralth_write_request.Statement.{statement}

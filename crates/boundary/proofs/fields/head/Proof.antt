@@ -12,7 +12,7 @@ use Rattle.boundary.specs.declared.fields.HeldSwitch.{HeldSwitch}
 use Rattle.boundary.proofs.fields.head.Statement.{statement}
 use Rattle.boundary.proofs.fields.head.Tie as tie
 
--- the octets of the numbers, and what may be absent behind them
+-- the octets of the numbers, and what may be absent after them
 abbrev row : ℕ → ℕ → ℕ → List ℕ → List ℕ → List ℕ → List ℕ → HeldPower → HeldReport → HeldSwitch → List ℕ
 row kind all token e q t c p r s = (kind ∷ all ∷ token ∷ []) ++ (octetsFrom 8 0 e ++ (octetsFrom 8 0 q ++ (octetsFrom 8 0 t ++ (octetsFrom 2 0 c ++ heldFields p r s))))
 

@@ -6,9 +6,9 @@ use Prim.Native.Nat.{ℕ}
 use borrow.Author.Needs.{needs}
 use denote.Ref.{now}
 use Rattle.answer.specs.Checks.{Outcome, accepted, andThen}
-use Rattle.measure.specs.MeasurementReport.{reportLaid}
-use Rattle.measure.specs.declared.measurement_report.Reading.{Reading}
-use Rattle.measure.specs.declared.measurement_report.Report.{Report}
+use Rattle.measurement_element.specs.MeasurementReport.{reportLaid}
+use Rattle.measurement_element.specs.declared.measurement_report.Reading.{Reading}
+use Rattle.measurement_element.specs.declared.measurement_report.Report.{Report}
 use Rattle.frame.specs.Frames.{frameMeans, elementOf, reportIn}
 use Rattle.boundary.specs.Codes.{addressOf}
 use Rattle.boundary.specs.Records.{reportFields}

@@ -6,8 +6,8 @@ use Prim.Native.Nat.{ℕ}
 use borrow.Author.Needs.{needs}
 use denote.Ref.{now}
 use Rattle.answer.specs.Checks.{Outcome, refused, accepted, andThen}
-use Rattle.measure.specs.MeasurementRequest.{requestTold}
-use Rattle.measure.specs.declared.measurement_request.Request.{Request}
+use Rattle.measurement_element.specs.MeasurementRequest.{requestTold}
+use Rattle.measurement_element.specs.declared.measurement_request.Request.{Request}
 use Rattle.frame.specs.Frames.{frameMeans, elementOf, requestIn}
 use Rattle.boundary.specs.Codes.{addressOf}
 use Rattle.boundary.specs.Records.{requestFields}

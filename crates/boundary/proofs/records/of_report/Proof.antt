@@ -1,11 +1,11 @@
--- `of_report` meets its contract: the fields in a row, and the densities behind them.
+-- `of_report` meets its contract: the fields in a row, and the densities after them.
 -- Assumes nothing.
 use mathlib.Core.List.{List, [], _∷_, _++_}
 use mathlib.Core.Path.{_≡_, ap}
 use Prim.Native.Nat.{ℕ}
 use borrow.Author.Needs.{needs}
 use lib.ListN.{length}
-use Rattle.measure.specs.Span.{spanOctets}
+use Rattle.measurement_element.specs.Span.{spanOctets}
 use Rattle.boundary.specs.Records.{saidBy}
 use Rattle.boundary.proofs.InARow.{in-a-row}
 use Rattle.boundary.proofs.records.of_report.Statement.{statement}

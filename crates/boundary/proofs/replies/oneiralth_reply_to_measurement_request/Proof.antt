@@ -6,7 +6,7 @@ use Prim.Native.Nat.{ℕ}
 use borrow.Author.Needs.{needs}
 use denote.Ref.{now}
 use Rattle.reply.specs.Replies.{measurementReply}
-use Rattle.owed.specs.declared.Finding.{Finding}
+use Rattle.measured_report.specs.declared.Finding.{Finding}
 use Rattle.boundary.specs.Codes.{addressOf, Given}
 use Rattle.boundary.proofs.Coded.{given-as}
 use Rattle.boundary.proofs.replies.oneiralth_reply_to_measurement_request.Statement.{statement}

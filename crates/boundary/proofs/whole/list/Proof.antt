@@ -12,8 +12,8 @@ use lib.ListN.{length, take, drop, length-drop}
 use lib.Seq.{take-all}
 use Rattle.answer.proofs.Booleans.{clash}
 use Rattle.octets.specs.Writing.{left}
-use Rattle.text.proofs.InRoom as InRoom
-use Rattle.text.specs.Lines.{closingOf}
+use Rattle.line.proofs.InRoom as InRoom
+use Rattle.line.specs.Lines.{closingOf}
 use Rattle.capture.specs.Lists.{fileTold, listOf}
 use Rattle.capture.specs.declared.lister.Lister.{Lister}
 use Rattle.boundary.proofs.Wholes.{list-length, same-out, too-short, whole}

@@ -11,7 +11,7 @@ use Rattle.block.proofs.Judging.{used-within}
 use Rattle.block.specs.Blocks.{blockMeans}
 use Rattle.block.specs.declared.Block.{Block}
 use Rattle.octets.specs.Writing.{filled}
-use Rattle.record.specs.Records.{recordsIn}
+use Rattle.capture_record.specs.Records.{recordsIn}
 use Rattle.capture.specs.Feeding.{Fed}
 use Rattle.capture.specs.Following.{Sound, Listed}
 use Rattle.capture.specs.Lists.{Told, recorded, blockTold}

@@ -8,7 +8,7 @@ use denote.Ref.{now}
 use lib.ListN.{length}
 use Rattle.octets.specs.Writing.{filled}
 use Rattle.octets.proofs.Storing.{front-left}
-use Rattle.text.specs.declared.words.Word.{Word}
+use Rattle.line.specs.declared.words.Word.{Word}
 use Rattle.capture.specs.Following.{lineFor}
 use Rattle.capture.specs.Listers.{without, oneBlockMore, Fits}
 use Rattle.capture.specs.Lists.{Told, line, damagedTold}

@@ -9,8 +9,8 @@ use borrow.Author.Needs.{needs}
 use denote.Ref.{now}
 use lib.ListN.{length}
 use Rattle.octets.specs.Writing.{left}
-use Rattle.text.proofs.InRoom.{from-place, fits, begins}
-use Rattle.text.specs.Lines.{lineOf}
+use Rattle.line.proofs.InRoom.{from-place, fits, begins}
+use Rattle.line.specs.Lines.{lineOf}
 use Rattle.capture.proofs.listing.put_numbered.Statement.{statement}
 use Rattle.capture.proofs.listing.put_numbered.Tie as tie
 

@@ -8,10 +8,10 @@ use native.Mathlib.Omega.{arith}
 use borrow.Author.Needs.{needs}
 use denote.Ref.{now}
 use lib.ListN.{length, take, drop}
-use Rattle.record.specs.Entries.{entryMeans}
-use Rattle.record.specs.Found.{follow, Within}
-use Rattle.record.specs.Records.{recordsIn}
-use Rattle.record.specs.declared.Found.{Found}
+use Rattle.capture_record.specs.Entries.{entryMeans}
+use Rattle.capture_record.specs.Found.{follow, Within}
+use Rattle.capture_record.specs.Records.{recordsIn}
+use Rattle.capture_record.specs.declared.Found.{Found}
 use Rattle.capture.specs.Listers.{oneLineMore}
 use Rattle.capture.specs.Lists.{noted, isMalformed}
 use Rattle.capture.specs.Stepping.{clockedAt, stepTold, entryMalformed, StepFits}
@@ -92,7 +92,7 @@ contentsIn c = let e = c .before .kind .given .0 in take (e .1 .1 .0 - e .1 .0) 
 inside : (c : tie.After-known-told Inv-loop μ-loop) → Within (placeIn c) (length (usedIn c)) (found c)
 inside c = subst (Within (placeIn c) (length (usedIn c))) (c .before .kind .given .1) (c .before .before .before .record-at .ensures .1)
 
--- it stands first in what is left, and the next one behind it
+-- it stands first in what is left, and the next one after it
 goes-on : (c : tie.After-known-told Inv-loop μ-loop) → recordsIn (drop (placeIn c) (usedIn c)) ≡ follow (usedIn c) (found c)
 goes-on c = c .before .before .before .record-at .ensures .0 ∙ ap (follow (usedIn c)) (c .before .kind .given .1)
 

@@ -4,11 +4,11 @@ use mathlib.Core.Path.{_≡_, sym, ap, ap₂, _∙_, subst}
 use Prim.Native.Nat.{ℕ}
 use borrow.Author.Needs.{needs}
 use denote.Ref.{now}
-use Rattle.record.specs.Entries.{settingsOf}
-use Rattle.record.specs.declared.entry.Settings.{Settings}
+use Rattle.capture_record.specs.Entries.{settingsOf}
+use Rattle.capture_record.specs.declared.entry.Settings.{Settings}
 use Rattle.station.specs.Starting.{startMeans}
 use Rattle.station.specs.Starting as Starting
-use Rattle.text.specs.declared.words.Word.{Word}
+use Rattle.line.specs.declared.words.Word.{Word}
 use Rattle.capture.specs.Following.{Follows}
 use Rattle.capture.specs.Lists.{line, noted}
 use Rattle.capture.specs.declared.lister.Lister.{Lister}

@@ -5,7 +5,7 @@ use mathlib.Core.Path.{_≡_, refl, sym, ap, _∙_}
 use Prim.Native.Nat.{ℕ}
 use borrow.Author.Needs.{needs}
 use borrow.Author.Tests.{not-true, not-false}
-use Rattle.text.specs.declared.words.Word.{Word}
+use Rattle.line.specs.declared.words.Word.{Word}
 use Rattle.capture.specs.Lists.{line}
 use Rattle.capture.proofs.Answering.{no-advance}
 use Rattle.capture.proofs.Advancing.{refused-line, clock-line, clock-sound}

@@ -5,7 +5,7 @@ use Prim.Native.Nat.{ℕ}
 use borrow.Author.Needs.{needs}
 use borrow.Author.Tests.{not-true, not-false}
 use Rattle.station.specs.Asking.{permissionNumber}
-use Rattle.text.specs.declared.words.Word.{Word}
+use Rattle.line.specs.declared.words.Word.{Word}
 use Rattle.capture.specs.Lists.{line}
 use Rattle.capture.proofs.Answering.{no-ask, an-ask}
 use Rattle.capture.proofs.stepping.ask.Statement.{statement}

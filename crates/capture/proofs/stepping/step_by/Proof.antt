@@ -3,7 +3,7 @@
 use mathlib.Core.Bool.{Bool, false}
 use mathlib.Core.Path.{_≡_, refl, sym, ap, _∙_, subst}
 use borrow.Author.Needs.{needs}
-use Rattle.record.specs.declared.entry.Entry.{Entry}
+use Rattle.capture_record.specs.declared.entry.Entry.{Entry}
 use Rattle.capture.specs.Lists.{noted}
 use Rattle.capture.specs.Stepping.{entryMalformed, StepFits}
 use Rattle.capture.specs.declared.lister.Lister.{Lister}

@@ -1,8 +1,8 @@
--- `read_body` meets its contract: a body means what stands behind its opening.
+-- `read_body` meets its contract: a body means what stands after its opening.
 use mathlib.Core.Path.{sym, ap, _∙_}
 use Prim.Native.Nat.{ℕ}
 use Rattle.action.specs.Openings.{with, openingTold}
-use Rattle.frame.specs.Actions.{behind}
+use Rattle.frame.specs.Actions.{afterOpening}
 use Rattle.frame.specs.Laid.{bodyFrame}
 use Rattle.frame.proofs.Openings.{three, opened, last}
 use borrow.Author.Needs.{needs}
@@ -24,19 +24,19 @@ returns-2 c = c .read-switch .ensures ∙ ap bodyFrame (opened (c .before .befor
 returns-3 : tie.Need-returns-3
 returns-3 c =
     c .read-requests .ensures
-    ∙ ap (λ (a : ℕ). bodyFrame (behind (c .before .before .before .before .before .before .before .args .body .now) (with a (c .before .before .before .action .given .0 .1 .0)))) (sym (c .before .match2 .keys1))
+    ∙ ap (λ (a : ℕ). bodyFrame (afterOpening (c .before .before .before .before .before .before .before .args .body .now) (with a (c .before .before .before .action .given .0 .1 .0)))) (sym (c .before .match2 .keys1))
     ∙ ap bodyFrame (opened (c .before .before .before .before .before .before .before .args .body .now) _ (ap openingTold (sym (c .before .before .before .action .given .1)) ∙ c .before .before .before .before .before .«open» .ensures))
 
 returns-4 : tie.Need-returns-4
 returns-4 c =
     c .read-reports .ensures
-    ∙ ap (λ (a : ℕ). bodyFrame (behind (c .before .before .before .before .before .before .before .args .body .now) (with a (c .before .before .before .action .given .0 .1 .0)))) (sym (c .before .match2 .keys2))
+    ∙ ap (λ (a : ℕ). bodyFrame (afterOpening (c .before .before .before .before .before .before .before .args .body .now) (with a (c .before .before .before .action .given .0 .1 .0)))) (sym (c .before .match2 .keys2))
     ∙ ap bodyFrame (opened (c .before .before .before .before .before .before .before .args .body .now) _ (ap openingTold (sym (c .before .before .before .action .given .1)) ∙ c .before .before .before .before .before .«open» .ensures))
 
 returns-5 : tie.Need-returns-5
 returns-5 c =
     c .read-tpc-request .ensures
-    ∙ ap (λ (a : ℕ). bodyFrame (behind (c .before .before .before .before .before .before .before .args .body .now) (with a (c .before .before .before .action .given .0 .1 .0)))) (sym (c .before .match2 .keys3))
+    ∙ ap (λ (a : ℕ). bodyFrame (afterOpening (c .before .before .before .before .before .before .before .args .body .now) (with a (c .before .before .before .action .given .0 .1 .0)))) (sym (c .before .match2 .keys3))
     ∙ ap bodyFrame (opened (c .before .before .before .before .before .before .before .args .body .now) _ (ap openingTold (sym (c .before .before .before .action .given .1)) ∙ c .before .before .before .before .before .«open» .ensures))
 
 returns-6 : tie.Need-returns-6

@@ -2,10 +2,10 @@
 use mathlib.Core.Path.{sym, ap, _∙_}
 use mathlib.Core.List.{List}
 use Rattle.answer.specs.Checks.{Outcome, accepted, andThen}
-use Rattle.measure.specs.declared.measurement_report.Report.{Report}
-use Rattle.measurement.specs.Lists.{recordsIn}
-use Rattle.measurement.specs.Reports.{reportSort}
-use Rattle.measurement.specs.declared.reports.Surveyed as Reports
+use Rattle.measurement_element.specs.declared.measurement_report.Report.{Report}
+use Rattle.measurement_body.specs.Lists.{recordsIn}
+use Rattle.measurement_body.specs.Reports.{reportSort}
+use Rattle.measurement_body.specs.declared.reports.Surveyed as Reports
 use Rattle.frame.specs.Actions.{reports}
 use Rattle.frame.specs.Laid.{bodyFrame}
 use Rattle.frame.specs.declared.Frame.{Frame}

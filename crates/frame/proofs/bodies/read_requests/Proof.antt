@@ -2,10 +2,10 @@
 use mathlib.Core.Path.{sym, ap, _∙_}
 use mathlib.Core.List.{List}
 use Rattle.answer.specs.Checks.{Outcome, accepted, andThen}
-use Rattle.measure.specs.declared.measurement_request.Request.{Request}
-use Rattle.measurement.specs.Lists.{recordsIn}
-use Rattle.measurement.specs.Requests.{requestSort}
-use Rattle.measurement.specs.declared.requests.Surveyed as Requests
+use Rattle.measurement_element.specs.declared.measurement_request.Request.{Request}
+use Rattle.measurement_body.specs.Lists.{recordsIn}
+use Rattle.measurement_body.specs.Requests.{requestSort}
+use Rattle.measurement_body.specs.declared.requests.Surveyed as Requests
 use Rattle.frame.specs.Actions.{requests}
 use Rattle.frame.specs.Laid.{bodyFrame}
 use Rattle.frame.specs.declared.Frame.{Frame}

@@ -6,7 +6,7 @@ use lib.ListN.{length, take, drop}
 use Rattle.answer.specs.Checks.{Outcome, refused}
 use Rattle.answer.specs.declared.Refusal.{Refusal}
 use Rattle.beacon.specs.Beacons.{beaconMeans}
-use Rattle.measure.specs.MeasurementReport.{reportLaid}
+use Rattle.measurement_element.specs.MeasurementReport.{reportLaid}
 use Rattle.header.specs.Headers.{told}
 use Rattle.header.specs.declared.Subtype.{Subtype}
 use Rattle.frame.specs.Actions.{actionMeans}

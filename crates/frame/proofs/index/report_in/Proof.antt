@@ -5,10 +5,10 @@ use borrow.Author.Tests.{not-true, not-false}
 use lib.ListN.{length}
 use Rattle.answer.specs.Checks.{refused, accepted}
 use Rattle.answer.specs.declared.Refusal.{Refusal}
-use Rattle.measure.specs.MeasurementReport.{reportLaid}
-use Rattle.measurement.specs.Lists.{recordsIn}
-use Rattle.measurement.specs.Reports.{reportSort}
-use Rattle.measurement.specs.declared.reports.Surveyed as Reports
+use Rattle.measurement_element.specs.MeasurementReport.{reportLaid}
+use Rattle.measurement_body.specs.Lists.{recordsIn}
+use Rattle.measurement_body.specs.Reports.{reportSort}
+use Rattle.measurement_body.specs.declared.reports.Surveyed as Reports
 use Rattle.frame.proofs.Answers.{reports-refused, reports-accepted}
 use Rattle.frame.proofs.Indexing.{wanted, reports-at, no-report}
 use Rattle.frame.proofs.Openings.{three}

@@ -4,10 +4,10 @@ use Prim.Native.Nat.{_≤_}
 use borrow.Author.Tests.{not-true, not-false}
 use lib.ListN.{length}
 use Rattle.answer.specs.Checks.{refused, accepted}
-use Rattle.measure.specs.MeasurementRequest.{requestTold}
-use Rattle.measurement.specs.Lists.{recordsIn, nth}
-use Rattle.measurement.specs.Requests.{requestSort}
-use Rattle.measurement.specs.declared.requests.Surveyed as Requests
+use Rattle.measurement_element.specs.MeasurementRequest.{requestTold}
+use Rattle.measurement_body.specs.Lists.{recordsIn, nth}
+use Rattle.measurement_body.specs.Requests.{requestSort}
+use Rattle.measurement_body.specs.declared.requests.Surveyed as Requests
 use Rattle.frame.proofs.Answers.{requests-refused, requests-accepted}
 use Rattle.frame.proofs.Indexing.{wanted, requests-at, no-request, told-read}
 use Rattle.frame.proofs.Openings.{three}

@@ -5,7 +5,7 @@ use Prim.Native.Nat.{_≤_}
 use native.Mathlib.Omega.{arith}
 use borrow.Author.Needs.{needs}
 use lib.ListN.{length}
-use Rattle.text.specs.declared.back.Text.{Text}
+use Rattle.line.specs.declared.back.Text.{Text}
 use Rattle.list.proofs.output.write_closing.Statement.{statement}
 use Rattle.list.proofs.output.write_closing.Tie as tie
 

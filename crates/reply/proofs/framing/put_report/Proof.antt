@@ -8,7 +8,7 @@ use native.Mathlib.Omega.{arith}
 use borrow.Author.Needs.{needs}
 use denote.Ref.{now}
 use lib.ListN.{length, take, replicate, length-take}
-use Rattle.measure.specs.MeasurementReport.{reportMay}
+use Rattle.measurement_element.specs.MeasurementReport.{reportMay}
 use Rattle.reply.specs.Frames.{replyFrame}
 use Rattle.octets.proofs.Overwriting.{written-as}
 use Rattle.octets.proofs.Storing.{not-written}

@@ -4,7 +4,7 @@ use mathlib.Core.Path.{_≡_, refl, ap}
 use Prim.Native.Nat.{ℕ}
 use borrow.Author.Needs.{needs}
 use lib.ListN.{length, replicate}
-use Rattle.action.specs.Singles.{tpcReportBody}
+use Rattle.single_body.specs.Singles.{tpcReportBody}
 use Rattle.element.specs.TpcReport.{tpcReportOctets}
 use Rattle.element.specs.declared.tpc_report.TpcReport.{TpcReport}
 use Rattle.reply.specs.Frames.{replyFrame}

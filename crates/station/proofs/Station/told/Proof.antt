@@ -1,4 +1,4 @@
--- `Station::told` meets its contract: with no announcement, or behind it.
+-- `Station::told` meets its contract: with no announcement, or after it.
 -- Assumes nothing.
 use mathlib.Core.List.{List}
 use mathlib.Core.Path.{_≡_, refl, sym, ap, _∙_, subst}
@@ -24,7 +24,7 @@ soFar c =
     let a = c .before .before .args in
     constrained (rescheduled (a .self) (take (a .count) (a .quiets))) (a .notice .power)
 
--- the station behind its schedules and its constraint
+-- the station after its schedules and its constraint
 so-far : (c : tie.After-constrained) → c .constrained .result ≡ soFar c
 so-far c =
     c .constrained .ensures ∙ ap (λ (s : Station). constrained s (c .before .before .args .notice .power)) (c .before .rescheduled .ensures)

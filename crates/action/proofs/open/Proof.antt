@@ -1,0 +1,101 @@
+-- `open` meets its contract: each way out is a way through the list of checks.
+use mathlib.Core.Path.{sym, ap, _∙_}
+use mathlib.Core.Bool.{not}
+use borrow.Author.Tests.{eq-eqb, ne-eqb, lt-ltb, le-ltb}
+use Rattle.answer.proofs.Booleans.{and-go, and-stop}
+use Rattle.answer.proofs.Judged.{past, stop, done, through}
+use Rattle.action.specs.Openings.{opensWith}
+use borrow.Author.Needs.{needs}
+use Rattle.action.proofs.open.Statement.{statement}
+use Rattle.action.proofs.open.Tie as tie
+
+returns : tie.Need-returns
+unfolding opensWith
+returns c = stop _ _ _ (lt-ltb _ _ (c .if1 .taken))
+
+returns-2 : tie.Need-returns-2
+unfolding opensWith
+returns-2 c = past _ _ _ (le-ltb _ _ (c .before .before .if1 .left)) (stop _ _ _ (ap not (ne-eqb _ _ (c .if2 .taken))))
+
+returns-3 : tie.Need-returns-3
+unfolding opensWith
+returns-3 c =
+    past _ _ _ (le-ltb _ _ (c .before .before .before .if1 .left))
+    (past _ _ _ (ap not (eq-eqb _ _ (c .before .if2 .left))) (stop _ _ _ (lt-ltb _ _ (c .if3 .taken))))
+
+returns-4 : tie.Need-returns-4
+unfolding opensWith
+returns-4 c =
+    past _ _ _ (le-ltb _ _ (c .before .before .before .before .before .if1 .left))
+    (past _ _ _ (ap not (eq-eqb _ _ (c .before .before .before .if2 .left)))
+    (past _ _ _ (le-ltb _ _ (c .before .before .if3 .left))
+    (stop _ _ _ (lt-ltb _ _ (c .if4 .taken)))))
+
+returns-5 : tie.Need-returns-5
+unfolding opensWith
+returns-5 c =
+    past _ _ _ (le-ltb _ _ (c .before .before .before .before .before .before .if1 .left))
+    (past _ _ _ (ap not (eq-eqb _ _ (c .before .before .before .before .if2 .left)))
+    (past _ _ _ (le-ltb _ _ (c .before .before .before .if3 .left))
+    (past _ _ _ (le-ltb _ _ (c .before .if4 .left))
+    (through _ (simp (eq-eqb _ _ (c .if5 .taken)))))))
+
+returns-6 : tie.Need-returns-6
+unfolding opensWith
+returns-6 c =
+    past _ _ _ (le-ltb _ _ (c .before .before .before .before .before .before .before .if1 .left))
+    (past _ _ _ (ap not (eq-eqb _ _ (c .before .before .before .before .before .if2 .left)))
+    (past _ _ _ (le-ltb _ _ (c .before .before .before .before .if3 .left))
+    (past _ _ _ (le-ltb _ _ (c .before .before .if4 .left))
+    (through _ (simp (ne-eqb _ _ (c .before .if5 .left)) (stop _ _ _ (lt-ltb _ _ (c .if6 .taken))))))))
+
+returns-7 : tie.Need-returns-7
+unfolding opensWith
+returns-7 c =
+    past _ _ _ (le-ltb _ _ (c .before .before .before .before .before .before .before .before .before .before .before .if1 .left))
+    (past _ _ _ (ap not (eq-eqb _ _ (c .before .before .before .before .before .before .before .before .before .if2 .left)))
+    (past _ _ _ (le-ltb _ _ (c .before .before .before .before .before .before .before .before .if3 .left))
+    (past _ _ _ (le-ltb _ _ (c .before .before .before .before .before .before .if4 .left))
+    (through _ (simp (ne-eqb _ _ (c .before .before .before .before .before .if5 .left))
+    (past _ _ _ (le-ltb _ _ (c .before .before .before .before .if6 .left))
+    (stop _ _ _ (and-go _ (sym (c .before .before .forbids-zero-token .ensures) ∙ c .before .if7 .taken) ∙ eq-eqb _ _ (c .if8 .taken)))))))))
+
+returns-8 : tie.Need-returns-8
+unfolding opensWith
+returns-8 c =
+    past _ _ _ (le-ltb _ _ (c .before .before .before .before .before .before .before .before .before .before .before .if1 .left))
+    (past _ _ _ (ap not (eq-eqb _ _ (c .before .before .before .before .before .before .before .before .before .if2 .left)))
+    (past _ _ _ (le-ltb _ _ (c .before .before .before .before .before .before .before .before .if3 .left))
+    (past _ _ _ (le-ltb _ _ (c .before .before .before .before .before .before .if4 .left))
+    (through _ (simp (ne-eqb _ _ (c .before .before .before .before .before .if5 .left))
+    (past _ _ _ (le-ltb _ _ (c .before .before .before .before .if6 .left))
+    (past _ _ _ (and-go _ (sym (c .before .before .forbids-zero-token .ensures) ∙ c .before .if7 .taken) ∙ ne-eqb _ _ (c .if8 .left)) (done _))))))))
+
+returns-9 : tie.Need-returns-9
+unfolding opensWith
+returns-9 c =
+    past _ _ _ (le-ltb _ _ (c .before .before .before .before .before .before .before .before .before .before .if1 .left))
+    (past _ _ _ (ap not (eq-eqb _ _ (c .before .before .before .before .before .before .before .before .if2 .left)))
+    (past _ _ _ (le-ltb _ _ (c .before .before .before .before .before .before .before .if3 .left))
+    (past _ _ _ (le-ltb _ _ (c .before .before .before .before .before .if4 .left))
+    (through _ (simp (ne-eqb _ _ (c .before .before .before .before .if5 .left))
+    (past _ _ _ (le-ltb _ _ (c .before .before .before .if6 .left))
+    (past _ _ _ (and-stop _ _ (sym (c .before .forbids-zero-token .ensures) ∙ c .if7 .left)) (done _))))))))
+
+pub open-spec : {M : Type 1} → statement M
+open-spec =
+    tie.close
+    (tie.spec
+    returns
+    (λ c. search needs)
+    returns-2
+    returns-3
+    (λ c. search needs)
+    returns-4
+    returns-5
+    returns-6
+    (λ c. search needs)
+    (λ c κs. search needs)
+    returns-7
+    returns-8
+    returns-9)

@@ -1,0 +1,34 @@
+// The words of the list.
+ghost use mathlib.Core.Path.{_≡_};
+ghost use mathlib.Core.List.{List, _++_};
+ghost use Prim.Native.Nat.{ℕ, _+_, _≤_};
+ghost use Rattle.line.specs.Backs.{backed};
+ghost use Rattle.line.specs.Lines.{spelled};
+use crate::Text;
+use crate::back;
+
+// A record's kind, a malformed record, or a damaged block.
+pub enum Word {
+    Start,
+    Advance,
+    Frame,
+    Ask,
+    Record,
+    Block,
+}
+
+// The word, and the text after it.
+pub fn put_word(word: Word, text: Text) -> Text
+    requires { ⌜ (7 ≤ text .from) × (text .from ≤ 64) ⌝ }
+    ensures { λ r. ⌜ ((os : List ℕ) → text ≡ backed os → r ≡ backed (spelled word ++ os)) ⌝ }
+    ensures { λ r. ⌜ (r .from ≤ text .from) × (text .from ≤ r .from + 7) ⌝ }
+{
+    match word {
+        Word::Start => back::put(b"start", text),
+        Word::Advance => back::put(b"advance", text),
+        Word::Frame => back::put(b"frame", text),
+        Word::Ask => back::put(b"ask", text),
+        Word::Record => back::put(b"record", text),
+        Word::Block => back::put(b"block", text),
+    }
+}

@@ -1,0 +1,259 @@
+-- Demand 2 for a list of elements, from that for one element: a list that may be written reads back the same, and an accepted run
+-- with nothing uninterpreted and no reserved bit set is what would be written of its records. Assumes nothing.
+use mathlib.Core.Path.{_≡_, refl, sym, ap, subst, _∙_}
+use mathlib.Core.Bool.{true, false, not, _&&_}
+use mathlib.Core.List.{List, [], _∷_, _++_, append-nil}
+use Prim.Native.Nat.{ℕ, suc, _<_}
+use native.Mathlib.Omega.{arith}
+use borrow.Author.Tests.{lt-ltb, ltb-true, eqb-true, eqb-false, ne-eqb, eq-eqb, not-true, not-false}
+use lib.Dec.{ltb, eqb}
+use lib.ListN.{length, length-append}
+use lib.Seq.{append-snoc}
+use Rattle.answer.specs.Checks.{Outcome, refused, accepted, checked, andThen}
+use Rattle.answer.proofs.Booleans.{clash, both}
+use Rattle.answer.proofs.Judged.{passed, kept}
+use Rattle.octets.specs.Elements.{element, RoundTrip}
+use Rattle.octets.specs.Numbers.{Octets}
+use Rattle.walk.specs.Elements.{Elements, end, cutHeader, cutContents, more, elementsIn}
+use Rattle.measurement_body.specs.Lists.{AllFit, Sort, listed, recordsIn, allClear, allInterpreted, allOctets, mayAll, mayList}
+use Rattle.measurement_body.proofs.RunLaws.{front, none, split, empty, octets-front, octets-after}
+
+-- what is asked of one element: demand 2, where its octets lie, and that what may be written is interpreted and clear
+pub record Trip {A : Type 0} (s : Sort A) (Fits : A → Type 0) : Type 0 where
+  pub contents : A → List ℕ
+  pub trip : RoundTrip (s .means) contents (s .may) Fits (s .interpreted) (s .clear)
+  pub laid : (a : A) → s .octets a ≡ element (s .id) (contents a)
+  pub known : (a : A) → s .may a ≡ true → s .interpreted a ≡ true
+  pub clean : (a : A) → s .may a ≡ true → s .clear (contents a) ≡ true
+
+module _ {A : Type 0} (s : Sort A) (Fits : A → Type 0) (t : Trip s Fits) where
+  -- what a list that may be written says of its first record
+  pub first : (before : List A) (a : A) (xs : List A) → mayAll s before (a ∷ xs) ≡ true
+      → (s .may a ≡ true) × (s .repeats a before ≡ false) × (mayAll s (before ++ (a ∷ [])) xs ≡ true)
+  unfolding mayAll
+  first before a xs m =
+      let p = both (s .may a) (not (s .repeats a before) && mayAll s (before ++ (a ∷ [])) xs) m in
+      let q = both (not (s .repeats a before)) (mayAll s (before ++ (a ∷ [])) xs) (p .1) in
+      (p .0, not-true (s .repeats a before) (q .0), q .1)
+
+  pub may-first : (before : List A) (a : A) (xs : List A) → s .may a ≡ true → s .repeats a before ≡ false → mayAll s (before ++ (a ∷ [])) xs ≡ true
+      → mayAll s before (a ∷ xs) ≡ true
+  unfolding mayAll
+  may-first before a xs m r h = simp (m, r) h
+
+  -- the elements of what is written
+  written : (a : A) (xs : List A) → elementsIn (allOctets s (a ∷ xs)) ≡ more (s .id) (t .contents a) (elementsIn (allOctets s xs))
+  unfolding allOctets
+  written a xs =
+      ap (λ (os : List ℕ). elementsIn (os ++ allOctets s xs)) (t .laid a) ∙ front (s .id) (t .contents a) (allOctets s xs)
+
+  -- ---- there
+
+  read-on : (a : A) (c : List ℕ) (es : Elements) (before : List A) → s .means c ≡ accepted a → s .repeats a before ≡ false
+      → listed s (more (s .id) c es) before ≡ listed s es (before ++ (a ∷ []))
+  unfolding listed checked
+  read-on a c es before m r = simp (eq-eqb (s .id) (s .id) refl, m, r)
+
+  there : (xs before : List A) → AllFit Fits xs → mayAll s before xs ≡ true → 0 < length (before ++ xs)
+      → listed s (elementsIn (allOctets s xs)) before ≡ accepted (before ++ xs)
+  unfolding allOctets listed checked
+  there [] before f m h =
+      let some : eqb (length before) 0 ≡ false = ne-eqb (length before) 0 (λ z. omega (arith, length-append before [])) in
+      simp (none, some) (ap accepted (sym (append-nil before)))
+  there (a ∷ xs) before f m h =
+      let p = first before a xs m in
+      ap (λ (es : Elements). listed s es before) (written a xs)
+      ∙ read-on a (t .contents a) (elementsIn (allOctets s xs)) before (t .trip .there a (f .0) (p .0)) (p .1)
+      ∙ there xs (before ++ (a ∷ [])) (f .1) (p .2) (subst (λ (l : List A). 0 < length l) (sym (append-snoc before a xs)) h)
+      ∙ ap accepted (append-snoc before a xs)
+
+  pub list-there : (xs : List A) → AllFit Fits xs → mayList s xs ≡ true → recordsIn s (allOctets s xs) ≡ accepted xs
+  unfolding mayList recordsIn
+  list-there xs f m =
+      let p = both (ltb 0 (length xs)) (mayAll s [] xs) m in
+      there xs [] f (p .1) (ltb-true 0 (length xs) (p .0))
+
+  -- and nothing in it is uninterpreted, and no reserved bit is set
+  pub list-known : (xs before : List A) → mayAll s before xs ≡ true → allInterpreted s xs ≡ true
+  unfolding allInterpreted
+  list-known [] before m = refl
+  list-known (a ∷ xs) before m =
+      let p = first before a xs m in
+      simp (t .known a (p .0)) (list-known xs (before ++ (a ∷ [])) (p .2))
+
+  pub list-clean : (xs before : List A) → mayAll s before xs ≡ true → allClear s (elementsIn (allOctets s xs)) ≡ true
+  unfolding allClear allOctets
+  list-clean [] before m = simp none
+  list-clean (a ∷ xs) before m =
+      let p = first before a xs m in
+      simp (written a xs, t .clean a (p .0)) (list-clean xs (before ++ (a ∷ [])) (p .2))
+
+  -- ---- back
+
+  -- what follows an accepted value was accepted too
+  after : {B C : Type 0} (o : Outcome B) (next : B → Outcome C) (c : C) → andThen o next ≡ accepted c
+      → (b : B) × (o ≡ accepted b) × (next b ≡ accepted c)
+  after (refused r) next c e = absurd (let z : _≡_ {A = ℕ} 0 1 = cc in omega arith)
+  after (accepted b) next c e = (b, refl, e)
+
+  -- what an accepted list says of the element in front
+  record Heads (id : ℕ) (x : List ℕ) (es : Elements) (before l : List A) : Type 0 where
+    own : id ≡ s .id
+    one : A
+    says : s .means x ≡ accepted one
+    new : s .repeats one before ≡ false
+    on : listed s es (before ++ (one ∷ [])) ≡ accepted l
+
+  heads : (id : ℕ) (x : List ℕ) (es : Elements) (before l : List A) → listed s (more id x es) before ≡ accepted l → Heads id x es before l
+  unfolding listed
+  heads id x es before l h =
+      let p = after _ _ _ h in
+      let q = after (s .means x) _ _ (p .2) in
+      let r = after _ _ _ (q .2) in
+      record {
+        own = eqb-true id (s .id) (not-false (eqb id (s .id)) (passed _ _ _ (p .1) .0));
+        one = q .0;
+        says = q .1;
+        new = passed _ _ _ (r .1) .0;
+        on = r .2;
+      }
+
+  -- the records of a run after those before it, which make up the list
+  record Rest (run : List ℕ) (before l : List A) : Type 0 where
+    tail : List A
+    whole : l ≡ before ++ tail
+    octets : allOctets s tail ≡ run
+    may : mayAll s before tail ≡ true
+    some : ltb 0 (length l) ≡ true
+
+  -- a record among others is interpreted, where all are
+  known-one : (before : List A) (a : A) (l : List A) → allInterpreted s (before ++ (a ∷ []) ++ l) ≡ true → s .interpreted a ≡ true
+  unfolding allInterpreted
+  known-one [] a l i = both (s .interpreted a) _ i .0
+  known-one (x ∷ before) a l i = known-one before a l (both (s .interpreted x) _ i .1)
+
+  back : (es : Elements) (run : List ℕ) (before l : List A) → elementsIn run ≡ es → Octets run → allInterpreted s l ≡ true → allClear s es ≡ true
+      → listed s es before ≡ accepted l → Rest run before l
+  unfolding listed allClear allOctets mayAll
+  back end run before l e o i c h =
+      let p = passed _ _ _ h in
+      let k : before ≡ l = kept _ (p .1) in
+      record {
+        tail = [];
+        whole = sym (append-nil before ∙ k);
+        octets = sym (empty run e);
+        may = refl;
+        some = lt-ltb 0 (length l) (omega (arith, ap length k, eqb-false (length before) 0 (p .0)));
+      }
+  back cutHeader run before l e o i c h = absurd (let z : _≡_ {A = ℕ} 0 1 = cc in omega arith)
+  back (cutContents id) run before l e o i c h = clash (passed _ _ _ (passed _ _ _ h .1) .0)
+  back (more id x es) run before l e o i c h =
+      let g = heads id x es before l h in
+      let a = g .one in
+      let y = split run id x es e in
+      let clear = both (s .clear x) (allClear s es) c in
+      let octets = subst Octets (y .octets) o in
+      let inner = octets-front x (y .rest) (λ j. octets (suc (suc j))) in
+      let outer = octets-after x (y .rest) (λ j. octets (suc (suc j))) in
+      let z = back es (y .rest) (before ++ (a ∷ [])) l (y .after) outer i (clear .1) (g .on) in
+      let b = t .trip .back x a inner (g .says) (known-one before a (z .tail) (ap (allInterpreted s) (sym (z .whole)) ∙ i)) (clear .0) in
+      record {
+        tail = a ∷ z .tail;
+        whole = z .whole ∙ append-snoc before a (z .tail);
+        octets =
+            ap (λ (os : List ℕ). os ++ allOctets s (z .tail)) (t .laid a ∙ ap (element (s .id)) (b .1))
+            ∙ ap (λ (os : List ℕ). element (s .id) x ++ os) (z .octets)
+            ∙ ap (λ (k : ℕ). element k x ++ y .rest) (sym (g .own)) ∙ sym (y .octets);
+        may = may-first before a (z .tail) (b .0) (g .new) (z .may);
+        some = z .some;
+      }
+
+  module _ (run : List ℕ) (xs : List A) (o : Octets run) (h : recordsIn s run ≡ accepted xs) (i : allInterpreted s xs ≡ true)
+      (c : allClear s (elementsIn run) ≡ true) where
+    rest : Rest run [] xs
+    unfolding recordsIn
+    rest = back (elementsIn run) run [] xs refl o i c h
+
+    pub list-back : (mayList s xs ≡ true) × (allOctets s xs ≡ run)
+    unfolding mayList
+    list-back = (simp (rest .some) (ap (mayAll s []) (rest .whole) ∙ rest .may), ap (allOctets s) (rest .whole) ∙ rest .octets)
+
+  -- ---- exact, and fits
+
+  -- the records of a run stand after those before it, and fit
+  record Ends (run : List ℕ) (before l : List A) : Type 0 where
+    tail : List A
+    whole : l ≡ before ++ tail
+    fit : Octets run → AllFit Fits tail
+
+  ends : (es : Elements) (run : List ℕ) (before l : List A) → elementsIn run ≡ es → listed s es before ≡ accepted l → Ends run before l
+  unfolding listed
+  ends end run before l e h =
+      record { tail = []; whole = sym (append-nil before ∙ kept _ (passed _ _ _ h .1)); fit = λ o. tt }
+  ends cutHeader run before l e h = absurd (let z : _≡_ {A = ℕ} 0 1 = cc in omega arith)
+  ends (cutContents id) run before l e h = clash (passed _ _ _ (passed _ _ _ h .1) .0)
+  ends (more id x es) run before l e h =
+      let g = heads id x es before l h in
+      let a = g .one in
+      let y = split run id x es e in
+      let z = ends es (y .rest) (before ++ (a ∷ [])) l (y .after) (g .on) in
+      record {
+        tail = a ∷ z .tail;
+        whole = z .whole ∙ append-snoc before a (z .tail);
+        fit =
+            λ o.
+            let octets : Octets (element id x ++ y .rest) = subst Octets (y .octets) o in (
+              t .trip .fits x a (octets-front x (y .rest) (λ j. octets (suc (suc j)))) (g .says),
+              z .fit (octets-after x (y .rest) (λ j. octets (suc (suc j)))),
+            );
+      }
+
+  pub list-fits : (run : List ℕ) (xs : List A) → Octets run → recordsIn s run ≡ accepted xs → AllFit Fits xs
+  unfolding recordsIn
+  list-fits run xs o h =
+      let z = ends (elementsIn run) run [] xs refl h in
+      subst (AllFit Fits) (sym (z .whole)) (z .fit o)
+
+  -- lists that are the same go on with the same record
+  same : (before : List A) (a b : A) (xs ys : List A) → before ++ (a ∷ xs) ≡ before ++ (b ∷ ys) → a ≡ b
+  same [] a b xs ys e = cc
+  same (x ∷ before) a b xs ys e = same before a b xs ys (cc)
+
+  -- the element in front says the record that the list goes on with
+  leads : (x run : List ℕ) (before xs : List A) (a : A) → listed s (more (s .id) x (elementsIn run)) before ≡ accepted (before ++ (a ∷ xs))
+      → (s .means x ≡ accepted a) × (s .repeats a before ≡ false) × (listed s (elementsIn run) (before ++ (a ∷ [])) ≡ accepted (before ++ (a ∷ xs)))
+  leads x run before xs a h =
+      let g = heads (s .id) x (elementsIn run) before (before ++ (a ∷ xs)) h in
+      let b = g .one in
+      let z = ends (elementsIn run) run (before ++ (b ∷ [])) (before ++ (a ∷ xs)) refl (g .on) in
+      let e : b ≡ a = sym (same before a b xs (z .tail) (z .whole ∙ append-snoc before b (z .tail))) in (
+        g .says ∙ ap accepted e,
+        subst (λ (y : A). s .repeats y before ≡ false) e (g .new),
+        subst (λ (y : A). listed s (elementsIn run) (before ++ (y ∷ [])) ≡ accepted (before ++ (a ∷ xs))) e (g .on),
+      )
+
+  exact : (xs before : List A) → AllFit Fits xs → allInterpreted s xs ≡ true
+      → listed s (elementsIn (allOctets s xs)) before ≡ accepted (before ++ xs) → mayAll s before xs ≡ true
+  unfolding mayAll allInterpreted
+  exact [] before f i h = refl
+  exact (a ∷ xs) before f i h =
+      let p = leads (t .contents a) (allOctets s xs) before xs a (ap (λ (es : Elements). listed s es before) (sym (written a xs)) ∙ h) in
+      let k = both (s .interpreted a) (allInterpreted s xs) i in
+      may-first before a xs (t .trip .exact a (f .0) (p .0) (k .0)) (p .1)
+      (exact xs (before ++ (a ∷ [])) (f .1) (k .1) (p .2 ∙ ap accepted (sym (append-snoc before a xs))))
+
+  -- an accepted list has one record or more
+  some : (xs : List A) → listed s (elementsIn (allOctets s xs)) [] ≡ accepted xs → ltb 0 (length xs) ≡ true
+  unfolding listed allOctets
+  some [] h =
+      let g : listed s end [] ≡ accepted [] = ap (λ (es : Elements). listed s es []) (sym none) ∙ h in
+      clash (passed _ _ _ g .0)
+  some (a ∷ xs) h = lt-ltb 0 (length (a ∷ xs)) (omega arith)
+
+  list-exact : (xs : List A) → AllFit Fits xs → recordsIn s (allOctets s xs) ≡ accepted xs → allInterpreted s xs ≡ true → mayList s xs ≡ true
+  unfolding recordsIn mayList
+  list-exact xs f h i = simp (some xs h, exact xs [] f i h)
+
+  -- demand 2 for a run
+  pub list-trip : RoundTrip (recordsIn s) (allOctets s) (mayList s) (AllFit Fits) (allInterpreted s) (λ run. allClear s (elementsIn run))
+  list-trip = record { there = list-there; back = list-back; exact = list-exact; fits = list-fits }
