@@ -5,7 +5,7 @@ use mathlib.Core.List.{List, [], _∷_}
 use Prim.Native.Nat.{ℕ}
 use native.Mathlib.Omega.{arith}
 use Rattle.answer.specs.declared.Refusal.{Refusal}
-use Rattle.answer.specs.Checks.{Outcome, refused, accepted, Check, pick, checked}
+use Rattle.answer.specs.Checks.{Outcome, refused, accepted, Check, pick, checked, andThen}
 
 pub never : {A : Type 0} {r : Refusal} {a : A} → refused r ≡ accepted a → ⊥
 never e = let z : _≡_ {A = ℕ} 0 1 = cc in omega arith
@@ -28,6 +28,12 @@ module _ {A : Type 0} {a : A} where
   pub kept : (x : A) → checked [] (accepted x) ≡ accepted a → x ≡ a
   unfolding checked
   kept x e = cc
+
+-- what follows an accepted value was accepted too
+pub followed : {A B : Type 0} (o : Outcome A) (next : A → Outcome B) (b : B) → andThen o next ≡ accepted b
+    → (a : A) × (o ≡ accepted a) × (next a ≡ accepted b)
+followed (refused r) next b e = absurd (never e)
+followed (accepted a) next b e = (a, refl, e)
 
 -- ---- the ways through a list of checks: past each that does not fail, up to the one that does or to the end
 

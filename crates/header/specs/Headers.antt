@@ -5,11 +5,20 @@ use mathlib.Core.List.{List, [], _∷_}
 use Prim.Native.Nat.{ℕ, _/_, _%_}
 use lib.Dec.{ltb, eqb}
 use lib.ListN.{length, replicate}
-use Rattle.answer.specs.Checks.{Outcome, refused, accepted, pick, _⇒_, judged}
+use Rattle.answer.specs.Checks.{Outcome, refused, accepted, pick, _⇒_, judged, andThen}
 use Rattle.answer.specs.declared.Refusal.{Refusal}
 use Rattle.octets.specs.Numbers.{octet, octetsFrom, bit}
 use Rattle.header.specs.declared.Header.{Header}
-use Rattle.header.specs.declared.Subtype.{Subtype}
+use Rattle.header.specs.declared.address.Addressed.{Addressed}
+use Rattle.header.specs.declared.management.Management.{Management}
+use Rattle.header.specs.declared.management.Subtype.{Subtype}
+
+-- how many octets a header has, and the most that a frame has
+abbrev pub headerLength : ℕ
+headerLength = 24
+
+abbrev pub longestFrame : ℕ
+longestFrame = 2336
 
 -- whether two lists of octets are the same
 abbrev pub same : List ℕ → List ℕ → Bool
@@ -68,22 +77,40 @@ toAll f = same (da f) (replicate 6 255)
 unfoldable pub foreignAddress : List ℕ → List ℕ → List ℕ → Bool
 foreignAddress own ap f = not (same (sa f) ap) || (not (same (bssid f) ap) || not (same (da f) own || toAll f))
 
--- what a header says
+-- what every management frame must be (1, 2, 3), and which of those that are read it is
+unfoldable pub managementMeans : List ℕ → Outcome Subtype
+managementMeans f =
+    judged
+    (ltb (length f) headerLength ⇒ Refusal.TooShort
+    ∷ ltb longestFrame (length f) ⇒ Refusal.TooLong
+    ∷ foreignHeader f ⇒ Refusal.ForeignHeader
+    ∷ [])
+    (subtypeOf (subtype f))
+
+-- whose it must be (4), and whether it was sent to all ones
+unfoldable pub addressMeans : List ℕ → List ℕ → List ℕ → Outcome Bool
+addressMeans own ap f = judged (foreignAddress own ap f ⇒ Refusal.ForeignAddress ∷ []) (toAll f)
+
+-- what the header of a frame from the AP says
 pub record Head : Type 0 where
   pub subtype : Subtype
   pub toAll : Bool
 
--- the outcome that each case of the answer stands for
-abbrev pub told : Header → Outcome Head
-told (Header.Refused r) = refused r
-told (Header.Is s a) = accepted (record { subtype = s; toAll = a })
-
 unfoldable pub headerMeans : List ℕ → List ℕ → List ℕ → Outcome Head
 headerMeans own ap f =
-    judged
-    (ltb (length f) 24 ⇒ Refusal.TooShort
-    ∷ ltb 2336 (length f) ⇒ Refusal.TooLong
-    ∷ foreignHeader f ⇒ Refusal.ForeignHeader
-    ∷ foreignAddress own ap f ⇒ Refusal.ForeignAddress
-    ∷ [])
-    (record { subtype = subtypeOf (subtype f); toAll = toAll f })
+    andThen (managementMeans f) (λ s. andThen (addressMeans own ap f) (λ a. accepted (record { subtype = s; toAll = a })))
+
+-- ---- the outcome that each case of an answer stands for
+
+abbrev pub managementTold : Management → Outcome Subtype
+managementTold (Management.Refused r) = refused r
+managementTold (Management.Is s) = accepted s
+
+abbrev pub addressTold : Addressed → Outcome Bool
+addressTold (Addressed.Refused r) = refused r
+addressTold Addressed.ToStation = accepted false
+addressTold Addressed.ToAll = accepted true
+
+abbrev pub headerTold : Header → Outcome Head
+headerTold (Header.Refused r) = refused r
+headerTold (Header.Is s a) = accepted (record { subtype = s; toAll = a })

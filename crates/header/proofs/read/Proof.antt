@@ -1,53 +1,62 @@
--- `read` meets its contract: each way out is a way through the list of checks.
-use mathlib.Core.Path.{sym, _∙_}
-use borrow.Author.Tests.{lt-ltb, le-ltb}
-use Rattle.answer.proofs.Judged.{past, stop, done}
-use Rattle.header.specs.Headers.{headerMeans}
+-- `read` meets its contract: the one check after the other.
+use mathlib.Core.Path.{_≡_, refl, sym, ap, _∙_}
+use mathlib.Core.Bool.{Bool}
+use mathlib.Core.List.{List}
+use Prim.Native.Nat.{ℕ}
+use denote.Ref.{now}
+use Rattle.answer.specs.Checks.{Outcome, refused, accepted, andThen}
+use Rattle.answer.specs.declared.Refusal.{Refusal}
+use Rattle.header.specs.Headers.{Head, addressMeans, addressTold, managementMeans, managementTold, headerMeans}
+use Rattle.header.specs.declared.management.Subtype.{Subtype}
 use borrow.Author.Needs.{needs}
 use Rattle.header.proofs.read.Statement.{statement}
 use Rattle.header.proofs.read.Tie as tie
 
+-- what both parts say, put together
+module _ (own ap' f : List ℕ) where
+  no-frame : (r : Refusal) → refused r ≡ managementMeans f → refused r ≡ headerMeans own ap' f
+  unfolding headerMeans
+  no-frame r e = simp (sym e)
+
+  of-frame : (s : Subtype) (o : Outcome Bool) → accepted s ≡ managementMeans f → o ≡ addressMeans own ap' f
+      → andThen o (λ a. accepted (record { subtype = s; toAll = a })) ≡ headerMeans own ap' f
+  unfolding headerMeans
+  of-frame s o e d = simp (sym e, sym d)
+
 returns : tie.Need-returns
-unfolding headerMeans
-returns c = stop _ _ _ (lt-ltb _ _ (c .if1 .taken))
+returns c =
+    no-frame _ _ _ _ (ap managementTold (sym (c .before .refusal .given .1)) ∙ c .before .before .before .read-management .ensures)
+
+-- the frame is one of those that are read, and this is what its addresses say
+addressed : (c : tie.After-known-told2) (o : Outcome Bool)
+    → let a = c .before .before .before .before .before .args in
+    o ≡ addressMeans (a .own) (a .ap) (now (a .frame))
+    → andThen o (λ t. accepted (record { subtype = c .before .subtype .given .0 .0; toAll = t })) ≡ headerMeans (a .own) (a .ap) (now (a .frame))
+addressed c o e =
+    of-frame _ _ _ _ o (ap managementTold (sym (c .before .subtype .given .1)) ∙ c .before .before .before .read-management .ensures) e
 
 returns-2 : tie.Need-returns-2
-unfolding headerMeans
-returns-2 c = past _ _ _ (le-ltb _ _ (c .before .if1 .left)) (stop _ _ _ (lt-ltb _ _ (c .if2 .taken)))
+returns-2 c =
+    let m = c .before .before .before in addressed (m .before) _ (ap addressTold (sym (c .before .refusal2 .given .1)) ∙ m .read-address .ensures)
 
 returns-3 : tie.Need-returns-3
-unfolding headerMeans
-returns-3 c =
-    past _ _ _ (le-ltb _ _ (c .before .before .before .if1 .left))
-    (past _ _ _ (le-ltb _ _ (c .before .before .if2 .left)) (stop _ _ _ (sym (c .before .is-foreign .ensures) ∙ c .if3 .taken)))
+returns-3 c = let m = c .before .before in addressed (m .before) _ (ap addressTold (sym (c .enum-told .given .1)) ∙ m .read-address .ensures)
 
 returns-4 : tie.Need-returns-4
-unfolding headerMeans
-returns-4 c =
-    past _ _ _ (le-ltb _ _ (c .before .before .before .before .before .if1 .left))
-    (past _ _ _ (le-ltb _ _ (c .before .before .before .before .if2 .left))
-    (past _ _ _ (sym (c .before .before .before .is-foreign .ensures) ∙ c .before .before .if3 .left) (stop _ _ _ (sym (c .before .is-elsewhere .ensures) ∙ c .if4 .taken))))
-
-returns-5 : tie.Need-returns-5
-unfolding headerMeans
-returns-5 c =
-    simp (c .is-to-all .ensures, c .before .subtype-of .ensures, c .before .before .octet-at .ensures)
-    (past _ _ _ (le-ltb _ _ (c .before .before .before .before .before .before .before .before .if1 .left))
-    (past _ _ _ (le-ltb _ _ (c .before .before .before .before .before .before .before .if2 .left))
-    (past _ _ _ (sym (c .before .before .before .before .before .before .is-foreign .ensures) ∙ c .before .before .before .before .before .if3 .left)
-    (past _ _ _ (sym (c .before .before .before .before .is-elsewhere .ensures) ∙ c .before .before .before .if4 .left) (done _)))))
+returns-4 c = let m = c .before .before in addressed (m .before) _ (ap addressTold (sym (c .enum-told2 .given .1)) ∙ m .read-address .ensures)
 
 pub read-spec : {M : Type 1} → statement M
 read-spec =
     tie.close
     (tie.spec
+    (λ c κs. search needs)
+    (λ c. search needs)
+    (λ c. search needs)
+    (λ c κs. search needs)
+    (λ c. search needs)
+    (λ c. search needs)
+    (λ c. search needs)
     returns
     returns-2
-    (λ c κs. search needs)
     returns-3
-    (λ c κs. search needs)
-    returns-4
-    (λ c κs. search needs)
-    (λ c κs. search needs)
-    (λ c κs. search needs)
-    returns-5)
+    returns-4)

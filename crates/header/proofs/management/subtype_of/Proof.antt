@@ -1,7 +1,7 @@
--- `is_read` meets its contract: the same tests, in their order.
+-- `subtype_of` meets its contract: the same tests, in their order.
 use borrow.Author.Tests.{eq-eqb, ne-eqb}
-use Rattle.header.proofs.is_read.Statement.{statement}
-use Rattle.header.proofs.is_read.Tie as tie
+use Rattle.header.proofs.management.subtype_of.Statement.{statement}
+use Rattle.header.proofs.management.subtype_of.Tie as tie
 
 returns : tie.Need-returns
 returns c = simp (eq-eqb _ _ (c .if1 .taken))
@@ -12,5 +12,5 @@ returns-2 c = simp (ne-eqb _ _ (c .before .if1 .left), eq-eqb _ _ (c .if2 .taken
 returns-3 : tie.Need-returns-3
 returns-3 c = simp (ne-eqb _ _ (c .before .if1 .left), ne-eqb _ _ (c .if2 .left))
 
-pub is-read-spec : {M : Type 1} → statement M
-is-read-spec = tie.close (tie.spec returns returns-2 returns-3)
+pub subtype-of-spec : {M : Type 1} → statement M
+subtype-of-spec = tie.close (tie.spec returns returns-2 returns-3)

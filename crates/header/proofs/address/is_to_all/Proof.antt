@@ -1,8 +1,8 @@
 -- `is_to_all` meets its contract.
 use Rattle.header.specs.Headers.{toAll}
 use borrow.Author.Needs.{needs}
-use Rattle.header.proofs.is_to_all.Statement.{statement}
-use Rattle.header.proofs.is_to_all.Tie as tie
+use Rattle.header.proofs.address.is_to_all.Statement.{statement}
+use Rattle.header.proofs.address.is_to_all.Tie as tie
 
 returns : tie.Need-returns
 unfolding toAll

@@ -1,0 +1,81 @@
+// Whose a frame must be (document 01, "Answer numbers", 4).
+ghost use mathlib.Core.Path.{_≡_};
+ghost use mathlib.Core.List.{[], _∷_};
+ghost use Prim.Native.Nat.{_≤_};
+ghost use Rattle.octets.specs.Numbers.{octetsFrom};
+ghost use Rattle.header.specs.Headers.{same, toAll, foreignAddress, addressTold, addressMeans};
+use answer::Refusal;
+
+// To whom an accepted frame was sent: to the station alone, or to all ones.
+pub enum Addressed {
+    Refused(Refusal),
+    ToStation,
+    ToAll,
+}
+
+// Where the header has its addresses.
+const DA: usize = 4;
+
+const SA: usize = 10;
+
+const BSSID: usize = 16;
+
+// Whether three octets from a place on are these.
+fn are(frame: &[u8], at: usize, first: u8, second: u8, third: u8) -> bool
+    requires { ⌜ at ≤ 19 ⌝ }
+    ensures { λ r. ⌜ r ≡ same (octetsFrom 3 at (now (frame .entry))) (first ∷ second ∷ third ∷ []) ⌝ }
+{
+    if octets::octet_at(frame, at) != first {
+        return false;
+    }
+    if octets::octet_at(frame, at + 1) != second {
+        return false;
+    }
+    octets::octet_at(frame, at + 2) == third
+}
+
+// Whether six octets from a place on are an address.
+fn is_address(frame: &[u8], at: usize, address: [u8; 6]) -> bool
+    requires { ⌜ at ≤ 16 ⌝ }
+    ensures { λ r. ⌜ r ≡ same (octetsFrom 6 at (now (frame .entry))) address ⌝ }
+{
+    if !are(frame, at, address[0], address[1], address[2]) {
+        return false;
+    }
+    are(frame, at + 3, address[3], address[4], address[5])
+}
+
+fn is_to_all(frame: &[u8]) -> bool
+    ensures { λ r. ⌜ r ≡ toAll (now (frame .entry)) ⌝ }
+{
+    is_address(frame, DA, [255; 6])
+}
+
+// SA or BSSID is not the AP, or DA is neither the station nor all ones.
+fn is_elsewhere(frame: &[u8], own: [u8; 6], ap: [u8; 6]) -> bool
+    ensures { λ r. ⌜ r ≡ foreignAddress own ap (now (frame .entry)) ⌝ }
+{
+    if !is_address(frame, SA, ap) {
+        return true;
+    }
+    if !is_address(frame, BSSID, ap) {
+        return true;
+    }
+    if is_address(frame, DA, own) {
+        return false;
+    }
+    !is_to_all(frame)
+}
+
+// To whom the AP has sent a frame that this station hears.
+pub fn read_address(frame: &[u8], own: [u8; 6], ap: [u8; 6]) -> Addressed
+    ensures { λ r. ⌜ addressTold r ≡ addressMeans own ap (now (frame .entry)) ⌝ }
+{
+    if is_elsewhere(frame, own, ap) {
+        return Addressed::Refused(Refusal::ForeignAddress);
+    }
+    if is_to_all(frame) {
+        return Addressed::ToAll;
+    }
+    Addressed::ToStation
+}
