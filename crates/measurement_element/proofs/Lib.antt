@@ -1,4 +1,3 @@
-pub mod Histogram
 pub mod ReportLayout
 pub mod ReportTrip
 pub mod RequestLayout

@@ -6,8 +6,11 @@ use native.Mathlib.Omega.{arith}
 use lib.ListN.{length, take}
 use Rattle.octets.specs.Numbers.{octet, octetsFrom}
 use Rattle.octets.proofs.JoinSplit.{all-from}
-use Rattle.measurement_element.specs.MeasurementReport.{reportMode, reportOctets, reportSpan, reportLast, reportSize, reportBuilt}
+use Rattle.measurement_element.specs.CodeTerms.Built.{reportSpan, reportLast, reportBuilt}
+use Rattle.measurement_element.specs.Found.{foundSize}
+use Rattle.measurement_element.specs.MeasurementReport.{reportMode, reportOctets, reportSize}
 use Rattle.measurement_element.specs.Span.{spanOctets}
+use Rattle.measurement_element.specs.declared.found.Found.{Found}
 use Rattle.measurement_element.specs.declared.measurement_report.Matter.{Matter}
 use Rattle.measurement_element.specs.declared.measurement_report.Report.{Report}
 use Rattle.measurement_element.specs.declared.span.Span.{Span}
@@ -15,24 +18,23 @@ use Rattle.measurement_element.specs.declared.span.Span.{Span}
 abbrev pub made : ℕ → ℕ → List ℕ → Matter → Report
 made t k ds m = record { token = t; kind = k; matter = m; densities = ds }
 
+found-within : (f : Found) → (3 ≤ foundSize f) × (foundSize f ≤ 22)
+found-within (Found.Map m) = omega arith
+found-within (Found.Busy x) = omega arith
+found-within Found.Densities = omega arith
+
 pub within : (m : Matter) → (3 ≤ reportSize m) × (reportSize m ≤ 22)
-within Matter.Late = omega arith
-within Matter.Incapable = omega arith
-within Matter.Refused = omega arith
-within (Matter.Basic s x) = omega arith
-within (Matter.Cca s x) = omega arith
-within (Matter.Rpi s) = omega arith
+within (Matter.NotMeasured r) = omega arith
+within (Matter.Measured s f) = found-within f
 within Matter.Uninterpreted = omega arith
 
 module _ (t k : ℕ) (ds : List ℕ) (eight : length ds ≡ 8) where
   pub counted : (m : Matter) → length (reportOctets (made t k ds m)) ≡ 2 + reportSize m
   unfolding reportOctets
-  counted Matter.Late = refl
-  counted Matter.Incapable = refl
-  counted Matter.Refused = refl
-  counted (Matter.Basic s x) = refl
-  counted (Matter.Cca s x) = refl
-  counted (Matter.Rpi s) = rw eight
+  counted (Matter.NotMeasured r) = refl
+  counted (Matter.Measured s (Found.Map m)) = refl
+  counted (Matter.Measured s (Found.Busy x)) = refl
+  counted (Matter.Measured s Found.Densities) = rw eight
   counted Matter.Uninterpreted = refl
 
   -- all that is built; a histogram's octets fill it, and those of any other report lie in front
@@ -42,14 +44,12 @@ module _ (t k : ℕ) (ds : List ℕ) (eight : length ds ≡ 8) where
 
   pub laid-out : (m : Matter) → take (length (reportOctets (made t k ds m))) (built m) ≡ reportOctets (made t k ds m)
   unfolding reportOctets
-  laid-out Matter.Late = refl
-  laid-out Matter.Incapable = refl
-  laid-out Matter.Refused = refl
-  laid-out (Matter.Basic s x) = refl
-  laid-out (Matter.Cca s x) = refl
-  laid-out (Matter.Rpi s) =
-      let same = all-from 8 ds eight in
-      subst (λ (d : List ℕ). take (length (reportOctets (made t k d (Matter.Rpi s)))) (built (Matter.Rpi s)) ≡ reportOctets (made t k d (Matter.Rpi s))) same refl
+  laid-out (Matter.NotMeasured r) = refl
+  laid-out (Matter.Measured s (Found.Map m)) = refl
+  laid-out (Matter.Measured s (Found.Busy x)) = refl
+  laid-out (Matter.Measured s Found.Densities) =
+      let histogram = Matter.Measured s Found.Densities in
+      subst (λ (d : List ℕ). take (length (reportOctets (made t k d histogram))) (built histogram) ≡ reportOctets (made t k d histogram)) (all-from 8 ds eight) refl
   laid-out Matter.Uninterpreted = refl
 
 -- the octets as the code builds them, from the parts that it has

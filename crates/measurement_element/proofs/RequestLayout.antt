@@ -5,7 +5,8 @@ use Prim.Native.Nat.{ℕ, _+_, _≤_}
 use native.Mathlib.Omega.{arith}
 use lib.ListN.{length, take}
 use Rattle.measurement_element.specs.Span.{spanOctets}
-use Rattle.measurement_element.specs.MeasurementRequest.{requestMode, requestOctets, requestSpan, requestSize}
+use Rattle.measurement_element.specs.CodeTerms.Built.{requestSpan}
+use Rattle.measurement_element.specs.MeasurementRequest.{requestMode, requestOctets, requestSize}
 use Rattle.measurement_element.specs.declared.measurement_request.Matter.{Matter}
 use Rattle.measurement_element.specs.declared.measurement_request.Request.{Request}
 

@@ -1,3 +1,5 @@
+pub mod CodeTerms
+pub mod Found
 pub mod MeasurementReport
 pub mod MeasurementRequest
 pub mod Span

@@ -1,6 +1,6 @@
 -- Element 39, Measurement Report (01, "Octets"; 7.3.2.22): token, mode, type. Mode bits 0 Late, 1 Incapable, 2 Refused; more than
 -- one, at length 3 or more: 9; exactly one: length 3. With none, types 0 and 1 have length 15 and type 2 has 22: channel, start
--- (8), duration (2), then map, busy fraction or eight densities; other types have 3 or more.
+-- (8), duration (2), then what was found; other types have 3 or more.
 use mathlib.Core.Bool.{Bool, true, false, not, _&&_, _||_}
 use mathlib.Core.List.{List, [], _∷_, _++_}
 use mathlib.Core.Path.{_≡_}
@@ -8,53 +8,43 @@ use Prim.Native.Nat.{ℕ, _+_, _/_, _%_}
 use lib.ListN.{length, replicate}
 use lib.Dec.{ltb, eqb}
 use Rattle.answer.specs.Checks.{Outcome, refused, accepted, pick, _⇒_, judged}
-use Rattle.octets.specs.Sums.{sumOf}
 use Rattle.answer.specs.declared.Answer.{Answer}
 use Rattle.answer.specs.declared.Refusal.{Refusal}
-use Rattle.octets.specs.Numbers.{octet, octetsFrom, bit}
 use Rattle.octets.specs.Elements.{element}
-use Rattle.measurement_element.specs.Span.{spanIn, spanOctets, spanForbids, SpanFits, noSpan}
+use Rattle.octets.specs.Numbers.{octet, octetsFrom, bit}
+use Rattle.octets.specs.Sums.{sumOf}
+use Rattle.measurement_element.specs.Found.{foundBy, foundSize, foundForbids, foundAgrees, foundClear, foundOctets, hasDensities}
+use Rattle.measurement_element.specs.Span.{spanIn, spanOctets, spanForbids, SpanFits}
 use Rattle.measurement_element.specs.declared.measurement_report.Matter.{Matter}
 use Rattle.measurement_element.specs.declared.measurement_report.Reading.{Reading}
+use Rattle.measurement_element.specs.declared.measurement_report.Reason.{Reason}
 use Rattle.measurement_element.specs.declared.measurement_report.Report.{Report}
-use Rattle.measurement_element.specs.declared.span.Span.{Span}
-
--- by what is reported: nothing measured (Late, Incapable, Refused); type 0 with its map; type 1 with its busy fraction; type 2;
--- uninterpreted contents
-abbrev pub byMatter : {A : Type 0} → Matter → A → (Span → ℕ → A) → (Span → ℕ → A) → (Span → A) → A → A
-byMatter Matter.Late unmeasured basic cca rpi other = unmeasured
-byMatter Matter.Incapable unmeasured basic cca rpi other = unmeasured
-byMatter Matter.Refused unmeasured basic cca rpi other = unmeasured
-byMatter (Matter.Basic s m) unmeasured basic cca rpi other = basic s m
-byMatter (Matter.Cca s f) unmeasured basic cca rpi other = cca s f
-byMatter (Matter.Rpi s) unmeasured basic cca rpi other = rpi s
-byMatter Matter.Uninterpreted unmeasured basic cca rpi other = other
 
 -- how many of Late, Incapable and Refused are set
 abbrev pub reportFlags : ℕ → ℕ
 reportFlags mode = mode % 2 + (mode / 2 % 2 + mode / 4 % 2)
 
--- a measurement, by its type; of the map the reserved bits 5 to 7 are ignored
+-- a measurement, by its type
 abbrev pub reportMeasured : ℕ → List ℕ → Matter
-reportMeasured kind c =
-    pick (ltb 2 kind)
-    Matter.Uninterpreted
-    (pick (eqb kind 0)
-    (Matter.Basic (spanIn c) (octet 14 c % 32))
-    (pick (eqb kind 1) (Matter.Cca (spanIn c) (octet 14 c)) (Matter.Rpi (spanIn c))))
+reportMeasured kind c = pick (ltb 2 kind) Matter.Uninterpreted (Matter.Measured (spanIn c) (foundBy kind (octet 14 c)))
 
 abbrev pub reportMatterIn : ℕ → ℕ → List ℕ → Matter
 reportMatterIn mode kind c =
-    pick (bit 0 mode)
-    Matter.Late
-    (pick (bit 1 mode) Matter.Incapable (pick (bit 2 mode) Matter.Refused (reportMeasured kind c)))
+    pick (bit 0 mode) (Matter.NotMeasured Reason.Late)
+    (pick (bit 1 mode) (Matter.NotMeasured Reason.Incapable)
+    (pick (bit 2 mode) (Matter.NotMeasured Reason.Refused) (reportMeasured kind c)))
 
 abbrev pub noDensities : List ℕ
 noDensities = replicate 8 0
 
--- the eight densities beside what is reported
+-- whether eight densities stand beside what is reported
+abbrev pub isHistogram : Matter → Bool
+isHistogram (Matter.NotMeasured r) = false
+isHistogram (Matter.Measured s f) = hasDensities f
+isHistogram Matter.Uninterpreted = false
+
 abbrev pub densitiesIn : Matter → List ℕ → List ℕ
-densitiesIn m c = byMatter m noDensities (λ s o. noDensities) (λ s o. noDensities) (λ s. octetsFrom 8 14 c) noDensities
+densitiesIn m c = pick (isHistogram m) (octetsFrom 8 14 c) noDensities
 
 abbrev pub reportOf : ℕ → ℕ → Matter → List ℕ → Report
 reportOf token kind matter c =
@@ -63,18 +53,30 @@ reportOf token kind matter c =
 abbrev pub reportIn : List ℕ → Report
 reportIn c = reportOf (octet 0 c) (octet 2 c) (reportMatterIn (octet 1 c) (octet 2 c) c) c
 
+-- uninterpreted contents are those of a type over 2 with no mode bit
+abbrev pub matterInterpreted : Matter → Bool
+matterInterpreted (Matter.NotMeasured r) = true
+matterInterpreted (Matter.Measured s f) = true
+matterInterpreted Matter.Uninterpreted = false
+
+abbrev pub reportInterpreted : Report → Bool
+reportInterpreted r = matterInterpreted (r .matter)
+
+-- how long contents are that are interpreted, and those that are written
+abbrev pub reportSize : Matter → ℕ
+reportSize (Matter.NotMeasured r) = 3
+reportSize (Matter.Measured s f) = foundSize f
+reportSize Matter.Uninterpreted = 3
+
 -- whether contents have a wrong length for what they report; none has under 3 octets
 abbrev pub reportMisfits : Matter → ℕ → Bool
-reportMisfits m n =
-    byMatter m (not (eqb n 3)) (λ s o. not (eqb n 15)) (λ s o. not (eqb n 15)) (λ s. not (eqb n 22)) false
+reportMisfits m n = matterInterpreted m && not (eqb n (reportSize m))
 
--- unmeasured, with any of bits 0 to 3
-abbrev pub mapForbids : ℕ → Bool
-mapForbids m = bit 4 m && not (eqb (m % 16) 0)
-
--- such a map, or a channel over 200
+-- a channel over 200, or a map that says of what was not measured what it showed
 abbrev pub reportForbids : Matter → Bool
-reportForbids m = byMatter m false (λ s o. spanForbids s || mapForbids o) (λ s o. spanForbids s) (λ s. spanForbids s) false
+reportForbids (Matter.NotMeasured r) = false
+reportForbids (Matter.Measured s f) = spanForbids s || foundForbids f
+reportForbids Matter.Uninterpreted = false
 
 unfoldable pub reportMeans : List ℕ → Outcome Report
 reportMeans c =
@@ -98,39 +100,34 @@ reportLaid (accepted p) = record { answer = Answer.Accepted; report = p }
 -- ---- written
 
 -- the mode, with every reserved bit 0
+abbrev pub reasonMode : Reason → ℕ
+reasonMode Reason.Late = 1
+reasonMode Reason.Incapable = 2
+reasonMode Reason.Refused = 4
+
 abbrev pub reportMode : Matter → ℕ
-reportMode Matter.Late = 1
-reportMode Matter.Incapable = 2
-reportMode Matter.Refused = 4
-reportMode (Matter.Basic s m) = 0
-reportMode (Matter.Cca s f) = 0
-reportMode (Matter.Rpi s) = 0
+reportMode (Matter.NotMeasured r) = reasonMode r
+reportMode (Matter.Measured s f) = 0
 reportMode Matter.Uninterpreted = 0
 
 abbrev pub reportMatterOctets : Matter → List ℕ → List ℕ
-reportMatterOctets m ds =
-    byMatter m [] (λ s o. spanOctets s ++ (o ∷ [])) (λ s o. spanOctets s ++ (o ∷ [])) (λ s. spanOctets s ++ ds) []
+reportMatterOctets (Matter.NotMeasured r) ds = []
+reportMatterOctets (Matter.Measured s f) ds = spanOctets s ++ foundOctets f ds
+reportMatterOctets Matter.Uninterpreted ds = []
 
 abbrev pub reportContents : Report → List ℕ
 reportContents r =
     (r .token ∷ reportMode (r .matter) ∷ r .kind ∷ []) ++ reportMatterOctets (r .matter) (r .densities)
 
--- uninterpreted contents are those of a type over 2 with no mode bit
-abbrev pub matterInterpreted : Matter → Bool
-matterInterpreted m = byMatter m true (λ s o. true) (λ s o. true) (λ s. true) false
-
-abbrev pub reportInterpreted : Report → Bool
-reportInterpreted r = matterInterpreted (r .matter)
-
--- whether a type can report this, with no reserved bit in the map; uninterpreted contents are never written
+-- whether a type can report this; uninterpreted contents are never written
 abbrev pub reportAgrees : Matter → ℕ → Bool
-reportAgrees m kind =
-    byMatter m true (λ s o. eqb kind 0 && ltb o 32) (λ s o. eqb kind 1) (λ s. eqb kind 2) false
+reportAgrees (Matter.NotMeasured r) kind = true
+reportAgrees (Matter.Measured s f) kind = foundAgrees f kind
+reportAgrees Matter.Uninterpreted kind = false
 
 -- only an RPI histogram has densities
 abbrev pub silent : Matter → List ℕ → Bool
-silent m ds =
-    byMatter m (eqb (sumOf ds) 0) (λ s o. eqb (sumOf ds) 0) (λ s o. eqb (sumOf ds) 0) (λ s. true) (eqb (sumOf ds) 0)
+silent m ds = isHistogram m || eqb (sumOf ds) 0
 
 -- what the reader would refuse may not be written, nor a reserved bit in the map, nor uninterpreted contents
 unfoldable pub reportMay : Report → Bool
@@ -140,7 +137,9 @@ unfoldable pub reportOctets : Report → List ℕ
 reportOctets r = element 39 (reportContents r)
 
 abbrev pub mapClear : Matter → ℕ → Bool
-mapClear m o = byMatter m true (λ s x. ltb o 32) (λ s x. true) (λ s. true) true
+mapClear (Matter.NotMeasured r) o = true
+mapClear (Matter.Measured s f) o = foundClear f o
+mapClear Matter.Uninterpreted o = true
 
 -- no reserved bit is set: bits 3 to 7 of the mode, and bits 5 to 7 of the map
 abbrev pub reportClear : List ℕ → Bool
@@ -149,30 +148,9 @@ reportClear c = ltb (octet 1 c) 8 && mapClear (reportIn c .matter) (octet 14 c)
 -- ---- the fields fit their types
 
 abbrev pub ReportMatterFits : Matter → Type 0
-ReportMatterFits Matter.Late = Unit {0}
-ReportMatterFits Matter.Incapable = Unit {0}
-ReportMatterFits Matter.Refused = Unit {0}
-ReportMatterFits (Matter.Basic s m) = SpanFits s
-ReportMatterFits (Matter.Cca s f) = SpanFits s
-ReportMatterFits (Matter.Rpi s) = SpanFits s
+ReportMatterFits (Matter.NotMeasured r) = Unit {0}
+ReportMatterFits (Matter.Measured s f) = SpanFits s
 ReportMatterFits Matter.Uninterpreted = Unit {0}
 
 abbrev pub ReportFits : Report → Type 0
 ReportFits r = ReportMatterFits (r .matter) × (length (r .densities) ≡ 8)
-
--- ---- the code's own terms: the span, the octet after it and the length of what is written, and the octets that are built
-
-abbrev pub reportSpan : Matter → Span
-reportSpan m = byMatter m noSpan (λ s o. s) (λ s o. s) (λ s. s) noSpan
-
-abbrev pub reportLast : Matter → ℕ → ℕ
-reportLast m d = byMatter m 0 (λ s o. o) (λ s o. o) (λ s. d) 0
-
-abbrev pub reportSize : Matter → ℕ
-reportSize m = byMatter m 3 (λ s o. 15) (λ s o. 15) (λ s. 22) 3
-
--- the element's octets in front; after those of a shorter report stands what it does not hold
-abbrev pub reportBuilt : Report → List ℕ
-reportBuilt r =
-    (39 ∷ reportSize (r .matter) ∷ r .token ∷ reportMode (r .matter) ∷ r .kind ∷ []) ++ spanOctets (reportSpan (r .matter))
-    ++ (reportLast (r .matter) (octet 0 (r .densities)) ∷ octetsFrom 7 1 (r .densities))

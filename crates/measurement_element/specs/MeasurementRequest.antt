@@ -9,7 +9,7 @@ use Rattle.answer.specs.Checks.{Outcome, refused, accepted, pick, _⇒_, judged
 use Rattle.answer.specs.declared.Refusal.{Refusal}
 use Rattle.octets.specs.Numbers.{octet, bit}
 use Rattle.octets.specs.Elements.{element}
-use Rattle.measurement_element.specs.Span.{spanIn, spanOctets, spanForbids, SpanFits, noSpan}
+use Rattle.measurement_element.specs.Span.{spanIn, spanOctets, spanForbids, SpanFits}
 use Rattle.measurement_element.specs.declared.measurement_request.Matter.{Matter}
 use Rattle.measurement_element.specs.declared.measurement_request.Reading.{Reading}
 use Rattle.measurement_element.specs.declared.measurement_request.Request.{Request}
@@ -70,6 +70,12 @@ requestMatterOctets Matter.Uninterpreted = []
 abbrev pub requestContents : Request → List ℕ
 requestContents r = (r .token ∷ requestMode (r .matter) ∷ r .kind ∷ []) ++ requestMatterOctets (r .matter)
 
+-- how long contents are that are written
+abbrev pub requestSize : Matter → ℕ
+requestSize (Matter.Enable q p) = 3
+requestSize (Matter.Measure s) = 14
+requestSize Matter.Uninterpreted = 3
+
 -- uninterpreted contents are those of a type over 2 without Enable
 abbrev pub requestMatterInterpreted : Matter → Bool
 requestMatterInterpreted (Matter.Enable q p) = true
@@ -105,20 +111,3 @@ RequestMatterFits Matter.Uninterpreted = Unit {0}
 
 abbrev pub RequestFits : Request → Type 0
 RequestFits r = RequestMatterFits (r .matter)
-
--- ---- the code's own terms: the span and the length of what is written, and the octets that are built
-
-abbrev pub requestSpan : Matter → Span
-requestSpan (Matter.Enable q p) = noSpan
-requestSpan (Matter.Measure s) = s
-requestSpan Matter.Uninterpreted = noSpan
-
-abbrev pub requestSize : Matter → ℕ
-requestSize (Matter.Enable q p) = 3
-requestSize (Matter.Measure s) = 14
-requestSize Matter.Uninterpreted = 3
-
--- the element's octets in front; after those of an Enable element are zeros
-abbrev pub requestBuilt : Request → List ℕ
-requestBuilt r =
-    (38 ∷ requestSize (r .matter) ∷ r .token ∷ requestMode (r .matter) ∷ r .kind ∷ []) ++ spanOctets (requestSpan (r .matter))

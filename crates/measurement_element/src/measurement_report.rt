@@ -3,7 +3,9 @@ ghost use mathlib.Core.Path.{_≡_};
 ghost use Prim.Native.Nat.{_≤_};
 ghost use lib.ListN.{length, take};
 ghost use Rattle.octets.specs.Writing.{Written};
-ghost use Rattle.measurement_element.specs.MeasurementReport.{reportFlags, reportMeasured, reportMatterIn, densitiesIn, reportIn, reportMisfits, reportForbids, reportMeans, noReport, reportLaid, reportMode, reportSpan, reportLast, reportSize, reportAgrees, reportMay, reportOctets, reportBuilt, silent, reportInterpreted, mapClear, reportClear};
+ghost use Rattle.measurement_element.specs.CodeTerms.Built.{reportSpan, reportLast, reportBuilt};
+ghost use Rattle.measurement_element.specs.MeasurementReport.{reportFlags, reportMeasured, reportMatterIn, isHistogram, densitiesIn, reportIn, matterInterpreted, reportSize, reportMisfits, reportForbids, reportMeans, noReport, reportLaid, reasonMode, reportMode, reportAgrees, silent, reportMay, reportOctets, reportInterpreted, mapClear, reportClear};
+use crate::Found;
 use crate::span;
 use crate::span::Span;
 use answer::Answer;
@@ -12,15 +14,17 @@ use octets::Wrote;
 
 pub const ID: u8 = 39;
 
-// What is reported: why there is no measurement, or what one of types 0 to 2 found. The map's bits 0 to 4 are BSS, OFDM
-// preamble, unidentified signal, radar and unmeasured.
-pub enum Matter {
+// Why there is no measurement.
+pub enum Reason {
     Late,
     Incapable,
     Refused,
-    Basic { span: Span, map: u8 },
-    Cca { span: Span, busy: u8 },
-    Rpi(Span),
+}
+
+// What is reported: why nothing was measured, or what was found where and when; contents of a type over 2 are not interpreted.
+pub enum Matter {
+    NotMeasured(Reason),
+    Measured { span: Span, found: Found },
     Uninterpreted,
 }
 
@@ -45,7 +49,7 @@ fn flags_in(mode: u8) -> u8
     mode % 2 + (mode / 2 % 2 + mode / 4 % 2)
 }
 
-// A measurement, by its type; reserved bits of the map are ignored.
+// A measurement, by its type.
 fn measured_in(contents: &[u8], kind: u8) -> Matter
     ensures { λ r. ⌜ r ≡ reportMeasured kind (now (contents .entry)) ⌝ }
 {
@@ -53,17 +57,8 @@ fn measured_in(contents: &[u8], kind: u8) -> Matter
         return Matter::Uninterpreted;
     }
     let span = span::read(contents);
-    let last = octets::octet_at(contents, 14);
-    if kind == 0 {
-        return Matter::Basic {
-            span,
-            map: last % 32,
-        };
-    }
-    if kind == 1 {
-        return Matter::Cca { span, busy: last };
-    }
-    Matter::Rpi(span)
+    let found = Found::by(kind, octets::octet_at(contents, 14));
+    Matter::Measured { span, found }
 }
 
 // Mode bits 0 to 2 are Late, Incapable and Refused.
@@ -71,24 +66,35 @@ fn matter_in(contents: &[u8], mode: u8, kind: u8) -> Matter
     ensures { λ r. ⌜ r ≡ reportMatterIn mode kind (now (contents .entry)) ⌝ }
 {
     if mode % 2 == 1 {
-        return Matter::Late;
+        return Matter::NotMeasured(Reason::Late);
     }
     if mode / 2 % 2 == 1 {
-        return Matter::Incapable;
+        return Matter::NotMeasured(Reason::Incapable);
     }
     if mode / 4 % 2 == 1 {
-        return Matter::Refused;
+        return Matter::NotMeasured(Reason::Refused);
     }
     measured_in(contents, kind)
+}
+
+// Whether eight densities stand beside what is reported.
+fn is_histogram(matter: Matter) -> bool
+    ensures { λ r. ⌜ r ≡ isHistogram matter ⌝ }
+{
+    match matter {
+        Matter::NotMeasured(_) => false,
+        Matter::Measured { span: _, found } => found.has_densities(),
+        Matter::Uninterpreted => false,
+    }
 }
 
 // The eight densities after the span.
 fn densities_in(contents: &[u8], matter: Matter) -> [u8; 8]
     ensures { λ r. ⌜ r ≡ densitiesIn matter (now (contents .entry)) ⌝ }
 {
-    let Matter::Rpi(_) = matter else {
+    if !is_histogram(matter) {
         return [0u8; 8];
-    };
+    }
     [
         octets::octet_at(contents, 14),
         octets::octet_at(contents, 15),
@@ -117,40 +123,51 @@ fn report_in(contents: &[u8]) -> Report
     }
 }
 
-// Whether contents of three octets or more have another length than what they report has.
-fn is_misfit(matter: Matter, length: usize) -> bool
-    ensures { λ r. ⌜ r ≡ reportMisfits matter length ⌝ }
+// Whether nothing reported is uninterpreted.
+fn is_matter_interpreted(matter: Matter) -> bool
+    ensures { λ r. ⌜ r ≡ matterInterpreted matter ⌝ }
 {
     match matter {
-        Matter::Late => length != 3,
-        Matter::Incapable => length != 3,
-        Matter::Refused => length != 3,
-        Matter::Basic { span: _, map: _ } => length != 15,
-        Matter::Cca { span: _, busy: _ } => length != 15,
-        Matter::Rpi(_) => length != 22,
+        Matter::NotMeasured(_) => true,
+        Matter::Measured { span: _, found: _ } => true,
         Matter::Uninterpreted => false,
     }
 }
 
-// There is no channel over 200, and what was not measured showed nothing.
+// How many octets the contents have.
+fn size_of(matter: Matter) -> u8
+    ensures { λ r. ⌜ r ≡ reportSize matter ⌝ }
+{
+    match matter {
+        Matter::NotMeasured(_) => 3,
+        Matter::Measured { span: _, found } => found.size(),
+        Matter::Uninterpreted => 3,
+    }
+}
+
+// Whether contents of three octets or more have another length than what they report has.
+fn is_misfit(matter: Matter, length: usize) -> bool
+    ensures { λ r. ⌜ r ≡ reportMisfits matter length ⌝ }
+{
+    if !is_matter_interpreted(matter) {
+        return false;
+    }
+    let size = size_of(matter) as usize;
+    length != size
+}
+
+// The channel is over 200, or the map says of what was not measured what it showed.
 fn is_forbidden(matter: Matter) -> bool
     ensures { λ r. ⌜ r ≡ reportForbids matter ⌝ }
 {
     match matter {
-        Matter::Late => false,
-        Matter::Incapable => false,
-        Matter::Refused => false,
-        Matter::Basic { span, map } => {
+        Matter::NotMeasured(_) => false,
+        Matter::Measured { span, found } => {
             if span::is_forbidden(span) {
                 return true;
             }
-            if map / 16 % 2 == 1 {
-                return map % 16 != 0;
-            }
-            false
+            found.is_forbidden()
         }
-        Matter::Cca { span, busy: _ } => span::is_forbidden(span),
-        Matter::Rpi(span) => span::is_forbidden(span),
         Matter::Uninterpreted => false,
     }
 }
@@ -192,17 +209,13 @@ pub fn read(contents: &[u8]) -> Reading
     }
 }
 
-// Whether an octet after the span has no reserved bit set: in a map, bits 5 to 7 are reserved.
+// Whether an octet after the span has no reserved bit set.
 fn is_map_clear(matter: Matter, octet: u8) -> bool
     ensures { λ r. ⌜ r ≡ mapClear matter octet ⌝ }
 {
     match matter {
-        Matter::Late => true,
-        Matter::Incapable => true,
-        Matter::Refused => true,
-        Matter::Basic { span: _, map: _ } => octet < 32,
-        Matter::Cca { span: _, busy: _ } => true,
-        Matter::Rpi(_) => true,
+        Matter::NotMeasured(_) => true,
+        Matter::Measured { span: _, found } => found.is_clear(octet),
         Matter::Uninterpreted => true,
     }
 }
@@ -226,14 +239,16 @@ pub fn is_interpreted(report: Report) -> bool
     ensures { λ r. ⌜ r ≡ reportInterpreted report ⌝ }
 {
     let matter = report.matter;
-    match matter {
-        Matter::Late => true,
-        Matter::Incapable => true,
-        Matter::Refused => true,
-        Matter::Basic { span: _, map: _ } => true,
-        Matter::Cca { span: _, busy: _ } => true,
-        Matter::Rpi(_) => true,
-        Matter::Uninterpreted => false,
+    is_matter_interpreted(matter)
+}
+
+fn mode_for(reason: Reason) -> u8
+    ensures { λ r. ⌜ r ≡ reasonMode reason ⌝ }
+{
+    match reason {
+        Reason::Late => 1,
+        Reason::Incapable => 2,
+        Reason::Refused => 4,
     }
 }
 
@@ -242,12 +257,8 @@ fn mode_of(matter: Matter) -> u8
     ensures { λ r. ⌜ r ≡ reportMode matter ⌝ }
 {
     match matter {
-        Matter::Late => 1,
-        Matter::Incapable => 2,
-        Matter::Refused => 4,
-        Matter::Basic { span: _, map: _ } => 0,
-        Matter::Cca { span: _, busy: _ } => 0,
-        Matter::Rpi(_) => 0,
+        Matter::NotMeasured(reason) => mode_for(reason),
+        Matter::Measured { span: _, found: _ } => 0,
         Matter::Uninterpreted => 0,
     }
 }
@@ -257,62 +268,30 @@ fn span_of(matter: Matter) -> Span
     ensures { λ r. ⌜ r ≡ reportSpan matter ⌝ }
 {
     match matter {
-        Matter::Late => Span::none(),
-        Matter::Incapable => Span::none(),
-        Matter::Refused => Span::none(),
-        Matter::Basic { span, map: _ } => span,
-        Matter::Cca { span, busy: _ } => span,
-        Matter::Rpi(span) => span,
+        Matter::NotMeasured(_) => Span::none(),
+        Matter::Measured { span, found: _ } => span,
         Matter::Uninterpreted => Span::none(),
     }
 }
 
-// The octet after the span: the map, the busy fraction or the first density.
+// The octet after the span.
 fn last_of(matter: Matter, density: u8) -> u8
     ensures { λ r. ⌜ r ≡ reportLast matter density ⌝ }
 {
     match matter {
-        Matter::Late => 0,
-        Matter::Incapable => 0,
-        Matter::Refused => 0,
-        Matter::Basic { span: _, map } => map,
-        Matter::Cca { span: _, busy } => busy,
-        Matter::Rpi(_) => density,
+        Matter::NotMeasured(_) => 0,
+        Matter::Measured { span: _, found } => found.octet(density),
         Matter::Uninterpreted => 0,
     }
 }
 
-// How many octets the contents have.
-fn size_of(matter: Matter) -> u8
-    ensures { λ r. ⌜ r ≡ reportSize matter ⌝ }
-{
-    match matter {
-        Matter::Late => 3,
-        Matter::Incapable => 3,
-        Matter::Refused => 3,
-        Matter::Basic { span: _, map: _ } => 15,
-        Matter::Cca { span: _, busy: _ } => 15,
-        Matter::Rpi(_) => 22,
-        Matter::Uninterpreted => 3,
-    }
-}
-
-// Whether this type can report this; the map's bits 5 to 7 are reserved, and uninterpreted contents are never written.
+// Whether this type can report this; uninterpreted contents are never written.
 fn agrees(matter: Matter, kind: u8) -> bool
     ensures { λ r. ⌜ r ≡ reportAgrees matter kind ⌝ }
 {
     match matter {
-        Matter::Late => true,
-        Matter::Incapable => true,
-        Matter::Refused => true,
-        Matter::Basic { span: _, map } => {
-            if kind == 0 {
-                return map < 32;
-            }
-            false
-        }
-        Matter::Cca { span: _, busy: _ } => kind == 1,
-        Matter::Rpi(_) => kind == 2,
+        Matter::NotMeasured(_) => true,
+        Matter::Measured { span: _, found } => found.agrees(kind),
         Matter::Uninterpreted => false,
     }
 }
@@ -321,7 +300,7 @@ fn agrees(matter: Matter, kind: u8) -> bool
 fn is_silent(matter: Matter, densities: [u8; 8]) -> bool
     ensures { λ r. ⌜ r ≡ silent matter densities ⌝ }
 {
-    if let Matter::Rpi(_) = matter {
+    if is_histogram(matter) {
         return true;
     }
     let mut sum: u32 = 0;

@@ -3,7 +3,8 @@ ghost use mathlib.Core.Path.{_≡_};
 ghost use Prim.Native.Nat.{_≤_};
 ghost use lib.ListN.{length, take};
 ghost use Rattle.octets.specs.Writing.{Written};
-ghost use Rattle.measurement_element.specs.MeasurementRequest.{requestTold, requestMatterIn, requestIn, requestMisfits, requestForbids, requestMeans, requestMode, requestSpan, requestSize, requestAgrees, requestMay, requestOctets, requestBuilt, requestInterpreted, requestClear};
+ghost use Rattle.measurement_element.specs.CodeTerms.Built.{requestSpan, requestBuilt};
+ghost use Rattle.measurement_element.specs.MeasurementRequest.{requestTold, requestMatterIn, requestIn, requestMisfits, requestForbids, requestMeans, requestMode, requestSize, requestAgrees, requestMay, requestOctets, requestInterpreted, requestClear};
 use crate::span;
 use crate::span::Span;
 use answer::Refusal;
@@ -73,7 +74,7 @@ fn is_misfit(matter: Matter, length: usize) -> bool
     }
 }
 
-// Token 0 is for reports alone, and there is no channel over 200.
+// The token is 0, which is for reports alone, or the channel is over 200.
 fn is_forbidden(request: Request) -> bool
     ensures { λ r. ⌜ r ≡ requestForbids request ⌝ }
 {

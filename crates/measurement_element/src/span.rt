@@ -54,7 +54,7 @@ pub fn read(contents: &[u8]) -> Span
     }
 }
 
-// There is no channel over 200.
+// The channel is over 200: there is none.
 pub fn is_forbidden(span: Span) -> bool
     ensures { λ r. ⌜ r ≡ spanForbids span ⌝ }
 {

@@ -3,8 +3,8 @@ use borrow.Author.Needs.{needs}
 use Rattle.measurement_element.proofs.measurement_report.is_map_clear.Statement.{statement}
 use Rattle.measurement_element.proofs.measurement_report.is_map_clear.Tie as tie
 
-returns-4 : tie.Need-returns-4
-returns-4 c = simp (c .enum-told4 .given .1)
+returns-2 : tie.Need-returns-2
+returns-2 c = rw (c .before .before .matter .given .1) (c .is-clear .ensures)
 
 pub is-map-clear-spec : {M : Type 1} → statement M
 is-map-clear-spec =
@@ -12,15 +12,8 @@ is-map-clear-spec =
     (tie.spec
     (λ c. search needs)
     (λ c. search needs)
+    (λ c κs. search needs)
     (λ c. search needs)
     (λ c. search needs)
-    (λ c. search needs)
-    (λ c. search needs)
-    (λ c. search needs)
-    (λ c. search needs)
-    (λ c. search needs)
-    (λ c. search needs)
-    returns-4
-    (λ c. search needs)
-    (λ c. search needs)
+    returns-2
     (λ c. search needs))

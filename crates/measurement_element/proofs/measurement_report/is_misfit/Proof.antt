@@ -1,41 +1,17 @@
--- `measurement_report::is_misfit` meets its contract: each arm has the length of what it reports.
+-- `measurement_report::is_misfit` meets its contract: the two tests.
+use mathlib.Core.Path.{sym, _∙_}
+use borrow.Author.Tests.{not-true, not-false}
 use borrow.Author.Needs.{needs}
 use Rattle.measurement_element.proofs.measurement_report.is_misfit.Statement.{statement}
 use Rattle.measurement_element.proofs.measurement_report.is_misfit.Tie as tie
 
 returns : tie.Need-returns
-returns c = rw (c .enum-told .given .1)
+returns c = simp (sym (c .before .is-matter-interpreted .ensures) ∙ not-true _ (c .if1 .taken))
 
 returns-2 : tie.Need-returns-2
-returns-2 c = rw (c .enum-told2 .given .1)
-
-returns-3 : tie.Need-returns-3
-returns-3 c = rw (c .enum-told3 .given .1)
-
-returns-4 : tie.Need-returns-4
-returns-4 c = rw (c .enum-told4 .given .1)
-
-returns-5 : tie.Need-returns-5
-returns-5 c = rw (c .enum-told5 .given .1)
-
-returns-6 : tie.Need-returns-6
-returns-6 c = rw (c .enum-told6 .given .1)
+returns-2 c = simp (sym (c .before .before .is-matter-interpreted .ensures) ∙ not-false _ (c .before .if1 .left), c .size-of .ensures)
 
 pub is-misfit-spec : {M : Type 1} → statement M
 is-misfit-spec =
     tie.close
-    (tie.spec
-    (λ c. search needs)
-    (λ c. search needs)
-    (λ c. search needs)
-    (λ c. search needs)
-    (λ c. search needs)
-    (λ c. search needs)
-    (λ c. search needs)
-    returns
-    returns-2
-    returns-3
-    returns-4
-    returns-5
-    returns-6
-    (λ c. search needs))
+    (tie.spec (λ c κs. search needs) returns (λ c κs. search needs) (λ c. search needs) returns-2)
