@@ -15,7 +15,9 @@ use Rattle.answer.specs.declared.Refusal.{Refusal}
 use Rattle.single_body.specs.Singles.{tpcReportBody}
 use Rattle.measurement_element.specs.MeasurementReport.{ReportFits, reportMay}
 use Rattle.element.specs.TpcReport.{TpcReportFits, tpcReportOctets}
+use Rattle.measurement_element.specs.declared.found.Found.{Found}
 use Rattle.measurement_element.specs.declared.measurement_report.Matter.{Matter}
+use Rattle.measurement_element.specs.declared.measurement_report.Reason.{Reason}
 use Rattle.measurement_element.specs.declared.measurement_report.Report.{Report}
 use Rattle.measurement_element.specs.declared.measurement_request.Matter as Asked
 use Rattle.measurement_element.specs.declared.measurement_request.Request.{Request}
@@ -176,11 +178,11 @@ module _ (own master : List ℕ) (six-own : length own ≡ 6) (six-master : leng
 
 -- a busy report has the busy fraction of the caller's time within the request's duration
 pub busy-carried : (token : ℕ) (s : Span) (time : ℕ) (x : Report) → busyReport token 1 s time ≡ accepted x
-    → (f : ℕ) × (busyOf (s .duration) time ≡ accepted f) × (x ≡ plain token 1 (Matter.Cca s f))
+    → (f : ℕ) × (busyOf (s .duration) time ≡ accepted f) × (x ≡ plain token 1 (Matter.Measured s (Found.Busy f)))
 busy-carried token s time x e = by-fraction (busyOf (s .duration) time) refl e
   where
-    by-fraction : (o : Outcome ℕ) → busyOf (s .duration) time ≡ o → andThen o (λ f. accepted (plain token 1 (Matter.Cca s f))) ≡ accepted x
-        → (f : ℕ) × (busyOf (s .duration) time ≡ accepted f) × (x ≡ plain token 1 (Matter.Cca s f))
+    by-fraction : (o : Outcome ℕ) → busyOf (s .duration) time ≡ o → andThen o (λ f. accepted (plain token 1 (Matter.Measured s (Found.Busy f)))) ≡ accepted x
+        → (f : ℕ) × (busyOf (s .duration) time ≡ accepted f) × (x ≡ plain token 1 (Matter.Measured s (Found.Busy f)))
     by-fraction (refused r) h g = absurd (never g)
     by-fraction (accepted f) h g = (f, h, sym cc)
 
@@ -209,14 +211,14 @@ unfolding reportMay
 element-answered clock q h = by-matter (q .matter) h
   where
     by-late : (s : Span) (late : Bool)
-        → (x : Report) × (pick late (accepted (plain (q .token) (q .kind) Matter.Late)) (foundReport (q .token) (q .kind) (begun clock s) refusing) ≡ accepted x) × (reportMay x ≡ true)
-    by-late s true = (plain (q .token) (q .kind) Matter.Late, refl, refl)
-    by-late s false = (plain (q .token) (q .kind) Matter.Refused, refl, refl)
+        → (x : Report) × (pick late (accepted (plain (q .token) (q .kind) (Matter.NotMeasured Reason.Late))) (foundReport (q .token) (q .kind) (begun clock s) refusing) ≡ accepted x) × (reportMay x ≡ true)
+    by-late s true = (plain (q .token) (q .kind) (Matter.NotMeasured Reason.Late), refl, refl)
+    by-late s false = (plain (q .token) (q .kind) (Matter.NotMeasured Reason.Refused), refl, refl)
 
     by-matter : (m : Asked.Matter) → (IsEnable m → ⊥) → (x : Report) × (byMatter m (q .token) (q .kind) clock refusing ≡ accepted x) × (reportMay x ≡ true)
     by-matter (Asked.Matter.Enable r p) k = absurd (k tt)
     by-matter (Asked.Matter.Measure s) k = by-late s (isLate clock s)
-    by-matter Asked.Matter.Uninterpreted k = (plain (q .token) (q .kind) Matter.Incapable, refl, refl)
+    by-matter Asked.Matter.Uninterpreted k = (plain (q .token) (q .kind) (Matter.NotMeasured Reason.Incapable), refl, refl)
 
 -- and a buffer that is long enough takes it
 pub room-enough : {o : Outcome (List ℕ)} {os buffer exit : List ℕ} {answer : Wrote} → Replied o buffer answer exit → o ≡ accepted os → length os ≤ length buffer

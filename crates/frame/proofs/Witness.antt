@@ -22,6 +22,7 @@ use Rattle.element.specs.TpcReport.{tpcReportMeans}
 use Rattle.element.specs.TpcRequest.{tpcRequestMeans}
 use Rattle.element.specs.declared.channel_switch.ChannelSwitch.{ChannelSwitch}
 use Rattle.measurement_element.specs.declared.measurement_report.Matter as Reports
+use Rattle.measurement_element.specs.declared.measurement_report.Reason.{Reason}
 use Rattle.measurement_element.specs.declared.measurement_report.Report.{Report}
 use Rattle.measurement_element.specs.declared.measurement_request.Matter as Requests
 use Rattle.measurement_element.specs.declared.measurement_request.Request.{Request}
@@ -88,7 +89,7 @@ abbrev unable : ℕ → List ℕ
 unable token = 39 ∷ 3 ∷ token ∷ 2 ∷ 1 ∷ []
 
 abbrev says-unable : ℕ → Report
-says-unable token = record { token = token; kind = 1; matter = Reports.Matter.Incapable; densities = noDensities }
+says-unable token = record { token = token; kind = 1; matter = Reports.Matter.NotMeasured Reason.Incapable; densities = noDensities }
 
 pub a-measurement-report : heard (actionFrame (0 ∷ 1 ∷ 7 ∷ unable 1)) ≡ to-own (action (reports 7 (says-unable 1 ∷ [])))
 unfolding frameMeans headerMeans foreignHeader foreignAddress toAll checked actionMeans opensWith recordsIn listed elementsIn elementsAfter reportMeans

@@ -7,6 +7,7 @@ use Rattle.answer.specs.Checks.{Outcome, refused, accepted, andThen}
 use Rattle.answer.specs.declared.Answer.{Answer}
 use Rattle.answer.specs.declared.Refusal.{Refusal}
 use Rattle.measurement_element.specs.MeasurementReport.{reportLaid}
+use Rattle.measurement_element.specs.declared.found.Found.{Found}
 use Rattle.measurement_element.specs.declared.measurement_report.Matter.{Matter}
 use Rattle.measurement_element.specs.declared.measurement_report.Report.{Report}
 use Rattle.measurement_element.specs.declared.span.Span.{Span}
@@ -16,7 +17,7 @@ use Rattle.fraction.specs.declared.Densities.{Densities}
 module _ (token kind : ℕ) (s : Span) where
   -- the histogram's report
   abbrev pub rpiWith : List ℕ → Report
-  rpiWith ds = record { token = token; kind = kind; matter = Matter.Rpi s; densities = ds }
+  rpiWith ds = record { token = token; kind = kind; matter = Matter.Measured s Found.Densities; densities = ds }
 
   module _ (o : Outcome (List ℕ)) (v : Densities) (e : v ≡ laid o) where
     pub no-densities : (r : Refusal) → v .answer ≡ Answer.Refused r → reportLaid (refused r) ≡ reportLaid (andThen o (λ ds. accepted (rpiWith ds)))

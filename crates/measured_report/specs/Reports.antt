@@ -7,7 +7,9 @@ use lib.Dec.{ltb, eqb}
 use Rattle.answer.specs.Checks.{Outcome, refused, accepted, pick, andThen}
 use Rattle.answer.specs.declared.Refusal.{Refusal}
 use Rattle.measurement_element.specs.MeasurementReport.{noDensities}
+use Rattle.measurement_element.specs.declared.found.Found.{Found}
 use Rattle.measurement_element.specs.declared.measurement_report.Matter.{Matter}
+use Rattle.measurement_element.specs.declared.measurement_report.Reason.{Reason}
 use Rattle.measurement_element.specs.declared.measurement_report.Report.{Report}
 use Rattle.measurement_element.specs.declared.measurement_request.Matter as Asked
 use Rattle.measurement_element.specs.declared.measurement_request.Request.{Request}
@@ -23,20 +25,20 @@ plain token kind m = record { token = token; kind = kind; matter = m; densities 
 -- ---- the readings, as the type asks: a map, busy µs, or eight times; another kind is 16
 
 abbrev pub mapReport : ℕ → ℕ → Span → ℕ → Outcome Report
-mapReport token kind s m = pick (eqb kind 0) (accepted (plain token kind (Matter.Basic s m))) (refused Refusal.Impossible)
+mapReport token kind s m = pick (eqb kind 0) (accepted (plain token kind (Matter.Measured s (Found.Map m)))) (refused Refusal.Impossible)
 
 abbrev pub busyReport : ℕ → ℕ → Span → ℕ → Outcome Report
 busyReport token kind s time =
-    pick (eqb kind 1) (andThen (busyOf (s .duration) time) (λ f. accepted (plain token kind (Matter.Cca s f)))) (refused Refusal.Impossible)
+    pick (eqb kind 1) (andThen (busyOf (s .duration) time) (λ f. accepted (plain token kind (Matter.Measured s (Found.Busy f))))) (refused Refusal.Impossible)
 
 abbrev pub rpiReport : ℕ → ℕ → Span → List ℕ → Outcome Report
 rpiReport token kind s times =
     pick (eqb kind 2)
-    (andThen (densitiesOf (s .duration) times) (λ ds. accepted (record { token = token; kind = kind; matter = Matter.Rpi s; densities = ds })))
+    (andThen (densitiesOf (s .duration) times) (λ ds. accepted (record { token = token; kind = kind; matter = Matter.Measured s Found.Densities; densities = ds })))
     (refused Refusal.Impossible)
 
 abbrev pub found : ℕ → ℕ → Span → Finding → List ℕ → Outcome Report
-found token kind s Finding.Refused times = accepted (plain token kind Matter.Refused)
+found token kind s Finding.Refused times = accepted (plain token kind (Matter.NotMeasured Reason.Refused))
 found token kind s (Finding.Map m) times = mapReport token kind s m
 found token kind s (Finding.Busy time) times = busyReport token kind s time
 found token kind s Finding.Times times = rpiReport token kind s times
@@ -56,14 +58,14 @@ begun clock s =
 
 abbrev pub measuredReport : ℕ → ℕ → Span → ℕ → Readings → Outcome Report
 measuredReport token kind s clock readings =
-    pick (isLate clock s) (accepted (plain token kind Matter.Late)) (foundReport token kind (begun clock s) readings)
+    pick (isLate clock s) (accepted (plain token kind (Matter.NotMeasured Reason.Late))) (foundReport token kind (begun clock s) readings)
 
 -- ---- what was asked: an Enable element gets none
 
 abbrev pub byMatter : Asked.Matter → ℕ → ℕ → ℕ → Readings → Outcome Report
 byMatter (Asked.Matter.Enable q p) token kind clock readings = refused Refusal.NoReplyDue
 byMatter (Asked.Matter.Measure s) token kind clock readings = measuredReport token kind s clock readings
-byMatter Asked.Matter.Uninterpreted token kind clock readings = accepted (plain token kind Matter.Incapable)
+byMatter Asked.Matter.Uninterpreted token kind clock readings = accepted (plain token kind (Matter.NotMeasured Reason.Incapable))
 
 abbrev pub reportFor : ℕ → Readings → Request → Outcome Report
 reportFor clock readings q = byMatter (q .matter) (q .token) (q .kind) clock readings

@@ -6,9 +6,11 @@ ghost use Rattle.measured_report.specs.Reports.{plain, mapReport, busyRe
 use answer::Answer;
 use answer::Refusal;
 use fraction::Fraction;
+use measurement_element::Found;
 use measurement_element::Span;
 use measurement_element::measurement_report;
 use measurement_element::measurement_report::Matter;
+use measurement_element::measurement_report::Reason;
 use measurement_element::measurement_report::Report;
 use measurement_element::measurement_request;
 use measurement_element::measurement_request::Request;
@@ -47,7 +49,8 @@ fn map_report(token: u8, kind: u8, span: Span, map: u8) -> measurement_report::R
     if kind != 0 {
         return measurement_report::refused(Refusal::Impossible);
     }
-    plain(token, kind, Matter::Basic { span, map })
+    let found = Found::Map(map);
+    plain(token, kind, Matter::Measured { span, found })
 }
 
 // A busy time answers type 1.
@@ -59,7 +62,10 @@ fn busy_report(token: u8, kind: u8, span: Span, time: u32) -> measurement_report
     }
     match fraction::busy_fraction(time, span.duration) {
         Fraction::Refused(refusal) => measurement_report::refused(refusal),
-        Fraction::Is(busy) => plain(token, kind, Matter::Cca { span, busy }),
+        Fraction::Is(busy) => {
+            let found = Found::Busy(busy);
+            plain(token, kind, Matter::Measured { span, found })
+        }
     }
 }
 
@@ -76,10 +82,12 @@ fn rpi_report(token: u8, kind: u8, span: Span, times: [u32; 8]) -> measurement_r
     match answer {
         Answer::Refused(refusal) => measurement_report::refused(refusal),
         Answer::Accepted => {
+            let found = Found::Densities;
+            let matter = Matter::Measured { span, found };
             let report = Report {
                 token,
                 kind,
-                matter: Matter::Rpi(span),
+                matter,
                 densities,
             };
             measurement_report::Reading { answer, report }
@@ -94,7 +102,7 @@ fn found_report(token: u8, kind: u8, span: Span, readings: Readings) -> measurem
     let finding = readings.finding;
     let times = readings.times;
     match finding {
-        Finding::Refused => plain(token, kind, Matter::Refused),
+        Finding::Refused => plain(token, kind, Matter::NotMeasured(Reason::Refused)),
         Finding::Map(map) => map_report(token, kind, span, map),
         Finding::Busy(time) => busy_report(token, kind, span, time),
         Finding::Times => rpi_report(token, kind, span, times),
@@ -117,7 +125,7 @@ fn measured_report(
         return found_report(token, kind, begun, readings);
     }
     if span.start < now {
-        return plain(token, kind, Matter::Late);
+        return plain(token, kind, Matter::NotMeasured(Reason::Late));
     }
     found_report(token, kind, span, readings)
 }
@@ -134,7 +142,11 @@ pub fn report_for(request: Request, clock: u32, readings: Readings) -> measureme
             request: _,
             report: _,
         } => measurement_report::refused(Refusal::NoReplyDue),
-        measurement_request::Matter::Uninterpreted => plain(token, kind, Matter::Incapable),
+        measurement_request::Matter::Uninterpreted => plain(
+            token,
+            kind,
+            Matter::NotMeasured(Reason::Incapable),
+        ),
         measurement_request::Matter::Measure(span) => measured_report(
             token,
             kind,

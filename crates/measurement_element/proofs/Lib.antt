@@ -1,5 +1,6 @@
 pub mod ReportLayout
 pub mod ReportTrip
+pub mod ReportWritten
 pub mod RequestLayout
 pub mod RequestTrip
 pub mod SpanTrip
