@@ -1,3 +1,3 @@
+pub mod CodeTerms
 pub mod Entries
-pub mod Found
 pub mod Records

@@ -7,7 +7,7 @@ pub use entry::entry_of;
 pub use entry::settings_in;
 ghost use mathlib.Core.Path.{_≡_};
 ghost use lib.ListN.{length, drop};
-ghost use Rattle.capture_record.specs.Found.{follow, Within};
+ghost use Rattle.capture_record.specs.CodeTerms.Found.{follow, Within};
 ghost use Rattle.capture_record.specs.Records.{recordsIn};
 
 // What stands at a place of the used part of a block: nothing, a record that runs past the end, or a record with its contents from

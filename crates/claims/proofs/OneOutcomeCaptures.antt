@@ -13,7 +13,7 @@ use Rattle.capture_record.proofs.entry_of as Entry-of
 use Rattle.capture_record.proofs.settings_in as Settings-in
 use Rattle.capture_record.proofs.record_at as Record-at
 use Rattle.capture_record.specs.Entries.{Noted, malformed, starting, advancing, hearing, asking, entryTold}
-use Rattle.capture_record.specs.Found.{follow, Within}
+use Rattle.capture_record.specs.CodeTerms.Found.{follow, Within}
 use Rattle.capture_record.specs.declared.Found.{Found}
 use Rattle.capture_record.specs.declared.entry.Entry.{Entry}
 use Rattle.station.proofs.Station.nobody as Nobody

@@ -19,7 +19,7 @@ pub enum Reading {
     Is(ChannelSwitch),
 }
 
-// The mode is 0 or 1, and the channel one that there is.
+// The mode is over 1, or the channel is over 200.
 fn is_forbidden(switch: ChannelSwitch) -> bool
     ensures { λ r. ⌜ r ≡ switchForbids switch ⌝ }
 {
@@ -46,7 +46,7 @@ pub fn read(contents: &[u8]) -> Reading
     Reading::Is(switch)
 }
 
-// What the reader would refuse may not be written.
+// Whether the reader would take the announcement back.
 pub fn may_write(switch: ChannelSwitch) -> bool
     ensures { λ r. ⌜ r ≡ switchMay switch ⌝ }
 {

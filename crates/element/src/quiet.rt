@@ -20,7 +20,7 @@ pub enum Reading {
     Is(Quiet),
 }
 
-// A count of 0 is reserved, and an offset stays within the beacon interval.
+// The count is 0, which is reserved, or the offset is not within the beacon interval.
 fn is_forbidden(quiet: Quiet, interval: u16) -> bool
     ensures { λ r. ⌜ r ≡ quietForbids interval quiet ⌝ }
 {

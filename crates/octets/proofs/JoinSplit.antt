@@ -35,7 +35,7 @@ from-octets zero i os o j = omega arith
 from-octets (suc k) i os o zero = o i
 from-octets (suc k) i os o (suc j) = from-octets k (i + 1) os o j
 
-length-from : (k i : ℕ) (os : List ℕ) → length (octetsFrom k i os) ≡ k
+pub length-from : (k i : ℕ) (os : List ℕ) → length (octetsFrom k i os) ≡ k
 length-from zero i os = refl
 length-from (suc k) i os = ap suc (length-from k (i + 1) os)
 

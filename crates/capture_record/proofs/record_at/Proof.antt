@@ -3,7 +3,7 @@
 use native.Mathlib.Omega.{arith}
 use borrow.Author.Needs.{needs}
 use denote.Ref.{now}
-use Rattle.capture_record.proofs.Walking.{at-end, at-cut-header, at-cut-contents, at-whole}
+use Rattle.capture_record.proofs.Walking.{at-end, at-cut-head, at-cut-contents, at-whole}
 use Rattle.capture_record.proofs.record_at.Statement.{statement}
 use Rattle.capture_record.proofs.record_at.Tie as tie
 
@@ -11,7 +11,7 @@ returns : tie.Need-returns
 returns c = (at-end _ _ (c .if1 .taken), c .if1 .taken)
 
 returns-2 : tie.Need-returns-2
-returns-2 c = (at-cut-header _ _ (c .before .if1 .left) (c .if2 .taken), omega (arith, c .before .if1 .left))
+returns-2 c = (at-cut-head _ _ (c .before .if1 .left) (c .if2 .taken), omega (arith, c .before .if1 .left))
 
 returns-3 : tie.Need-returns-3
 returns-3 c =

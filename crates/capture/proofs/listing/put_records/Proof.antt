@@ -9,7 +9,7 @@ use borrow.Author.Needs.{needs}
 use denote.Ref.{now}
 use lib.ListN.{length, take, drop}
 use Rattle.capture_record.specs.Entries.{entryMeans}
-use Rattle.capture_record.specs.Found.{follow, Within}
+use Rattle.capture_record.specs.CodeTerms.Found.{follow, Within}
 use Rattle.capture_record.specs.Records.{recordsIn}
 use Rattle.capture_record.specs.declared.Found.{Found}
 use Rattle.capture.specs.Listers.{oneLineMore}
