@@ -1,5 +1,7 @@
 // What a record notes, by its kind (document 01: 1 advance (2), 2 frame, 3 ask (2), 4 start (15: own address, AP, channel, B)).
 ghost use mathlib.Core.Path.{_≡_};
+ghost use Prim.Native.Nat.{_≤_};
+ghost use Rattle.octets.specs.Numbers.{octetsFrom};
 ghost use Rattle.capture_record.specs.Entries.{settingsOf, entryTold, entryMeans};
 
 // A frame's octets and a start's settings stay in the contents.
@@ -20,26 +22,27 @@ pub struct Settings {
     pub interval: u16,
 }
 
+// The address from a place on.
+fn address_in(contents: &[u8], at: usize) -> [u8; 6]
+    requires { ⌜ at ≤ 6 ⌝ }
+    ensures { λ r. ⌜ r ≡ octetsFrom 6 at (now (contents .entry)) ⌝ }
+{
+    [
+        octets::octet_at(contents, at),
+        octets::octet_at(contents, at + 1),
+        octets::octet_at(contents, at + 2),
+        octets::octet_at(contents, at + 3),
+        octets::octet_at(contents, at + 4),
+        octets::octet_at(contents, at + 5),
+    ]
+}
+
 // The settings in the contents of a start.
 pub fn settings_in(contents: &[u8]) -> Settings
     ensures { λ r. ⌜ r ≡ settingsOf (now (contents .entry)) ⌝ }
 {
-    let own = [
-        octets::octet_at(contents, 0),
-        octets::octet_at(contents, 1),
-        octets::octet_at(contents, 2),
-        octets::octet_at(contents, 3),
-        octets::octet_at(contents, 4),
-        octets::octet_at(contents, 5),
-    ];
-    let ap = [
-        octets::octet_at(contents, 6),
-        octets::octet_at(contents, 7),
-        octets::octet_at(contents, 8),
-        octets::octet_at(contents, 9),
-        octets::octet_at(contents, 10),
-        octets::octet_at(contents, 11),
-    ];
+    let own = address_in(contents, 0);
+    let ap = address_in(contents, 6);
     Settings {
         own,
         ap,

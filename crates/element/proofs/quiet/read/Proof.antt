@@ -7,7 +7,9 @@ use Rattle.element.proofs.quiet.read.Statement.{statement}
 use Rattle.element.proofs.quiet.read.Tie as tie
 
 -- the record that was built is the one in the contents
-is-read : (c : tie.After-is-forbidden) → quietForbids (c .before .before .before .before .before .before .before .args .interval) (quietIn (c .before .before .before .before .before .before .before .args .contents .now)) ≡ c .is-forbidden .result
+is-read : (c : tie.After-is-forbidden)
+    → let a = c .before .before .before .before .before .before .before .args in
+    quietForbids (a .interval) (quietIn (a .contents .now)) ≡ c .is-forbidden .result
 is-read c = sym (simp (c .before .number162 .ensures) at (c .is-forbidden .ensures))
 
 returns : tie.Need-returns
@@ -17,17 +19,18 @@ returns c = misfit 6 quietIn (quietForbids (c .before .before .args .interval)) 
 returns-2 : tie.Need-returns-2
 unfolding quietMeans
 returns-2 c =
-    let b = c .before .before .before .before .before .before .before .before .args in
-    forbidden 6 quietIn (quietForbids (b .interval)) (b .contents .now) (c .before .before .before .before .before .before .if1 .left)
-    (is-read (c .before) ∙ c .if2 .taken)
+    let sized = c .before .before .before .before .before .before in
+    let a = sized .before .before .args in
+    forbidden 6 quietIn (quietForbids (a .interval)) (a .contents .now) (sized .if1 .left) (is-read (c .before) ∙ c .if2 .taken)
 
 returns-3 : tie.Need-returns-3
 unfolding quietMeans
 returns-3 c =
-    let b = c .before .before .before .before .before .before .before .before .args in
-    simp (c .before .before .before .number16 .ensures, c .before .before .number162 .ensures)
-    (good 6 quietIn (quietForbids (b .interval)) (b .contents .now) (c .before .before .before .before .before .before .if1 .left)
-    (is-read (c .before) ∙ c .if2 .left))
+    let read = c .before .before in
+    let sized = read .before .before .before .before in
+    let a = sized .before .before .args in
+    simp (read .before .number16 .ensures, read .number162 .ensures)
+    (good 6 quietIn (quietForbids (a .interval)) (a .contents .now) (sized .if1 .left) (is-read (c .before) ∙ c .if2 .left))
 
 pub read-spec : {M : Type 1} → statement M
 read-spec =

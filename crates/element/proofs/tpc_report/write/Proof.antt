@@ -9,10 +9,13 @@ use Rattle.element.proofs.tpc_report.write.Tie as tie
 returns : tie.Need-returns
 unfolding tpcReportOctets
 returns c =
-    let r = c .before .before .before .before .before .before .before .before .before .before .args .report in
-    let power = toZ-ofZ {w = w8} {z = r .power} (record { sfits = c .before .before .before .before .before .before .before .before .struct-told .given .0 .1 }) in
-    let margin = toZ-ofZ {w = w8} {z = r .margin} (record { sfits = c .before .before .before .before .before .before .before .struct-told2 .given .1 .0 .1 }) in
-    simp (power, margin, c .before .before .before .before .before .before .from-signed .ensures, c .before .before .before .before .before .from-signed2 .ensures) at (c .before .before .put .ensures)
+    let signed = c .before .before .before .before .before in
+    let margin = signed .before .before in
+    let power = margin .before in
+    let r = power .before .before .args .report in
+    let same-power = toZ-ofZ {w = w8} {z = r .power} (record { sfits = power .struct-told .given .0 .1 }) in
+    let same-margin = toZ-ofZ {w = w8} {z = r .margin} (record { sfits = margin .struct-told2 .given .1 .0 .1 }) in
+    simp (same-power, same-margin, signed .before .from-signed .ensures, signed .from-signed2 .ensures) at (c .before .before .put .ensures)
 
 pub write-spec : {M : Type 1} → statement M
 write-spec =
