@@ -15,6 +15,6 @@ BodyAllowed (tpcReport token t) = Unit {0}
 BodyAllowed (switch w) = switchForbids w ≡ false
 
 abbrev pub KindAllowed : ℕ → Kind → Type 0
-KindAllowed b (beacon t) = Allowed b (t .said)
-KindAllowed b (probeResponse t) = Allowed b (t .said)
+KindAllowed b (beacon t) = Allowed b t
+KindAllowed b (probeResponse t) = Allowed b t
 KindAllowed b (action body) = BodyAllowed body
