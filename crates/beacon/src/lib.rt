@@ -66,7 +66,7 @@ pub struct Heard {
 }
 
 // What a slot holds that is not in use.
-const NO_QUIET: Quiet = Quiet {
+pub const NO_QUIET: Quiet = Quiet {
     count: 0,
     period: 0,
     duration: 0,
