@@ -37,14 +37,20 @@ bodyFrame o = andThen o (λ body. accepted (actionFrame body))
 abbrev pub received : Reading → Bool → List Quiet → Received
 received reading toAll qs = record { reading = reading; broadcast = toAll; quiets = slots qs; count = length qs }
 
-abbrev pub ofKind : Bool → Kind → Received
-ofKind toAll (beacon t) = received (Reading.Is (Frame.Beacon (t .notice))) toAll (t .quiets)
-ofKind toAll (probeResponse t) = received (Reading.Is (Frame.ProbeResponse (t .notice))) toAll (t .quiets)
-ofKind toAll (action body) = received (Reading.Is (actionFrame body)) toAll []
+-- the frame of each kind, and the Quiet elements beside it
+abbrev pub frameOf : Kind → Frame
+frameOf (beacon t) = Frame.Beacon (t .notice)
+frameOf (probeResponse t) = Frame.ProbeResponse (t .notice)
+frameOf (action body) = actionFrame body
+
+abbrev pub quietsOf : Kind → List Quiet
+quietsOf (beacon t) = t .quiets
+quietsOf (probeResponse t) = t .quiets
+quietsOf (action body) = []
 
 abbrev pub frameLaid : Outcome Sent → Received
 frameLaid (refused r) = received (Reading.Refused r) false []
-frameLaid (accepted s) = ofKind (s .toAll) (s .kind)
+frameLaid (accepted s) = received (Reading.Is (frameOf (s .kind))) (s .toAll) (quietsOf (s .kind))
 
 -- ---- the code's own terms, which no public promise cites
 
