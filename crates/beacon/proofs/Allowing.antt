@@ -1,5 +1,5 @@
 -- An accepted body says nothing that is not allowed. Assumes nothing.
-use mathlib.Core.Path.{_≡_}
+use mathlib.Core.Path.{_≡_, refl, sym, subst}
 use mathlib.Core.Bool.{false}
 use mathlib.Core.List.{List, [], _∷_, _++_}
 use Prim.Native.Nat.{ℕ}
@@ -17,11 +17,11 @@ use Rattle.element.specs.TpcReport.{tpcReportMeans}
 use Rattle.element.specs.declared.channel_switch.ChannelSwitch.{ChannelSwitch}
 use Rattle.element.specs.declared.quiet.Quiet.{Quiet}
 use Rattle.walk.specs.Elements.{Elements, end, cutHeader, cutContents, more, elementsIn}
-use Rattle.beacon.specs.Allowed.{QuietsAllowed, Allowed}
-use Rattle.beacon.specs.Beacons.{Said, Told, nothing, quietLimit, addPower, addReport, addSwitch, addQuiet, takes, says, beaconMeans}
-use Rattle.beacon.specs.declared.MaybePower.{MaybePower}
-use Rattle.beacon.specs.declared.MaybeReport.{MaybeReport}
-use Rattle.beacon.specs.declared.MaybeSwitch.{MaybeSwitch}
+use Rattle.beacon.specs.Allowed.{SwitchAllowed, QuietsAllowed, Allowed}
+use Rattle.beacon.specs.Beacons.{Told, tells, opening, quietLimit, fixedLength, elementMeans, adds, takes, says, beaconMeans}
+use Rattle.beacon.specs.Notices.{withPower, withReport, withSwitch}
+use Rattle.beacon.specs.declared.Notice.{Notice}
+use Rattle.beacon.specs.declared.elements.Element.{Element}
 use Rattle.beacon.proofs.Slots.{one-more}
 
 -- the announcement of accepted contents is none that is forbidden
@@ -30,56 +30,75 @@ unfolding switchMeans
 switch-allowed c w e = opened 3 switchIn switchForbids c w e .2
 
 module _ (b : ℕ) where
-  pub nothing-allowed : Allowed b nothing
-  nothing-allowed = record { few = omega arith; switch-allowed = tt; quiets-allowed = tt }
-
-  -- power and report may be anything
-  others : {said : Said} (p : MaybePower) (r : MaybeReport) → Allowed b said
-      → Allowed b (record { power = p; report = r; switch = said .switch; quiets = said .quiets })
-  others p r a = record { few = a .few; switch-allowed = a .switch-allowed; quiets-allowed = a .quiets-allowed }
-
   quiet-allowed : (c : List ℕ) (q : Quiet) → quietMeans b c ≡ accepted q → quietForbids b q ≡ false
   unfolding quietMeans
   quiet-allowed c q e = opened 6 quietIn (quietForbids b) c q e .2
+
+  -- ---- an element
+
+  -- no value of it is forbidden
+  abbrev ElementAllowed : Element → Type 0
+  ElementAllowed (Element.Power p) = Unit {0}
+  ElementAllowed (Element.Report t) = Unit {0}
+  ElementAllowed (Element.Switch w) = switchForbids w ≡ false
+  ElementAllowed (Element.Quiet q) = quietForbids b q ≡ false
+  ElementAllowed Element.Other = Unit {0}
+
+  element-allowed : (id : ℕ) (c : List ℕ) → Yields ElementAllowed (elementMeans b id c)
+  unfolding elementMeans
+  element-allowed id c =
+      either-way _ (eqb id 32) _ _ (after-value _ (powerMeans c) _ (λ p e. of-value _ tt))
+      (either-way _ (eqb id 35) _ _ (after-value _ (tpcReportMeans c) _ (λ t e. of-value _ tt))
+      (either-way _ (eqb id 37) _ _ (after-value _ (switchMeans c) _ (λ w e. of-value _ (switch-allowed c w e)))
+      (either-way _ (eqb id 40) _ _ (after-value _ (quietMeans b c) _ (λ q e. of-value _ (quiet-allowed c q e)))
+      (of-value _ tt))))
 
   one-more-allowed : (qs : List Quiet) (q : Quiet) → QuietsAllowed b qs → quietForbids b q ≡ false → QuietsAllowed b (qs ++ (q ∷ []))
   one-more-allowed [] q a e = (e, tt)
   one-more-allowed (x ∷ qs) q a e = (a .0, one-more-allowed qs q (a .1) e)
 
-  announcing : (said : Said) (c : List ℕ) (w : ChannelSwitch) → Allowed b said → switchMeans c ≡ accepted w
-      → Allowed b (record { power = said .power; report = said .report; switch = MaybeSwitch.Is w; quiets = said .quiets })
-  announcing said c w a e = record { few = a .few; switch-allowed = switch-allowed c w e; quiets-allowed = a .quiets-allowed }
+  with-switch : (t : Told) (w : ChannelSwitch) → Allowed b t → switchForbids w ≡ false → Allowed b (tells (withSwitch (t .notice) w) (t .quiets))
+  with-switch t w a e = record { few = a .few; switch-allowed = e; quiets-allowed = a .quiets-allowed }
 
-  quieting : (said : Said) (c : List ℕ) (q : Quiet) → Allowed b said → quietMeans b c ≡ accepted q → leb quietLimit (length (said .quiets)) ≡ false
-      → Allowed b (record { power = said .power; report = said .report; switch = said .switch; quiets = said .quiets ++ (q ∷ []) })
-  quieting said c q a e t =
+  with-quiet : (t : Told) (q : Quiet) → Allowed b t → quietForbids b q ≡ false → leb quietLimit (length (t .quiets)) ≡ false
+      → Allowed b (tells (t .notice) (t .quiets ++ (q ∷ [])))
+  with-quiet t q a e room =
       record {
-        few = rw one-more (omega (arith, leb-false quietLimit (length (said .quiets)) t));
+        few = rw one-more (omega (arith, leb-false quietLimit (length (t .quiets)) room));
         switch-allowed = a .switch-allowed;
-        quiets-allowed = one-more-allowed (said .quiets) q (a .quiets-allowed) (quiet-allowed c q e);
+        quiets-allowed = one-more-allowed (t .quiets) q (a .quiets-allowed) e;
       }
 
-  -- ---- the elements
+  -- a notice of which the announcement stays
+  same-switch : {t : Told} (n : Notice) → n .switch ≡ t .notice .switch → Allowed b t → Allowed b (tells n (t .quiets))
+  same-switch n e a = record { few = a .few; switch-allowed = subst SwitchAllowed (sym e) (a .switch-allowed); quiets-allowed = a .quiets-allowed }
 
-  pub allowed-takes : (id : ℕ) (c : List ℕ) (said : Said) → Allowed b said → Yields (Allowed b) (takes b id c said)
-  unfolding takes
-  allowed-takes id c said a =
-      either-way _ (eqb id 32) _ _ (after-value _ (powerMeans c) (addPower said) (λ p e. after-check _ _ _ _ (λ w. after-all _ _ (of-value _ (others _ _ a)))))
-      (either-way _ (eqb id 35) _ _ (after-value _ (tpcReportMeans c) (addReport said) (λ r e. after-check _ _ _ _ (λ w. after-all _ _ (of-value _ (others _ _ a)))))
-      (either-way _ (eqb id 37) _ _ (after-value _ (switchMeans c) (addSwitch said) (λ w e. after-check _ _ _ _ (λ t. after-all _ _ (of-value _ (announcing said c w a e)))))
-      (either-way _ (eqb id 40) _ _ (after-value _ (quietMeans b c) (addQuiet said) (λ q e. after-check _ _ _ _ (λ t. after-all _ _ (of-value _ (quieting said c q a e t)))))
-      (of-value _ a))))
+  allowed-adds : (t : Told) → Allowed b t → (e : Element) → ElementAllowed e → Yields (Allowed b) (adds t e)
+  allowed-adds t a (Element.Power p) x = after-check _ _ _ _ (λ once. after-all _ _ (of-value _ (same-switch (withPower (t .notice) p) refl a)))
+  allowed-adds t a (Element.Report r) x = after-check _ _ _ _ (λ once. after-all _ _ (of-value _ (same-switch (withReport (t .notice) r) refl a)))
+  allowed-adds t a (Element.Switch w) x = after-check _ _ _ _ (λ once. after-all _ _ (of-value _ (with-switch t w a x)))
+  allowed-adds t a (Element.Quiet q) x = after-check _ _ _ _ (λ room. after-all _ _ (of-value _ (with-quiet t q a x room)))
+  allowed-adds t a Element.Other x = of-value _ a
 
-  allowed-says : (es : Elements) (said : Said) → Allowed b said → Yields (Allowed b) (says b es said)
+  -- ---- a body
+
+  pub allowed-takes : (id : ℕ) (c : List ℕ) (t : Told) → Allowed b t → Yields (Allowed b) (takes b id c t)
+  unfolding takes Yields
+  allowed-takes id c t a = after-value _ (elementMeans b id c) (adds t) (λ e same. allowed-adds t a e (element-allowed id c e same))
+
+  allowed-says : (es : Elements) (t : Told) → Allowed b t → Yields (Allowed b) (says b es t)
   unfolding says Yields
-  allowed-says end said a = of-value (Allowed b) a
-  allowed-says cutHeader said a = of-refusal (Allowed b) _
-  allowed-says (cutContents id) said a = of-refusal (Allowed b) _
-  allowed-says (more id c es) said a =
-      after-value (Allowed b) (takes b id c said) (says b es) (λ next e. allowed-says es next (allowed-takes id c said a next e))
+  allowed-says end t a = of-value (Allowed b) a
+  allowed-says cutHeader t a = of-refusal (Allowed b) _
+  allowed-says (cutContents id) t a = of-refusal (Allowed b) _
+  allowed-says (more id c es) t a =
+      after-value (Allowed b) (takes b id c t) (says b es) (λ next e. allowed-says es next (allowed-takes id c t a next e))
 
-  pub beacon-allowed : (body : List ℕ) → Yields (λ (t : Told). Allowed b (t .said)) (beaconMeans b body)
-  unfolding beaconMeans Yields
+  pub opening-allowed : (body : List ℕ) → Allowed b (opening body)
+  opening-allowed body = record { few = omega arith; switch-allowed = tt; quiets-allowed = tt }
+
+  pub beacon-allowed : (body : List ℕ) → Yields (Allowed b) (beaconMeans b body)
+  unfolding beaconMeans
   beacon-allowed body =
       after-check _ _ _ _ (λ w. after-check _ _ _ _ (λ x. after-all _ _
-      (after-value _ (says b (elementsIn (drop 12 body)) nothing) _ (λ said e. of-value _ (allowed-says (elementsIn (drop 12 body)) nothing nothing-allowed said e)))))
+      (allowed-says (elementsIn (drop fixedLength body)) (opening body) (opening-allowed body))))

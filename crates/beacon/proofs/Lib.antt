@@ -2,5 +2,4 @@ pub mod Allowing
 pub mod Saying
 pub mod Slots
 pub mod Walking
-pub mod Taking
 pub mod Witness

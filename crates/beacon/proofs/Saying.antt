@@ -1,6 +1,5 @@
--- Laws of what elements say: by their IDs, and what a body says after its fixed fields.
--- Assumes nothing.
-use mathlib.Core.Path.{_≡_, refl, sym, ap, _∙_}
+-- Laws of what a body says: an element by its ID, and the elements after the fixed fields. Assumes nothing.
+use mathlib.Core.Path.{_≡_, sym, ap, _∙_}
 use mathlib.Core.List.{List}
 use Prim.Native.Nat.{ℕ, _≤_, _<_}
 use borrow.Author.Tests.{eq-eqb, ne-eqb, lt-ltb, le-ltb}
@@ -12,66 +11,59 @@ use Rattle.element.specs.ChannelSwitch.{switchMeans}
 use Rattle.element.specs.PowerConstraint.{powerMeans}
 use Rattle.element.specs.Quiet.{quietMeans}
 use Rattle.element.specs.TpcReport.{tpcReportMeans}
+use Rattle.element.specs.declared.channel_switch.ChannelSwitch.{ChannelSwitch}
+use Rattle.element.specs.declared.power_constraint.PowerConstraint.{PowerConstraint}
+use Rattle.element.specs.declared.quiet.Quiet.{Quiet}
+use Rattle.element.specs.declared.tpc_report.TpcReport.{TpcReport}
 use Rattle.octets.specs.Numbers.{number}
 use Rattle.walk.specs.Elements.{Elements, more, elementsIn}
-use Rattle.beacon.specs.Beacons.{Said, nothing, addPower, addReport, addSwitch, addQuiet, takes, says, beaconMeans, toldWith}
-use Rattle.beacon.specs.Laid.{settled, laid}
-use Rattle.beacon.specs.declared.Heard.{Heard}
+use Rattle.beacon.specs.Beacons.{Told, opening, fixedLength, elementMeans, takes, says, beaconMeans}
+use Rattle.beacon.specs.declared.elements.Element.{Element}
 
--- ---- an element by its ID
+-- ---- an element by its ID: `o` is what its reader told
 
-module _ (b id : ℕ) (c : List ℕ) (said : Said) where
-  pub takes-power : id ≡ 32 → andThen (powerMeans c) (addPower said) ≡ takes b id c said
-  unfolding takes
-  takes-power e = simp e
+module _ (b id : ℕ) (c : List ℕ) where
+  pub is-power : id ≡ 32 → {o : Outcome PowerConstraint} → o ≡ powerMeans c → andThen o (λ p. accepted (Element.Power p)) ≡ elementMeans b id c
+  unfolding elementMeans
+  is-power e f = simp (e, f)
 
-  pub takes-report : id ≡ 35 → andThen (tpcReportMeans c) (addReport said) ≡ takes b id c said
-  unfolding takes
-  takes-report e = simp e
+  pub is-report : id ≡ 35 → {o : Outcome TpcReport} → o ≡ tpcReportMeans c → andThen o (λ t. accepted (Element.Report t)) ≡ elementMeans b id c
+  unfolding elementMeans
+  is-report e f = simp (e, f)
 
-  pub takes-switch : id ≡ 37 → andThen (switchMeans c) (addSwitch said) ≡ takes b id c said
-  unfolding takes
-  takes-switch e = simp e
+  pub is-switch : id ≡ 37 → {o : Outcome ChannelSwitch} → o ≡ switchMeans c → andThen o (λ s. accepted (Element.Switch s)) ≡ elementMeans b id c
+  unfolding elementMeans
+  is-switch e f = simp (e, f)
 
-  pub takes-quiet : id ≡ 40 → andThen (quietMeans b c) (addQuiet said) ≡ takes b id c said
-  unfolding takes
-  takes-quiet e = simp e
+  pub is-quiet : id ≡ 40 → {o : Outcome Quiet} → o ≡ quietMeans b c → andThen o (λ q. accepted (Element.Quiet q)) ≡ elementMeans b id c
+  unfolding elementMeans
+  is-quiet e f = simp (e, f)
 
-  pub takes-other : (id ≡ 32 → ⊥) → (id ≡ 35 → ⊥) → (id ≡ 37 → ⊥) → (id ≡ 40 → ⊥) → accepted said ≡ takes b id c said
-  unfolding takes
-  takes-other p r s q = simp (ne-eqb id 32 p, ne-eqb id 35 r, ne-eqb id 37 s, ne-eqb id 40 q)
+  pub is-other : (id ≡ 32 → ⊥) → (id ≡ 35 → ⊥) → (id ≡ 37 → ⊥) → (id ≡ 40 → ⊥) → accepted Element.Other ≡ elementMeans b id c
+  unfolding elementMeans
+  is-other p r s q = simp (ne-eqb id 32 p, ne-eqb id 35 r, ne-eqb id 37 s, ne-eqb id 40 q)
 
 -- ---- all elements
 
 -- the outcome of the first one decides whether the others are read
-pub says-more : (b id : ℕ) (c : List ℕ) (es : Elements) (said : Said) {o : Outcome Said} → takes b id c said ≡ o
-    → says b (more id c es) said ≡ andThen o (says b es)
+pub says-more : (b id : ℕ) (c : List ℕ) (es : Elements) (t : Told) {o : Outcome Told} → takes b id c t ≡ o → says b (more id c es) t ≡ andThen o (says b es)
 unfolding says
-says-more b id c es said e = ap (λ (p : Outcome Said). andThen p (says b es)) e
+says-more b id c es t e = ap (λ (p : Outcome Told). andThen p (says b es)) e
 
 -- ---- a body
 
--- an outcome of its elements, as the walk has it
-abbrev pub heardOf : List ℕ → Outcome Said → Heard
-heardOf body o = settled (number 8 0 body) (number 2 10 body) o
-
 module _ (b : ℕ) (body : List ℕ) where
-  pub short-body : length body < 12 → refused Refusal.TooShort ≡ beaconMeans b body
+  pub short-body : length body < fixedLength → refused Refusal.TooShort ≡ beaconMeans b body
   unfolding beaconMeans
   short-body h = stop _ _ _ (lt-ltb _ _ h)
 
-  told-as : (o : Outcome Said) → heardOf body o ≡ laid (andThen o (λ said. accepted (toldWith body said)))
-  told-as (refused s) = refl
-  told-as (accepted said) = refl
-
   -- `n` is the interval as it was read
-  module _ (n : ℕ) (h : 12 ≤ length body) (r : n ≡ number 2 8 body) where
+  module _ (n : ℕ) (h : fixedLength ≤ length body) (r : n ≡ number 2 8 body) where
     pub other-interval : (n ≡ b → ⊥) → refused Refusal.OtherInterval ≡ beaconMeans b body
     unfolding beaconMeans
     other-interval d = past _ _ _ (le-ltb _ _ h) (stop _ _ _ (rw (ne-eqb (number 2 8 body) b (λ e. d (r ∙ e)))))
 
-    pub body-says : n ≡ b → heardOf body (says b (elementsIn (drop 12 body)) nothing) ≡ laid (beaconMeans b body)
+    pub body-says : n ≡ b → {t : Told} → t ≡ opening body → says b (elementsIn (drop fixedLength body)) t ≡ beaconMeans b body
     unfolding beaconMeans
-    body-says e =
-        told-as (says b (elementsIn (drop 12 body)) nothing)
-        ∙ ap laid (past _ _ _ (le-ltb _ _ h) (past _ _ _ (rw (eq-eqb (number 2 8 body) b (sym r ∙ e))) (through _ refl)))
+    body-says e f =
+        past _ _ _ (le-ltb _ _ h) (past _ _ _ (rw (eq-eqb (number 2 8 body) b (sym r ∙ e))) (through _ (ap (says b (elementsIn (drop fixedLength body))) f)))

@@ -10,22 +10,17 @@ use Rattle.octets.specs.Elements.{fixed}
 use Rattle.element.specs.Quiet.{quietMeans, quietOctets}
 use Rattle.element.specs.declared.quiet.Quiet.{Quiet}
 use Rattle.walk.specs.Elements.{elementsAfter, elementsIn}
-use Rattle.beacon.specs.Beacons.{Said, Told, nothing, takes, says, beaconMeans}
+use Rattle.beacon.specs.Beacons.{Told, tells, elementMeans, takes, says, beaconMeans}
 use Rattle.beacon.specs.Laid.{noQuiet, laid}
+use Rattle.beacon.specs.Notices.{elementless}
 use Rattle.beacon.specs.declared.Heard.{Heard}
-use Rattle.beacon.specs.declared.MaybePower.{MaybePower}
-use Rattle.beacon.specs.declared.MaybeReport.{MaybeReport}
-use Rattle.beacon.specs.declared.MaybeSwitch.{MaybeSwitch}
 
--- a body with timestamp 0, interval 100 and a capability of one octet, and what it tells
+-- a body with timestamp 0, interval 100 and a capability of one octet, and what it says
 abbrev body : ℕ → List ℕ → List ℕ
 body capability elements = replicate 8 0 ++ (100 ∷ 0 ∷ capability ∷ 0 ∷ elements)
 
-abbrev tells : ℕ → Said → Told
-tells capability said = record { timestamp = 0; capability = capability; said = said }
-
-abbrev quietly : List Quiet → Said
-quietly qs = record { power = MaybePower.Absent; report = MaybeReport.Absent; switch = MaybeSwitch.Absent; quiets = qs }
+abbrev quietly : List Quiet → Told
+quietly qs = tells (elementless 0 1) qs
 
 -- a Quiet element by its count, n of them with the counts n to 1, and their octets
 abbrev quietIn : ℕ → Quiet
@@ -40,7 +35,7 @@ octetsOf [] = []
 octetsOf (q ∷ qs) = quietOctets q ++ octetsOf qs
 
 -- 12 octets and no element: accepted, and nothing is said
-pub bare : beaconMeans 100 (body 1 []) ≡ accepted (tells 1 nothing)
+pub bare : beaconMeans 100 (body 1 []) ≡ accepted (quietly [])
 unfolding beaconMeans checked says elementsIn elementsAfter
 bare = refl
 
@@ -55,8 +50,8 @@ unfolding beaconMeans checked
 other = refl
 
 -- two different Quiet elements: both are kept, in their order
-pub two-quiets : beaconMeans 100 (body 1 (octetsOf (quietIn 3 ∷ quietIn 5 ∷ []))) ≡ accepted (tells 1 (quietly (quietIn 3 ∷ quietIn 5 ∷ [])))
-unfolding beaconMeans checked says takes elementsIn elementsAfter quietMeans fixed quietOctets
+pub two-quiets : beaconMeans 100 (body 1 (octetsOf (quietIn 3 ∷ quietIn 5 ∷ []))) ≡ accepted (quietly (quietIn 3 ∷ quietIn 5 ∷ []))
+unfolding beaconMeans checked says takes elementMeans elementsIn elementsAfter quietMeans fixed quietOctets
 two-quiets = refl
 
 -- as the reader hands them out
@@ -64,13 +59,13 @@ pub two-slots : laid (beaconMeans 100 (body 1 (octetsOf (quietIn 3 ∷ quietIn 5
 two-slots = ap (λ (o : Outcome Told). laid o .quiets) two-quiets
 
 -- eight are kept
-pub eight-quiets : beaconMeans 100 (body 1 (octetsOf (several 8))) ≡ accepted (tells 1 (quietly (several 8)))
-unfolding beaconMeans checked says takes elementsIn elementsAfter quietMeans fixed quietOctets
+pub eight-quiets : beaconMeans 100 (body 1 (octetsOf (several 8))) ≡ accepted (quietly (several 8))
+unfolding beaconMeans checked says takes elementMeans elementsIn elementsAfter quietMeans fixed quietOctets
 eight-quiets = refl
 
 -- a ninth is refused
 pub nine-quiets : beaconMeans 100 (body 1 (octetsOf (several 9))) ≡ refused Refusal.TooManyQuiets
-unfolding beaconMeans checked says takes elementsIn elementsAfter quietMeans fixed quietOctets
+unfolding beaconMeans checked says takes elementMeans elementsIn elementsAfter quietMeans fixed quietOctets
 nine-quiets = refl
 
 -- bodies that differ in one octet of the capability are told apart

@@ -8,7 +8,7 @@ use lib.ListN.{length}
 use Rattle.element.specs.ChannelSwitch.{switchForbids}
 use Rattle.element.specs.Quiet.{quietForbids}
 use Rattle.element.specs.declared.quiet.Quiet.{Quiet}
-use Rattle.beacon.specs.Beacons.{Said, quietLimit}
+use Rattle.beacon.specs.Beacons.{Told, quietLimit}
 use Rattle.beacon.specs.declared.MaybeSwitch.{MaybeSwitch}
 
 abbrev pub SwitchAllowed : MaybeSwitch → Type 0
@@ -19,7 +19,7 @@ abbrev pub QuietsAllowed : ℕ → List Quiet → Type 0
 QuietsAllowed b [] = Unit {0}
 QuietsAllowed b (q ∷ qs) = (quietForbids b q ≡ false) × QuietsAllowed b qs
 
-pub record Allowed (b : ℕ) (said : Said) : Type 0 where
-  pub few : length (said .quiets) ≤ quietLimit
-  pub switch-allowed : SwitchAllowed (said .switch)
-  pub quiets-allowed : QuietsAllowed b (said .quiets)
+pub record Allowed (b : ℕ) (t : Told) : Type 0 where
+  pub few : length (t .quiets) ≤ quietLimit
+  pub switch-allowed : SwitchAllowed (t .notice .switch)
+  pub quiets-allowed : QuietsAllowed b (t .quiets)

@@ -1,6 +1,6 @@
 -- Beacon and Probe Response bodies (01, "Order": timestamp 8, interval 2, capability 2, any missing 1, interval not B 12,
 -- elements). Whole elements but 32, 35, 37 and 40 are skipped; a second 32, 35 or 37 is 10, and a ninth Quiet element 11.
-use mathlib.Core.Bool.{Bool, true, false, not}
+use mathlib.Core.Bool.{not}
 use mathlib.Core.List.{List, [], _∷_, _++_}
 use Prim.Native.Nat.{ℕ}
 use lib.Dec.{ltb, leb, eqb}
@@ -11,88 +11,61 @@ use Rattle.element.specs.ChannelSwitch.{switchMeans}
 use Rattle.element.specs.PowerConstraint.{powerMeans}
 use Rattle.element.specs.Quiet.{quietMeans}
 use Rattle.element.specs.TpcReport.{tpcReportMeans}
-use Rattle.element.specs.declared.channel_switch.ChannelSwitch.{ChannelSwitch}
-use Rattle.element.specs.declared.power_constraint.PowerConstraint.{PowerConstraint}
 use Rattle.element.specs.declared.quiet.Quiet.{Quiet}
-use Rattle.element.specs.declared.tpc_report.TpcReport.{TpcReport}
 use Rattle.octets.specs.Numbers.{number}
 use Rattle.walk.specs.Elements.{Elements, end, cutHeader, cutContents, more, elementsIn}
-use Rattle.beacon.specs.declared.MaybePower.{MaybePower}
-use Rattle.beacon.specs.declared.MaybeReport.{MaybeReport}
-use Rattle.beacon.specs.declared.MaybeSwitch.{MaybeSwitch}
+use Rattle.beacon.specs.Notices.{elementless, withPower, withReport, withSwitch, hasPower, hasReport, hasSwitch}
+use Rattle.beacon.specs.declared.Notice.{Notice}
+use Rattle.beacon.specs.declared.elements.Element.{Element}
+
+-- the octets of the fixed fields
+abbrev pub fixedLength : ℕ
+fixedLength = 12
 
 -- at most 8 Quiet elements in one frame
 abbrev pub quietLimit : ℕ
 quietLimit = 8
 
--- what the elements say
-pub record Said : Type 0 where
-  pub power : MaybePower
-  pub report : MaybeReport
-  pub switch : MaybeSwitch
+-- what a body says: the notice, and the Quiet elements in their order
+pub record Told : Type 0 where
+  pub notice : Notice
   pub quiets : List Quiet
 
-abbrev pub nothing : Said
-nothing = record { power = MaybePower.Absent; report = MaybeReport.Absent; switch = MaybeSwitch.Absent; quiets = [] }
+abbrev pub tells : Notice → List Quiet → Told
+tells n qs = record { notice = n; quiets = qs }
 
-abbrev pub hasPower : MaybePower → Bool
-hasPower MaybePower.Absent = false
-hasPower (MaybePower.Is p) = true
+-- a whole element by its ID: length (8), value (9)
+unfoldable pub elementMeans : ℕ → ℕ → List ℕ → Outcome Element
+elementMeans b id c =
+    pick (eqb id 32) (andThen (powerMeans c) (λ p. accepted (Element.Power p)))
+    (pick (eqb id 35) (andThen (tpcReportMeans c) (λ t. accepted (Element.Report t)))
+    (pick (eqb id 37) (andThen (switchMeans c) (λ s. accepted (Element.Switch s)))
+    (pick (eqb id 40) (andThen (quietMeans b c) (λ q. accepted (Element.Quiet q)))
+    (accepted Element.Other))))
 
-abbrev pub hasReport : MaybeReport → Bool
-hasReport MaybeReport.Absent = false
-hasReport (MaybeReport.Is t) = true
+-- what was said, and one element more: a repeat (10 or 11), or what is said with it
+abbrev pub adds : Told → Element → Outcome Told
+adds t (Element.Power p) = judged (hasPower (t .notice .power) ⇒ Refusal.Repeated ∷ []) (tells (withPower (t .notice) p) (t .quiets))
+adds t (Element.Report r) = judged (hasReport (t .notice .report) ⇒ Refusal.Repeated ∷ []) (tells (withReport (t .notice) r) (t .quiets))
+adds t (Element.Switch s) = judged (hasSwitch (t .notice .switch) ⇒ Refusal.Repeated ∷ []) (tells (withSwitch (t .notice) s) (t .quiets))
+adds t (Element.Quiet q) = judged (leb quietLimit (length (t .quiets)) ⇒ Refusal.TooManyQuiets ∷ []) (tells (t .notice) (t .quiets ++ (q ∷ [])))
+adds t Element.Other = accepted t
 
-abbrev pub hasSwitch : MaybeSwitch → Bool
-hasSwitch MaybeSwitch.Absent = false
-hasSwitch (MaybeSwitch.Is s) = true
+unfoldable pub takes : ℕ → ℕ → List ℕ → Told → Outcome Told
+takes b id c t = andThen (elementMeans b id c) (adds t)
 
--- what each element adds to what was said before it
-abbrev pub addPower : Said → PowerConstraint → Outcome Said
-addPower said p =
-    judged (hasPower (said .power) ⇒ Refusal.Repeated ∷ [])
-    (record { power = MaybePower.Is p; report = said .report; switch = said .switch; quiets = said .quiets })
+-- all elements, in their order
+unfoldable pub says : ℕ → Elements → Told → Outcome Told
+says b end t = accepted t
+says b cutHeader t = refused Refusal.ElementCut
+says b (cutContents id) t = refused Refusal.ElementCut
+says b (more id c es) t = andThen (takes b id c t) (says b es)
 
-abbrev pub addReport : Said → TpcReport → Outcome Said
-addReport said t =
-    judged (hasReport (said .report) ⇒ Refusal.Repeated ∷ [])
-    (record { power = said .power; report = MaybeReport.Is t; switch = said .switch; quiets = said .quiets })
-
-abbrev pub addSwitch : Said → ChannelSwitch → Outcome Said
-addSwitch said s =
-    judged (hasSwitch (said .switch) ⇒ Refusal.Repeated ∷ [])
-    (record { power = said .power; report = said .report; switch = MaybeSwitch.Is s; quiets = said .quiets })
-
-abbrev pub addQuiet : Said → Quiet → Outcome Said
-addQuiet said q =
-    judged (leb quietLimit (length (said .quiets)) ⇒ Refusal.TooManyQuiets ∷ [])
-    (record { power = said .power; report = said .report; switch = said .switch; quiets = said .quiets ++ (q ∷ []) })
-
--- a whole element, by its ID; length (8) and value (9) come before the repeat (10 or 11)
-unfoldable pub takes : ℕ → ℕ → List ℕ → Said → Outcome Said
-takes b id c said =
-    pick (eqb id 32) (andThen (powerMeans c) (addPower said))
-    (pick (eqb id 35) (andThen (tpcReportMeans c) (addReport said))
-    (pick (eqb id 37) (andThen (switchMeans c) (addSwitch said))
-    (pick (eqb id 40) (andThen (quietMeans b c) (addQuiet said)) (accepted said))))
-
--- all of them, in their order
-unfoldable pub says : ℕ → Elements → Said → Outcome Said
-says b end said = accepted said
-says b cutHeader said = refused Refusal.ElementCut
-says b (cutContents id) said = refused Refusal.ElementCut
-says b (more id c es) said = andThen (takes b id c said) (says b es)
-
--- what a body says
-pub record Told : Type 0 where
-  pub timestamp : ℕ
-  pub capability : ℕ
-  pub said : Said
-
-abbrev pub toldWith : List ℕ → Said → Told
-toldWith body said = record { timestamp = number 8 0 body; capability = number 2 10 body; said = said }
+-- before any element
+abbrev pub opening : List ℕ → Told
+opening body = tells (elementless (number 8 0 body) (number 2 10 body)) []
 
 unfoldable pub beaconMeans : ℕ → List ℕ → Outcome Told
 beaconMeans b body =
-    checked (ltb (length body) 12 ⇒ Refusal.TooShort ∷ not (eqb (number 2 8 body) b) ⇒ Refusal.OtherInterval ∷ [])
-    (andThen (says b (elementsIn (drop 12 body)) nothing) (λ said. accepted (toldWith body said)))
+    checked (ltb (length body) fixedLength ⇒ Refusal.TooShort ∷ not (eqb (number 2 8 body) b) ⇒ Refusal.OtherInterval ∷ [])
+    (says b (elementsIn (drop fixedLength body)) (opening body))

@@ -1,4 +1,5 @@
 pub mod Allowed
 pub mod Beacons
+pub mod CodeTerms
 pub mod Laid
-pub mod Steps
+pub mod Notices

@@ -1,13 +1,12 @@
 // Beacon and Probe Response bodies (document 01, "Answer numbers" and "Octets"; 802.11h 7.2.3.1 and 7.2.3.9).
 mod adding;
+mod elements;
 
 ghost use mathlib.Core.Path.{_≡_};
 ghost use Rattle.answer.specs.Checks.{refused};
 ghost use Rattle.beacon.specs.Beacons.{beaconMeans};
 ghost use Rattle.beacon.specs.Laid.{laid};
-ghost use Rattle.beacon.specs.Steps.{noticed};
-use crate::adding::Once;
-use crate::adding::Step;
+use crate::adding::Added;
 use answer::Answer;
 use answer::Refusal;
 use element::channel_switch::ChannelSwitch;
@@ -18,6 +17,9 @@ use walk::Found;
 
 // How many Quiet elements a frame may have.
 pub const QUIETS: usize = 8;
+
+// The octets of the fixed fields: timestamp 8, interval 2, capability 2.
+const FIXED_LENGTH: usize = 12;
 
 pub enum MaybePower {
     Absent,
@@ -43,6 +45,17 @@ pub struct Notice {
     pub switch: MaybeSwitch,
 }
 
+impl Notice {
+    // Nothing is said.
+    pub const NOTHING: Notice = Notice {
+        timestamp: 0,
+        capability: 0,
+        power: MaybePower::Absent,
+        report: MaybeReport::Absent,
+        switch: MaybeSwitch::Absent,
+    };
+}
+
 // The answer, the notice, and the Quiet elements beside it: the first `count` slots in the order of the frame, the others blank.
 // A refusal leaves everything blank.
 pub struct Heard {
@@ -53,39 +66,18 @@ pub struct Heard {
 }
 
 // What a slot holds that is not in use.
-const NO_QUIET: Quiet = Quiet {
+pub const NO_QUIET: Quiet = Quiet {
     count: 0,
     period: 0,
     duration: 0,
     offset: 0,
 };
 
-fn noticed(timestamp: u64, capability: u16, once: Once) -> Notice
-    ensures { λ r. ⌜ r ≡ noticed timestamp capability once ⌝ }
-{
-    let power = once.power;
-    let report = once.report;
-    let switch = once.switch;
-    Notice {
-        timestamp,
-        capability,
-        power,
-        report,
-        switch,
-    }
-}
-
 fn refused(refusal: Refusal) -> Heard
     ensures { λ r. ⌜ r ≡ laid (refused refusal) ⌝ }
 {
-    let notice = Notice {
-        timestamp: 0,
-        capability: 0,
-        power: MaybePower::Absent,
-        report: MaybeReport::Absent,
-        switch: MaybeSwitch::Absent,
-    };
     let answer = Answer::Refused(refusal);
+    let notice = Notice::NOTHING;
     let quiets = [NO_QUIET; QUIETS];
     Heard {
         answer,
@@ -99,26 +91,23 @@ fn refused(refusal: Refusal) -> Heard
 pub fn read(body: &[u8], interval: u16) -> Heard
     ensures { λ r. ⌜ r ≡ laid (beaconMeans interval (now (body .entry))) ⌝ }
 {
-    if body.len() < 12 {
+    if body.len() < FIXED_LENGTH {
         return refused(Refusal::TooShort);
     }
     if octets::number16(body, 8) != interval {
         return refused(Refusal::OtherInterval);
     }
-    let mut once = Once {
-        power: MaybePower::Absent,
-        report: MaybeReport::Absent,
-        switch: MaybeSwitch::Absent,
+    let mut notice = Notice {
+        timestamp: octets::number64(body, 0),
+        capability: octets::number16(body, 10),
+        ..Notice::NOTHING
     };
     let mut quiets = [NO_QUIET; QUIETS];
     let mut count = 0;
-    let mut at = 12;
+    let mut at = FIXED_LENGTH;
     loop {
         match walk::element_at(body, at) {
             Found::End => {
-                let timestamp = octets::number64(body, 0);
-                let capability = octets::number16(body, 10);
-                let notice = noticed(timestamp, capability, once);
                 return Heard {
                     answer: Answer::Accepted,
                     notice,
@@ -133,14 +122,14 @@ pub fn read(body: &[u8], interval: u16) -> Heard
                 return refused(Refusal::ElementCut);
             }
             Found::Whole { id, start, end } => {
-                match adding::step_by(once, count, id, &body[start..end], interval) {
-                    Step::Refused(refusal) => {
+                match adding::add_element(notice, count, id, &body[start..end], interval) {
+                    Added::Refused(refusal) => {
                         return refused(refusal);
                     }
-                    Step::Once(next) => {
-                        once = next;
+                    Added::Notice(next) => {
+                        notice = next;
                     }
-                    Step::Quiet(quiet) => {
+                    Added::Quiet(quiet) => {
                         quiets[count] = quiet;
                         count += 1;
                     }

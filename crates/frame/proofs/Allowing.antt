@@ -1,14 +1,15 @@
 -- An accepted frame says nothing that is not allowed. Assumes nothing.
 use mathlib.Core.Bool.{false}
 use mathlib.Core.List.{List}
-use mathlib.Core.Path.{_≡_}
+use mathlib.Core.Path.{_≡_, refl, sym, subst}
 use Prim.Native.Nat.{ℕ}
 use lib.Dec.{eqb}
 use lib.ListN.{drop}
+use lib.Seq.{take-at}
 use Rattle.action.specs.Openings.{Opens, switching, with, opensWith}
 use Rattle.single_body.specs.Singles.{single, sole, alone}
 use Rattle.answer.proofs.Yielding.{Yields, of-refusal, of-value, either-way, after-value}
-use Rattle.answer.specs.Checks.{accepted}
+use Rattle.answer.specs.Checks.{Outcome, refused, accepted}
 use Rattle.beacon.proofs.Allowing.{switch-allowed, beacon-allowed}
 use Rattle.beacon.specs.Beacons.{beaconMeans}
 use Rattle.element.specs.ChannelSwitch.{switchMeans, switchForbids}
@@ -21,9 +22,10 @@ use Rattle.measurement_body.specs.Lists.{recordsIn}
 use Rattle.measurement_body.specs.Reports.{reportSort}
 use Rattle.measurement_body.specs.Requests.{requestSort}
 use Rattle.walk.specs.Elements.{Elements, end, cutHeader, cutContents, more, elementsIn}
-use Rattle.frame.specs.Actions.{afterOpening, actionMeans}
-use Rattle.frame.specs.Allowed.{BodyAllowed, KindAllowed}
-use Rattle.frame.specs.Frames.{Sent, kindOf, frameMeans}
+use Rattle.frame.specs.Actions.{Body, afterOpening, actionMeans}
+use Rattle.frame.specs.Allowed.{FrameAllowed, KindAllowed, ReceivedAllowed}
+use Rattle.frame.specs.Frames.{action, Sent, kindOf, frameMeans}
+use Rattle.frame.specs.Laid.{frameOf, quietsOf, frameLaid}
 
 -- ---- the body of an announcement
 
@@ -44,23 +46,26 @@ single-allowed es =
 
 -- ---- any body, and any frame
 
-after-allowed : (body : List ℕ) (o : Opens) → Yields BodyAllowed (afterOpening body o)
-unfolding Yields Allowed-switch
-after-allowed body switching =
-    after-value BodyAllowed (single 37 switchMeans (elementsIn (drop 2 body))) _ (λ w e. of-value BodyAllowed (single-allowed (elementsIn (drop 2 body)) w e))
-after-allowed body (with k token) =
-    either-way BodyAllowed (eqb k 0) _ _ (after-value BodyAllowed (recordsIn requestSort (drop 3 body)) _ (λ rs e. of-value BodyAllowed tt))
-    (either-way BodyAllowed (eqb k 1) _ _ (after-value BodyAllowed (recordsIn reportSort (drop 3 body)) _ (λ rs e. of-value BodyAllowed tt))
-    (either-way BodyAllowed (eqb k 2) _ _ (after-value BodyAllowed (single 34 tpcRequestMeans (elementsIn (drop 3 body))) _ (λ u e. of-value BodyAllowed tt))
-    (after-value BodyAllowed (single 35 tpcReportMeans (elementsIn (drop 3 body))) _ (λ t e. of-value BodyAllowed tt))))
-
-body-allowed : (body : List ℕ) → Yields BodyAllowed (actionMeans body)
-unfolding actionMeans
-body-allowed body = after-value BodyAllowed (opensWith body) (afterOpening body) (λ o e. after-allowed body o)
-
 module _ (b : ℕ) where
+  BodyAllowed : Body → Type 0
+  BodyAllowed body = KindAllowed b (action body)
+
+  after-allowed : (body : List ℕ) (o : Opens) → Yields BodyAllowed (afterOpening body o)
+  unfolding Yields Allowed-switch BodyAllowed
+  after-allowed body switching =
+      after-value BodyAllowed (single 37 switchMeans (elementsIn (drop 2 body))) _ (λ w e. of-value BodyAllowed (single-allowed (elementsIn (drop 2 body)) w e))
+  after-allowed body (with k token) =
+      either-way BodyAllowed (eqb k 0) _ _ (after-value BodyAllowed (recordsIn requestSort (drop 3 body)) _ (λ rs e. of-value BodyAllowed tt))
+      (either-way BodyAllowed (eqb k 1) _ _ (after-value BodyAllowed (recordsIn reportSort (drop 3 body)) _ (λ rs e. of-value BodyAllowed tt))
+      (either-way BodyAllowed (eqb k 2) _ _ (after-value BodyAllowed (single 34 tpcRequestMeans (elementsIn (drop 3 body))) _ (λ u e. of-value BodyAllowed tt))
+      (after-value BodyAllowed (single 35 tpcReportMeans (elementsIn (drop 3 body))) _ (λ t e. of-value BodyAllowed tt))))
+
+  body-allowed : (body : List ℕ) → Yields BodyAllowed (actionMeans body)
+  unfolding actionMeans
+  body-allowed body = after-value BodyAllowed (opensWith body) (afterOpening body) (λ o e. after-allowed body o)
+
   kind-allowed : (s : Subtype) (body : List ℕ) → Yields (KindAllowed b) (kindOf b s body)
-  unfolding Yields
+  unfolding Yields BodyAllowed
   kind-allowed Subtype.Beacon body = after-value (KindAllowed b) (beaconMeans b body) _ (λ t e. of-value (KindAllowed b) (beacon-allowed b body t e))
   kind-allowed Subtype.ProbeResponse body = after-value (KindAllowed b) (beaconMeans b body) _ (λ t e. of-value (KindAllowed b) (beacon-allowed b body t e))
   kind-allowed Subtype.Action body = after-value (KindAllowed b) (actionMeans body) _ (λ a e. of-value (KindAllowed b) (body-allowed body a e))
@@ -71,3 +76,12 @@ module _ (b : ℕ) where
       after-value (λ (x : Sent). KindAllowed b (x .kind)) (headerMeans own ap' f) _
       (λ h e. after-value (λ (x : Sent). KindAllowed b (x .kind)) (kindOf b (h .subtype) (drop 24 f)) _
       (λ k g. of-value (λ (x : Sent). KindAllowed b (x .kind)) (kind-allowed (h .subtype) (drop 24 f) k g)))
+
+  received-allowed : (o : Outcome Sent) → ((x : Sent) → o ≡ accepted x → KindAllowed b (x .kind)) → ReceivedAllowed b (frameLaid o)
+  received-allowed (refused r) h = tt
+  received-allowed (accepted x) h =
+      subst (FrameAllowed b (frameOf (x .kind))) (sym (take-at (quietsOf (x .kind)) _ _ refl)) (h x refl)
+
+  -- what `read` hands out says nothing that is not allowed
+  pub read-allowed : (own ap' f : List ℕ) → ReceivedAllowed b (frameLaid (frameMeans own ap' b f))
+  read-allowed own ap' f = received-allowed (frameMeans own ap' b f) (frame-allowed own ap' f)

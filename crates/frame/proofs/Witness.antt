@@ -9,10 +9,8 @@ use Rattle.action.specs.Openings.{opensWith}
 use Rattle.single_body.specs.Singles.{sole, single}
 use Rattle.answer.specs.Checks.{Outcome, refused, accepted, checked}
 use Rattle.answer.specs.declared.Refusal.{Refusal}
-use Rattle.beacon.specs.Beacons.{Said, Told, nothing, takes, says, beaconMeans}
-use Rattle.beacon.specs.declared.MaybePower.{MaybePower}
-use Rattle.beacon.specs.declared.MaybeReport.{MaybeReport}
-use Rattle.beacon.specs.declared.MaybeSwitch.{MaybeSwitch}
+use Rattle.beacon.specs.Beacons.{tells, elementMeans, takes, says, beaconMeans}
+use Rattle.beacon.specs.Notices.{elementless}
 use Rattle.element.specs.ChannelSwitch.{switchMeans}
 use Rattle.octets.specs.Elements.{fixed}
 use Rattle.measurement_element.specs.MeasurementReport.{reportMeans, noDensities}
@@ -60,16 +58,13 @@ actionFrame body = frame 208 own body
 abbrev to-own : Kind → Outcome Sent
 to-own k = accepted (record { toAll = false; kind = k })
 
-abbrev told : Said → Told
-told said = record { timestamp = 0; capability = 1; said = said }
-
 -- ---- the seven kinds
 
-pub a-beacon : heard (beaconFrame []) ≡ to-own (beacon (told nothing))
+pub a-beacon : heard (beaconFrame []) ≡ to-own (beacon (tells (elementless 0 1) []))
 unfolding frameMeans headerMeans foreignHeader foreignAddress toAll checked beaconMeans says elementsIn elementsAfter
 a-beacon = refl
 
-pub a-probe-response : heard (probeFrame []) ≡ to-own (probeResponse (told nothing))
+pub a-probe-response : heard (probeFrame []) ≡ to-own (probeResponse (tells (elementless 0 1) []))
 unfolding frameMeans headerMeans foreignHeader foreignAddress toAll checked beaconMeans says elementsIn elementsAfter
 a-probe-response = refl
 
@@ -167,8 +162,8 @@ abbrev is-quiet : ℕ → Quiet
 is-quiet count = record { count = count; period = 0; duration = 10; offset = 20 }
 
 pub two-quiets : heard (beaconFrame (quietly 3 ++ quietly 5))
-    ≡ to-own (beacon (told (record { power = MaybePower.Absent; report = MaybeReport.Absent; switch = MaybeSwitch.Absent; quiets = is-quiet 3 ∷ is-quiet 5 ∷ [] })))
-unfolding frameMeans headerMeans foreignHeader foreignAddress toAll checked beaconMeans says takes elementsIn elementsAfter quietMeans fixed
+    ≡ to-own (beacon (tells (elementless 0 1) (is-quiet 3 ∷ is-quiet 5 ∷ [])))
+unfolding frameMeans headerMeans foreignHeader foreignAddress toAll checked beaconMeans says takes elementMeans elementsIn elementsAfter quietMeans fixed
 two-quiets = refl
 
 -- the same frame to all ones is told from one to the station

@@ -9,7 +9,6 @@ use Rattle.answer.specs.Checks.{Outcome, refused, accepted, andThen}
 use Rattle.answer.specs.declared.Refusal.{Refusal}
 use Rattle.beacon.specs.Beacons.{Told}
 use Rattle.beacon.specs.Laid.{slots}
-use Rattle.beacon.specs.declared.Notice.{Notice}
 use Rattle.element.specs.declared.quiet.Quiet.{Quiet}
 use Rattle.header.specs.declared.Subtype.{Subtype}
 use Rattle.frame.specs.Actions.{Body, requests, reports, tpcRequest, tpcReport, switch}
@@ -17,16 +16,6 @@ use Rattle.frame.specs.Frames.{Kind, beacon, probeResponse, action, Sent
 use Rattle.frame.specs.declared.Frame.{Frame}
 use Rattle.frame.specs.declared.Reading.{Reading}
 use Rattle.frame.specs.declared.Received.{Received}
-
-abbrev pub noticeOf : Told → Notice
-noticeOf t =
-    record {
-      timestamp = t .timestamp;
-      capability = t .capability;
-      power = t .said .power;
-      report = t .said .report;
-      switch = t .said .switch;
-    }
 
 -- the action frame of a body
 abbrev pub actionFrame : Body → Frame
@@ -48,14 +37,20 @@ bodyFrame o = andThen o (λ body. accepted (actionFrame body))
 abbrev pub received : Reading → Bool → List Quiet → Received
 received reading toAll qs = record { reading = reading; broadcast = toAll; quiets = slots qs; count = length qs }
 
-abbrev pub ofKind : Bool → Kind → Received
-ofKind toAll (beacon t) = received (Reading.Is (Frame.Beacon (noticeOf t))) toAll (t .said .quiets)
-ofKind toAll (probeResponse t) = received (Reading.Is (Frame.ProbeResponse (noticeOf t))) toAll (t .said .quiets)
-ofKind toAll (action body) = received (Reading.Is (actionFrame body)) toAll []
+-- the frame of each kind, and the Quiet elements beside it
+abbrev pub frameOf : Kind → Frame
+frameOf (beacon t) = Frame.Beacon (t .notice)
+frameOf (probeResponse t) = Frame.ProbeResponse (t .notice)
+frameOf (action body) = actionFrame body
+
+abbrev pub quietsOf : Kind → List Quiet
+quietsOf (beacon t) = t .quiets
+quietsOf (probeResponse t) = t .quiets
+quietsOf (action body) = []
 
 abbrev pub frameLaid : Outcome Sent → Received
 frameLaid (refused r) = received (Reading.Refused r) false []
-frameLaid (accepted s) = ofKind (s .toAll) (s .kind)
+frameLaid (accepted s) = received (Reading.Is (frameOf (s .kind))) (s .toAll) (quietsOf (s .kind))
 
 -- ---- the code's own terms, which no public promise cites
 

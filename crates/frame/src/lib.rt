@@ -13,6 +13,7 @@ ghost use Rattle.frame.specs.Laid.{received, frameLaid, noticeSubtype};
 ghost use Rattle.header.specs.declared.Subtype.{Subtype};
 use answer::Answer;
 use answer::Refusal;
+use beacon::NO_QUIET;
 use beacon::Notice;
 use beacon::QUIETS;
 use element::channel_switch::ChannelSwitch;
@@ -50,13 +51,7 @@ pub struct Received {
 fn alone(reading: Reading, broadcast: bool) -> Received
     ensures { λ r. ⌜ r ≡ received reading broadcast [] ⌝ }
 {
-    let quiet = Quiet {
-        count: 0,
-        period: 0,
-        duration: 0,
-        offset: 0,
-    };
-    let quiets = [quiet; QUIETS];
+    let quiets = [NO_QUIET; QUIETS];
     Received {
         reading,
         broadcast,

@@ -3,9 +3,16 @@ ghost use mathlib.Core.Path.{_≡_};
 ghost use Rattle.pending.specs.Waiting.{pendingBy, silences, upTo, comesBefore};
 use element::channel_switch::ChannelSwitch;
 
+// A switch that is to come: its moment, the mode of its announcement, and the channel.
+pub struct Switch {
+    pub at: u64,
+    pub mode: u8,
+    pub channel: u8,
+}
+
 pub enum Pending {
     Nothing,
-    Switch { at: u64, mode: u8, channel: u8 },
+    Switch(Switch),
 }
 
 impl Pending {
@@ -15,11 +22,11 @@ impl Pending {
         ensures { λ r. ⌜ r ≡ pendingBy switch passed interval ⌝ }
     {
         let at = ((passed as u64) + (switch.count as u64)) * (interval as u64);
-        Pending::Switch {
+        Pending::Switch(Switch {
             at,
             mode: switch.mode,
             channel: switch.channel,
-        }
+        })
     }
 
     // Whether nothing may be sent until the switch.
@@ -28,11 +35,7 @@ impl Pending {
     {
         match self {
             Pending::Nothing => false,
-            Pending::Switch {
-                at: _,
-                mode,
-                channel: _,
-            } => mode == 1,
+            Pending::Switch(switch) => switch.mode == 1,
         }
     }
 
@@ -42,11 +45,7 @@ impl Pending {
     {
         match self {
             Pending::Nothing => end,
-            Pending::Switch {
-                at,
-                mode: _,
-                channel: _,
-            } => { if at < end { at } else { end } }
+            Pending::Switch(switch) => { if switch.at < end { switch.at } else { end } }
         }
     }
 
@@ -56,11 +55,7 @@ impl Pending {
     {
         match self {
             Pending::Nothing => false,
-            Pending::Switch {
-                at,
-                mode: _,
-                channel: _,
-            } => at < end,
+            Pending::Switch(switch) => switch.at < end,
         }
     }
 }

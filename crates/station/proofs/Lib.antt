@@ -1,6 +1,5 @@
-pub mod Advancing
 pub mod Answers
-pub mod Hearing
 pub mod InUse
-pub mod Keeping
+pub mod Received
 pub mod Slotting
+pub mod StaysValid

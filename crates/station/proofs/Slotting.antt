@@ -11,8 +11,8 @@ use Rattle.beacon.specs.Beacons.{quietLimit}
 use Rattle.element.specs.declared.quiet.Quiet.{Quiet}
 use Rattle.schedule.specs.Schedules.{setBy}
 use Rattle.schedule.specs.declared.Schedule.{Schedule}
-use Rattle.station.specs.Stations.{noSchedule}
-use Rattle.station.specs.Taking.{schedulesOf, slotted}
+use Rattle.station.specs.Stations.{noSchedule, slotted}
+use Rattle.station.specs.Taking.{schedulesOf}
 
 module _ (k b : ℕ) (qs : List Quiet) (d : Quiet) (i : ℕ) (h : i < length qs) (room : i < quietLimit) where
   so-far : List Schedule

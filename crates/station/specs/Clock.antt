@@ -1,15 +1,17 @@
 -- The clock (01, "The station" and "Answer numbers"): 14 where it would pass its limit, or the advance is over 65,535; when it reaches
 -- the switch, the channel changes, and schedules, constraint and pending switch are gone.
-use mathlib.Core.List.{[], _∷_}
+use mathlib.Core.Bool.{_||_}
+use mathlib.Core.List.{[]}
 use Prim.Native.Nat.{ℕ, _+_}
 use lib.Dec.{ltb}
-use Rattle.answer.specs.Checks.{Outcome, refused, accepted, _⇒_, judged, pick}
+use Rattle.answer.specs.Checks.{Outcome, refused, accepted, pick}
 use Rattle.answer.specs.declared.Answer.{Answer}
 use Rattle.answer.specs.declared.Refusal.{Refusal}
 use Rattle.beacon.specs.declared.MaybePower.{MaybePower}
 use Rattle.pending.specs.declared.Pending.{Pending}
-use Rattle.station.specs.Stations.{clockLimit, longest, emptySlots}
+use Rattle.station.specs.Stations.{clockLimit, longest, withClock, withChannel, withPower, withPending, withSchedules}
 use Rattle.station.specs.declared.Station.{Station}
+use Rattle.station.specs.declared.clock.Advanced.{Advanced}
 use Rattle.station.specs.declared.clock.Stepped.{Stepped}
 
 -- the answer of a call that may be refused, and the station after it
@@ -18,47 +20,25 @@ stepped s (refused r) = record { answer = Answer.Refused r; station = s }
 stepped s (accepted next) = record { answer = Answer.Accepted; station = next }
 
 abbrev pub switched : Station → ℕ → Station
-switched s channel =
-    record {
-      own = s .own;
-      ap = s .ap;
-      interval = s .interval;
-      clock = s .clock;
-      channel = channel;
-      power = MaybePower.Absent;
-      pending = Pending.Nothing;
-      schedules = emptySlots;
-      count = 0;
-    }
-
--- the station with its clock at t
-abbrev pub clocked : Station → ℕ → Station
-clocked s t =
-    record {
-      own = s .own;
-      ap = s .ap;
-      interval = s .interval;
-      clock = t;
-      channel = s .channel;
-      power = s .power;
-      pending = s .pending;
-      schedules = s .schedules;
-      count = s .count;
-    }
+switched s channel = withSchedules (withPending (withPower (withChannel s channel) MaybePower.Absent) Pending.Nothing) []
 
 -- with the clock at t, a switch that lies no later has come
-abbrev pub met : Pending → Station → ℕ → Station
-met Pending.Nothing s t = s
-met (Pending.Switch at mode channel) s t = pick (ltb t at) s (switched s channel)
+abbrev pub reached : ℕ → Pending → Advanced
+reached t Pending.Nothing = Advanced.Goes t
+reached t (Pending.Switch x) = pick (ltb t (x .at)) (Advanced.Goes t) (Advanced.Switches t (x .channel))
 
-abbrev pub reachOf : Station → ℕ → Station
-reachOf s t = met (s .pending) (clocked s t) t
+-- an advance by n, as the clock and the pending switch decide it
+unfoldable pub clockAdvance : ℕ → Pending → ℕ → Advanced
+clockAdvance t p n = pick (ltb longest n || ltb clockLimit (t + n)) Advanced.Refused (reached (t + n) p)
+
+-- what it makes of a station
+abbrev pub advancedTo : Station → Advanced → Outcome Station
+advancedTo s Advanced.Refused = refused Refusal.PastClock
+advancedTo s (Advanced.Goes t) = accepted (withClock s t)
+advancedTo s (Advanced.Switches t channel) = accepted (switched (withClock s t) channel)
 
 unfoldable pub advanceMeans : Station → ℕ → Outcome Station
-advanceMeans s n =
-    judged
-    (ltb longest n ⇒ Refusal.PastClock ∷ ltb clockLimit (s .clock + n) ⇒ Refusal.PastClock ∷ [])
-    (reachOf s (s .clock + n))
+advanceMeans s n = advancedTo s (clockAdvance (s .clock) (s .pending) n)
 
 abbrev pub advanceOf : Station → ℕ → Stepped
 advanceOf s n = stepped s (advanceMeans s n)

@@ -1,7 +1,5 @@
-pub mod Advancing
 pub mod Asking
 pub mod Clock
-pub mod Handing
 pub mod Starting
 pub mod Stations
 pub mod Taking

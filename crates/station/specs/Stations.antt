@@ -1,8 +1,8 @@
 -- What a station keeps (01, "The station"): settings, clock, channel, latest Power Constraint if any, one pending switch if any, and
 -- quiet schedules with how many are in use.
-use mathlib.Core.List.{List}
-use Prim.Native.Nat.{ℕ}
-use lib.ListN.{take, replicate}
+use mathlib.Core.List.{List, [], _++_}
+use Prim.Native.Nat.{ℕ, _-_}
+use lib.ListN.{length, take, replicate}
 use Rattle.beacon.specs.Beacons.{quietLimit}
 use Rattle.beacon.specs.declared.MaybePower.{MaybePower}
 use Rattle.pending.specs.declared.Pending.{Pending}
@@ -21,8 +21,9 @@ longest = 65535
 abbrev pub noSchedule : Schedule
 noSchedule = record { start = 0; period = 0; duration = 0 }
 
-abbrev pub emptySlots : List Schedule
-emptySlots = replicate quietLimit noSchedule
+-- schedules in their slots, the rest of which are blank
+abbrev pub slotted : List Schedule → List Schedule
+slotted xs = xs ++ replicate (quietLimit - length xs) noSchedule
 
 -- the schedules in use
 abbrev pub inUse : Station → List Schedule
@@ -39,6 +40,39 @@ fresh own ap b channel =
       channel = channel;
       power = MaybePower.Absent;
       pending = Pending.Nothing;
-      schedules = emptySlots;
+      schedules = slotted [];
       count = 0;
     }
+
+-- ---- a station with one field changed: the settings never do
+
+module _ (s : Station) where
+  abbrev kept : ℕ → ℕ → MaybePower → Pending → List Schedule → ℕ → Station
+  kept clock channel power pending schedules count =
+      record {
+        own = s .own;
+        ap = s .ap;
+        interval = s .interval;
+        clock = clock;
+        channel = channel;
+        power = power;
+        pending = pending;
+        schedules = schedules;
+        count = count;
+      }
+
+  abbrev pub withClock : ℕ → Station
+  withClock t = kept t (s .channel) (s .power) (s .pending) (s .schedules) (s .count)
+
+  abbrev pub withChannel : ℕ → Station
+  withChannel channel = kept (s .clock) channel (s .power) (s .pending) (s .schedules) (s .count)
+
+  abbrev pub withPower : MaybePower → Station
+  withPower p = kept (s .clock) (s .channel) p (s .pending) (s .schedules) (s .count)
+
+  abbrev pub withPending : Pending → Station
+  withPending p = kept (s .clock) (s .channel) (s .power) p (s .schedules) (s .count)
+
+  -- these schedules are those in use
+  abbrev pub withSchedules : List Schedule → Station
+  withSchedules xs = kept (s .clock) (s .channel) (s .power) (s .pending) (slotted xs) (length xs)

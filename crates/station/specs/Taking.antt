@@ -1,22 +1,23 @@
 -- Taking a frame (01, "The station"): what an accepted one changes.
-use mathlib.Core.List.{List, _++_, map}
-use Prim.Native.Nat.{ℕ, _-_, _/_}
+use mathlib.Core.List.{List, map}
+use Prim.Native.Nat.{ℕ, _/_}
 use lib.Dec.{eqb}
-use lib.ListN.{length, replicate}
+use lib.ListN.{take}
 use Rattle.answer.specs.Checks.{Outcome, accepted, pick, andThen}
-use Rattle.beacon.specs.Beacons.{quietLimit, Said}
+use Rattle.beacon.specs.Beacons.{Told, tells}
 use Rattle.beacon.specs.declared.MaybePower.{MaybePower}
 use Rattle.beacon.specs.declared.MaybeSwitch.{MaybeSwitch}
 use Rattle.element.specs.declared.channel_switch.ChannelSwitch.{ChannelSwitch}
 use Rattle.element.specs.declared.quiet.Quiet.{Quiet}
-use Rattle.frame.specs.Actions.{requests, reports, tpcRequest, tpcReport, switch}
-use Rattle.frame.specs.Frames.{Kind, beacon, probeResponse, action, frameMeans}
+use Rattle.frame.specs.Frames.{Kind, frameMeans}
+use Rattle.frame.specs.Laid.{frameTold, frameOf, quietsOf}
+use Rattle.frame.specs.declared.Frame.{Frame}
+use Rattle.frame.specs.declared.Received.{Received}
 use Rattle.pending.specs.Waiting.{pendingBy}
-use Rattle.pending.specs.declared.Pending.{Pending}
 use Rattle.schedule.specs.Schedules.{setBy}
 use Rattle.schedule.specs.declared.Schedule.{Schedule}
 use Rattle.station.specs.Clock.{stepped, switched}
-use Rattle.station.specs.Stations.{noSchedule}
+use Rattle.station.specs.Stations.{withPower, withPending, withSchedules}
 use Rattle.station.specs.declared.Station.{Station}
 use Rattle.station.specs.declared.clock.Stepped.{Stepped}
 
@@ -28,78 +29,49 @@ passed s = s .clock / s .interval
 abbrev pub schedulesOf : ℕ → ℕ → List Quiet → List Schedule
 schedulesOf k b qs = map (λ q. setBy q k b) qs
 
--- schedules in their slots, the rest of which are blank
-abbrev pub slotted : List Schedule → List Schedule
-slotted xs = xs ++ replicate (quietLimit - length xs) noSchedule
-
 -- all schedules are replaced, by none where there is no Quiet element
 abbrev pub rescheduled : Station → List Quiet → Station
-rescheduled s qs =
-    record {
-      own = s .own;
-      ap = s .ap;
-      interval = s .interval;
-      clock = s .clock;
-      channel = s .channel;
-      power = s .power;
-      pending = s .pending;
-      schedules = slotted (schedulesOf (passed s) (s .interval) qs);
-      count = length qs;
-    }
+rescheduled s qs = withSchedules s (schedulesOf (passed s) (s .interval) qs)
 
 -- a Power Constraint, if present, is kept
 abbrev pub constrained : Station → MaybePower → Station
 constrained s MaybePower.Absent = s
-constrained s (MaybePower.Is p) =
-    record {
-      own = s .own;
-      ap = s .ap;
-      interval = s .interval;
-      clock = s .clock;
-      channel = s .channel;
-      power = MaybePower.Is p;
-      pending = s .pending;
-      schedules = s .schedules;
-      count = s .count;
-    }
-
-abbrev pub awaiting : Station → Pending → Station
-awaiting s p =
-    record {
-      own = s .own;
-      ap = s .ap;
-      interval = s .interval;
-      clock = s .clock;
-      channel = s .channel;
-      power = s .power;
-      pending = p;
-      schedules = s .schedules;
-      count = s .count;
-    }
+constrained s (MaybePower.Is p) = withPower s (MaybePower.Is p)
 
 -- count c ≥ 1: the switch is at (k + c) times B; count 0: at once
 unfoldable pub announced : Station → ChannelSwitch → Station
 announced s w =
     pick (eqb (w .count) 0) (switched s (w .channel))
-    (awaiting s (pendingBy w (passed s) (s .interval)))
+    (withPending s (pendingBy w (passed s) (s .interval)))
 
 abbrev pub announcedIf : Station → MaybeSwitch → Station
 announcedIf s MaybeSwitch.Absent = s
 announcedIf s (MaybeSwitch.Is w) = announced s w
 
 -- a beacon or a probe response: first the schedules, then the Power Constraint, then the announcement
-unfoldable pub told : Station → Said → Station
-told s said = announcedIf (constrained (rescheduled s (said .quiets)) (said .power)) (said .switch)
+unfoldable pub informed : Station → Told → Station
+informed s t = announcedIf (constrained (rescheduled s (t .quiets)) (t .notice .power)) (t .notice .switch)
 
--- other action frames change nothing
+-- an accepted frame, with the Quiet elements beside it; other action frames change nothing
+abbrev pub changedBy : Station → Frame → List Quiet → Station
+changedBy s (Frame.Beacon n) qs = informed s (tells n qs)
+changedBy s (Frame.ProbeResponse n) qs = informed s (tells n qs)
+changedBy s (Frame.MeasurementRequest token count) qs = s
+changedBy s (Frame.MeasurementReport token count) qs = s
+changedBy s (Frame.TpcRequest token) qs = s
+changedBy s (Frame.TpcReport token t) qs = s
+changedBy s (Frame.ChannelSwitch w) qs = announced s w
+
+-- what a reader handed out: a refusal stays one, and a count past the slots is that of all of them
+unfoldable pub heardMeans : Station → Received → Outcome Station
+heardMeans s v = andThen (frameTold (v .reading)) (λ f. accepted (changedBy s f (take (v .count) (v .quiets))))
+
+abbrev pub heardOf : Station → Received → Stepped
+heardOf s v = stepped s (heardMeans s v)
+
+-- the octets of a frame, by the station's own settings
 abbrev pub heard : Station → Kind → Station
-heard s (beacon t) = told s (t .said)
-heard s (probeResponse t) = told s (t .said)
-heard s (action (requests token rs)) = s
-heard s (action (reports token rs)) = s
-heard s (action (tpcRequest token)) = s
-heard s (action (tpcReport token t)) = s
-heard s (action (switch w)) = announced s w
+heard s k = changedBy s (frameOf k) (quietsOf k)
 
 unfoldable pub takeMeans : Station → List ℕ → Outcome Station
 takeMeans s f = andThen (frameMeans (s .own) (s .ap) (s .interval) f) (λ sent. accepted (heard s (sent .kind)))

@@ -13,7 +13,7 @@ use Rattle.station.specs.declared.Station.{Station}
 -- a pending switch lies after the clock, and says what an accepted announcement may say
 abbrev pub PendingFits : ℕ → Pending → Type 0
 PendingFits t Pending.Nothing = Unit {0}
-PendingFits t (Pending.Switch at mode channel) = (t < at) × (mode ≤ 1) × (channel ≤ highest)
+PendingFits t (Pending.Switch x) = (t < x .at) × (x .mode ≤ 1) × (x .channel ≤ highest)
 
 pub record Valid (s : Station) : Type 0 where
   pub own-single : bit 0 (octet 0 (s .own)) ≡ false

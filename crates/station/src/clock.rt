@@ -1,7 +1,7 @@
 // The clock (document 01, "The station"): it advances, and reaches a pending switch on the way.
 ghost use mathlib.Core.Path.{_≡_};
-ghost use Rattle.station.specs.Advancing.{clockAdvance};
-ghost use Rattle.station.specs.Clock.{clocked, advanceOf};
+ghost use Rattle.station.specs.Clock.{clockAdvance, advanceOf};
+ghost use Rattle.station.specs.Stations.{withClock};
 ghost use Rattle.station.specs.Validity.{Valid};
 use crate::Station;
 use answer::Answer;
@@ -28,15 +28,14 @@ pub fn advance_clock(clock: u32, pending: Pending, units: u32) -> Advanced
     let moment = clock + units;
     match pending {
         Pending::Nothing => Advanced::Goes(moment),
-        Pending::Switch {
-            at,
-            mode: _,
-            channel,
-        } => {
-            if (moment as u64) < at {
+        Pending::Switch(switch) => {
+            if (moment as u64) < switch.at {
                 return Advanced::Goes(moment);
             }
-            Advanced::Switches { moment, channel }
+            Advanced::Switches {
+                moment,
+                channel: switch.channel,
+            }
         }
     }
 }
@@ -49,8 +48,8 @@ pub struct Stepped {
 
 impl Station {
     // The clock tells another moment.
-    fn clocked(self, moment: u32) -> Station
-        ensures { λ r. ⌜ r ≡ clocked self moment ⌝ }
+    fn with_clock(self, moment: u32) -> Station
+        ensures { λ r. ⌜ r ≡ withClock self moment ⌝ }
     {
         Station {
             clock: moment,
@@ -66,9 +65,9 @@ impl Station {
         let pending = self.pending;
         match advance_clock(self.clock, pending, units) {
             Advanced::Refused => Stepped::refused(Refusal::PastClock, self),
-            Advanced::Goes(moment) => Stepped::accepted(self.clocked(moment)),
+            Advanced::Goes(moment) => Stepped::accepted(self.with_clock(moment)),
             Advanced::Switches { moment, channel } => Stepped::accepted(
-                self.clocked(moment).switched(channel),
+                self.with_clock(moment).switched(channel),
             ),
         }
     }

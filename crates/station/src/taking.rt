@@ -1,10 +1,12 @@
 // Taking a frame (document 01, "The station"; 802.11h 11.6.2 and 11.6.7).
+ghost use mathlib.Core.List.{List};
 ghost use mathlib.Core.Path.{_≡_};
 ghost use Prim.Native.Nat.{_≤_};
-ghost use lib.ListN.{take};
-ghost use Rattle.beacon.specs.Beacons.{quietLimit};
-ghost use Rattle.station.specs.Handing.{saidIn, heardAs};
-ghost use Rattle.station.specs.Taking.{passed, rescheduled, constrained, announced, told, takeOf};
+ghost use lib.ListN.{length, take};
+ghost use Rattle.beacon.specs.Beacons.{quietLimit, tells};
+ghost use Rattle.element.specs.declared.quiet.Quiet.{Quiet};
+ghost use Rattle.frame.specs.Allowed.{ReceivedAllowed};
+ghost use Rattle.station.specs.Taking.{passed, rescheduled, constrained, announced, informed, changedBy, heardOf, takeOf};
 ghost use Rattle.station.specs.Validity.{Valid};
 use crate::Station;
 use crate::Stepped;
@@ -16,8 +18,16 @@ use element::channel_switch::ChannelSwitch;
 use element::quiet::Quiet;
 use frame::Frame;
 use frame::Reading;
+use frame::Received;
 use pending::Pending;
 use schedule::Schedule;
+
+// So many of the slots, or all of them where there are no more.
+fn at_most_all(count: usize) -> usize
+    ensures { λ r. ⌜ (r ≤ quietLimit) × ((qs : List Quiet) → length qs ≡ quietLimit → take r qs ≡ take count qs) ⌝ }
+{
+    if QUIETS < count { QUIETS } else { count }
+}
 
 impl Station {
     // How many whole beacon intervals have passed.
@@ -31,9 +41,9 @@ impl Station {
     // The schedules of the first `count` Quiet elements take the place of all there were.
     fn rescheduled(self, quiets: [Quiet; QUIETS], count: usize) -> Station
         requires { ⌜ 1 ≤ self .interval ⌝ }
-        requires { ⌜ count ≤ quietLimit ⌝ }
         ensures { λ r. ⌜ r ≡ rescheduled self (take count quiets) ⌝ }
     {
+        let count = at_most_all(count);
         let interval = self.interval;
         let passed = self.passed();
         let mut schedules = [Station::NO_SCHEDULE; Station::SCHEDULE_LIMIT];
@@ -75,10 +85,9 @@ impl Station {
     }
 
     // What a beacon or a probe response changes: all schedules, then the constraint, then the announcement.
-    fn told(self, notice: Notice, quiets: [Quiet; QUIETS], count: usize) -> Station
+    fn informed(self, notice: Notice, quiets: [Quiet; QUIETS], count: usize) -> Station
         requires { ⌜ 1 ≤ self .interval ⌝ }
-        requires { ⌜ count ≤ quietLimit ⌝ }
-        ensures { λ r. ⌜ r ≡ told self (saidIn notice (take count quiets)) ⌝ }
+        ensures { λ r. ⌜ r ≡ informed self (tells notice (take count quiets)) ⌝ }
     {
         let power = notice.power;
         let switch = notice.switch;
@@ -90,14 +99,13 @@ impl Station {
     }
 
     // What an accepted frame changes. Measurement frames and those of transmit power control change nothing.
-    fn heard(self, frame: Frame, quiets: [Quiet; QUIETS], count: usize) -> Station
+    fn changed_by(self, frame: Frame, quiets: [Quiet; QUIETS], count: usize) -> Station
         requires { ⌜ 1 ≤ self .interval ⌝ }
-        requires { ⌜ count ≤ quietLimit ⌝ }
-        ensures { λ r. ⌜ r ≡ heardAs self frame (take count quiets) ⌝ }
+        ensures { λ r. ⌜ r ≡ changedBy self frame (take count quiets) ⌝ }
     {
         match frame {
-            Frame::Beacon(notice) => self.told(notice, quiets, count),
-            Frame::ProbeResponse(notice) => self.told(notice, quiets, count),
+            Frame::Beacon(notice) => self.informed(notice, quiets, count),
+            Frame::ProbeResponse(notice) => self.informed(notice, quiets, count),
             Frame::ChannelSwitch(switch) => self.announced(switch),
             Frame::MeasurementRequest { token: _, count: _ } => self,
             Frame::MeasurementReport { token: _, count: _ } => self,
@@ -109,6 +117,23 @@ impl Station {
         }
     }
 
+    // What a reader handed out, so that one reading can serve several stations. A count past the slots is that of all of them.
+    pub fn heard(self, received: Received) -> Stepped
+        requires { ⌜ Valid self ⌝ }
+        ensures { λ r. ⌜ r ≡ heardOf self received ⌝ }
+        ensures kept { λ r. ⌜ (ReceivedAllowed (self .interval) received → Valid (r .station)) ⌝ }
+    {
+        let reading = received.reading;
+        let quiets = received.quiets;
+        match reading {
+            Reading::Refused(refusal) => Stepped::refused(refusal, self),
+            Reading::Is(frame) => {
+                let station = self.changed_by(frame, quiets, received.count);
+                Stepped::accepted(station)
+            }
+        }
+    }
+
     pub fn take(self, frame: &[u8]) -> Stepped
         requires { ⌜ Valid self ⌝ }
         ensures { λ r. ⌜ r ≡ takeOf self (now (frame .entry)) ⌝ }
@@ -116,15 +141,6 @@ impl Station {
     {
         let own = self.own;
         let ap = self.ap;
-        let received = frame::read(frame, own, ap, self.interval);
-        let reading = received.reading;
-        let quiets = received.quiets;
-        match reading {
-            Reading::Refused(refusal) => Stepped::refused(refusal, self),
-            Reading::Is(accepted) => {
-                let station = self.heard(accepted, quiets, received.count);
-                Stepped::accepted(station)
-            }
-        }
+        self.heard(frame::read(frame, own, ap, self.interval))
     }
 }

@@ -6,13 +6,19 @@ use mathlib.Core.Path.{_≡_, sym, ap, _∙_}
 use Prim.Native.Nat.{_+_}
 use borrow.Author.Needs.{needs}
 use borrow.Author.Tests.{eq-eqb, ne-eqb, lt-ltb, le-ltb}
+use lib.Dec.{ltb, eqb}
 use Rattle.pending.specs.Waiting.{silences, upTo, comesBefore}
 use Rattle.station.specs.Asking.{quietIn, _gives_, firstOf, permissionOf}
-use Rattle.station.specs.Stations.{inUse}
+use Rattle.station.specs.Stations.{longest, inUse}
 use Rattle.station.specs.declared.asking.Permission.{Permission}
 use Rattle.station.proofs.Answers.{past, stop, done}
 use Rattle.station.proofs.Station.ask.Statement.{statement}
 use Rattle.station.proofs.Station.ask.Tie as tie
+
+-- ---- the cases that do not apply, from the places where this is known
+
+right-length : (c : tie.Else2) → let n = c .before .before .args .units in (eqb n 0 ≡ false) × (ltb longest n ≡ false)
+right-length c = (ne-eqb _ _ (c .before .if1 .left), le-ltb _ _ (c .if2 .left))
 
 no-silence : (c : tie.Else3) → silences (c .before .before .before .before .before .args .self .pending) ≡ false
 no-silence c = sym (c .before .silences .ensures) ∙ c .if3 .left
@@ -28,6 +34,8 @@ later c =
     let s = c .before .before .before .before .before .before .before .before .before .args .self in
     c .quiet-between2 .ensures ∙ ap (quietIn (inUse s) (s .clock + 1)) (c .before .up-to .ensures)
 
+-- ---- the ways out
+
 returns : tie.Need-returns
 unfolding permissionOf
 returns c = stop _ _ (eq-eqb _ _ (c .if1 .taken))
@@ -39,44 +47,42 @@ returns-2 c = past _ _ (ne-eqb _ _ (c .before .if1 .left)) (stop _ _ (lt-ltb _ _
 returns-3 : tie.Need-returns-3
 unfolding permissionOf
 returns-3 c =
-    past _ _ (ne-eqb _ _ (c .before .before .before .before .if1 .left))
-    (past _ _ (le-ltb _ _ (c .before .before .before .if2 .left))
-    (stop _ _ (sym (c .before .silences .ensures) ∙ c .if3 .taken)))
+    let length = right-length (c .before .before .before) in
+    past _ _ (length .0) (past _ _ (length .1) (stop _ _ (sym (c .before .silences .ensures) ∙ c .if3 .taken)))
 
 returns-4 : tie.Need-returns-4
 unfolding permissionOf
 returns-4 c =
-    past _ _ (ne-eqb _ _ (c .before .before .before .before .before .before .if1 .left))
-    (past _ _ (le-ltb _ _ (c .before .before .before .before .before .if2 .left))
-    (past _ _ (no-silence (c .before .before))
+    let silence = c .before .before in
+    let length = right-length (silence .before .before .before) in
+    past _ _ (length .0) (past _ _ (length .1) (past _ _ (no-silence silence)
     (stop _ _ (sym (c .before .quiet-between .ensures) ∙ c .if4 .taken))))
 
-returns-5 : tie.Need-returns-5
+-- past all cases but the last two
+not-yet : (c : tie.After-quiet-between2) {p : Permission}
+    → let a = c .before .before .before .before .before .before .before .before .before .args in
+    let end = a .self .clock + a .units in
+    p ≡ firstOf (quietIn (inUse (a .self)) (a .self .clock + 1) (upTo (a .self .pending) end) gives Permission.QuietLater ∷ comesBefore (a .self .pending) end gives Permission.SwitchBefore ∷ [])
+    → p ≡ permissionOf (a .self) (a .units)
 unfolding permissionOf
-returns-5 c =
-    past _ _ (ne-eqb _ _ (c .before .before .before .before .before .before .before .before .before .if1 .left))
-    (past _ _ (le-ltb _ _ (c .before .before .before .before .before .before .before .before .if2 .left))
-    (past _ _ (no-silence (c .before .before .before .before .before))
-    (past _ _ (not-now (c .before .before .before))
-    (stop _ _ (sym (later (c .before)) ∙ c .if5 .taken)))))
+not-yet c e =
+    let now = c .before .before in
+    let silence = now .before .before in
+    let length = right-length (silence .before .before .before) in
+    past _ _ (length .0) (past _ _ (length .1) (past _ _ (no-silence silence) (past _ _ (not-now now) e)))
 
--- past all cases but the last
-last-case : (c : tie.Else5) {p : Permission}
-    → let a = c .before .before .before .before .before .before .before .before .before .before .args in
-    p ≡ firstOf (comesBefore (a .self .pending) (a .self .clock + a .units) gives Permission.SwitchBefore ∷ []) → p ≡ permissionOf (a .self) (a .units)
-unfolding permissionOf
-last-case c e =
-    past _ _ (ne-eqb _ _ (c .before .before .before .before .before .before .before .before .before .if1 .left))
-    (past _ _ (le-ltb _ _ (c .before .before .before .before .before .before .before .before .if2 .left))
-    (past _ _ (no-silence (c .before .before .before .before .before))
-    (past _ _ (not-now (c .before .before .before))
-    (past _ _ (sym (later (c .before)) ∙ c .if5 .left) e))))
+returns-5 : tie.Need-returns-5
+returns-5 c = let k = c .before in not-yet k (stop _ _ (sym (later k) ∙ c .if5 .taken))
 
 returns-6 : tie.Need-returns-6
-returns-6 c = last-case (c .before .before) (stop _ _ (sym (c .before .comes-before .ensures) ∙ c .if6 .taken))
+returns-6 c =
+    let k = c .before .before .before in
+    not-yet k (past _ _ (sym (later k) ∙ c .before .before .if5 .left) (stop _ _ (sym (c .before .comes-before .ensures) ∙ c .if6 .taken)))
 
 returns-7 : tie.Need-returns-7
-returns-7 c = last-case (c .before .before) (past _ _ (sym (c .before .comes-before .ensures) ∙ c .if6 .left) done)
+returns-7 c =
+    let k = c .before .before .before in
+    not-yet k (past _ _ (sym (later k) ∙ c .before .before .if5 .left) (past _ _ (sym (c .before .comes-before .ensures) ∙ c .if6 .left) done))
 
 pub ask-spec : {M : Type 1} → statement M
 ask-spec =

@@ -1,17 +1,41 @@
--- `Station::heard` meets its contract: each kind of frame picks its arm here and in the definition.
+-- `Station::heard` meets its contract: refused, or what the frame changes; where the frame is allowed, the station stays valid.
 -- Assumes nothing.
+use mathlib.Core.Path.{_≡_, sym, ap, _∙_, subst}
 use borrow.Author.Needs.{needs}
+use lib.ListN.{take}
+use Rattle.answer.specs.Checks.{accepted}
+use Rattle.frame.specs.Allowed.{ReadingAllowed}
+use Rattle.frame.specs.declared.Reading.{Reading}
+use Rattle.station.specs.Clock.{stepped}
+use Rattle.station.specs.Validity.{Valid}
+use Rattle.station.specs.declared.Station.{Station}
+use Rattle.station.specs.declared.clock.Stepped.{Stepped}
+use Rattle.station.proofs.Received.{heard-as}
+use Rattle.station.proofs.StaysValid.{valid-changed}
 use Rattle.station.proofs.Station.heard.Statement.{statement}
 use Rattle.station.proofs.Station.heard.Tie as tie
 
 returns : tie.Need-returns
-returns c = rw (c .before .before .frame .given .1) (c .told .ensures)
+returns c =
+    let s = c .before .before .before .before .before in
+    let a = s .args in
+    let same = c .refused .ensures in (
+      same ∙ ap (stepped (a .self)) (heard-as (a .self) (a .received) _ (c .before .before .reading .given .1)),
+      λ allowed. subst (λ (x : Stepped). Valid (x .station)) (sym same) (s .pre),
+    )
 
 returns-2 : tie.Need-returns-2
-returns-2 c = rw (c .before .before .frame2 .given .1) (c .told2 .ensures)
-
-returns-3 : tie.Need-returns-3
-returns-3 c = rw (c .before .before .frame3 .given .1) (c .announced .ensures)
+returns-2 c =
+    let s = c .before .before .before .before .before .before in
+    let a = s .args in
+    let v = a .received in
+    let qs = take (v .count) (v .quiets) in
+    let frame = c .before .before .before .reading2 .given in
+    let same = c .accepted .ensures ∙ ap (λ (x : Station). stepped (a .self) (accepted x)) (c .before .changed-by .ensures) in (
+      same ∙ ap (stepped (a .self)) (heard-as (a .self) v _ (frame .1)),
+      λ allowed. subst (λ (x : Stepped). Valid (x .station)) (sym same)
+          (valid-changed (a .self) (frame .0 .0) qs (s .pre) (subst (λ (r : Reading). ReadingAllowed (a .self .interval) r qs) (frame .1) allowed)),
+    )
 
 pub heard-spec : {M : Type 1} → statement M
 heard-spec =
@@ -20,17 +44,7 @@ heard-spec =
     (λ c. search needs)
     (λ c κs. search needs)
     (λ c. search needs)
+    (λ c κs. c .before .before .before .before .pre .interval-positive)
     (λ c κs. search needs)
-    (λ c. search needs)
-    (λ c κs. search needs)
-    (λ c. search needs)
-    (λ c. search needs)
-    (λ c. search needs)
-    (λ c. search needs)
     returns
-    returns-2
-    returns-3
-    (λ c. search needs)
-    (λ c. search needs)
-    (λ c. search needs)
-    (λ c. search needs))
+    returns-2)

@@ -10,7 +10,7 @@ use Rattle.answer.specs.declared.Refusal.{Refusal}
 use Rattle.station.specs.Starting.{started, startMeans}
 use Rattle.station.specs.Validity.{Valid}
 use Rattle.station.specs.declared.Station.{Station}
-use Rattle.station.proofs.Keeping.{valid-fresh}
+use Rattle.station.proofs.StaysValid.{valid-fresh}
 use Rattle.station.proofs.Station.start.Statement.{statement}
 use Rattle.station.proofs.Station.start.Tie as tie
 

@@ -1,0 +1,92 @@
+-- `element_of` meets its contract: an ID picks its arm here and in the definition, and there its reader tells what it means.
+-- Assumes nothing.
+use mathlib.Core.Path.{sym, ap, _∙_}
+use denote.Ref.{now}
+use borrow.Author.Needs.{needs}
+use Rattle.element.specs.ChannelSwitch.{switchTold}
+use Rattle.element.specs.PowerConstraint.{powerTold}
+use Rattle.element.specs.Quiet.{quietTold}
+use Rattle.element.specs.TpcReport.{tpcReportTold}
+use Rattle.beacon.proofs.Saying.{is-power, is-report, is-switch, is-quiet, is-other}
+use Rattle.beacon.proofs.elements.element_of.Statement.{statement}
+use Rattle.beacon.proofs.elements.element_of.Tie as tie
+
+returns : tie.Need-returns
+returns c =
+    let k = c .before .before .before in
+    let a = k .before .before .before .args in
+    is-power (a .interval) (a .id) (now (a .contents)) (k .before .match .keys1) (ap powerTold (sym (c .before .refusal .given .1)) ∙ k .read .ensures)
+
+returns-2 : tie.Need-returns-2
+returns-2 c =
+    let k = c .before .before .before in
+    let a = k .before .before .before .args in
+    is-power (a .interval) (a .id) (now (a .contents)) (k .before .match .keys1) (ap powerTold (sym (c .before .power .given .1)) ∙ k .read .ensures)
+
+returns-3 : tie.Need-returns-3
+returns-3 c =
+    let k = c .before .before .before in
+    let a = k .before .before .before .args in
+    is-report (a .interval) (a .id) (now (a .contents)) (k .before .match .keys2) (ap tpcReportTold (sym (c .before .refusal2 .given .1)) ∙ k .read2 .ensures)
+
+returns-4 : tie.Need-returns-4
+returns-4 c =
+    let k = c .before .before .before in
+    let a = k .before .before .before .args in
+    is-report (a .interval) (a .id) (now (a .contents)) (k .before .match .keys2) (ap tpcReportTold (sym (c .before .report .given .1)) ∙ k .read2 .ensures)
+
+returns-5 : tie.Need-returns-5
+returns-5 c =
+    let k = c .before .before .before in
+    let a = k .before .before .before .args in
+    is-switch (a .interval) (a .id) (now (a .contents)) (k .before .match .keys3) (ap switchTold (sym (c .before .refusal3 .given .1)) ∙ k .read3 .ensures)
+
+returns-6 : tie.Need-returns-6
+returns-6 c =
+    let k = c .before .before .before in
+    let a = k .before .before .before .args in
+    is-switch (a .interval) (a .id) (now (a .contents)) (k .before .match .keys3) (ap switchTold (sym (c .before .switch .given .1)) ∙ k .read3 .ensures)
+
+returns-7 : tie.Need-returns-7
+returns-7 c =
+    let k = c .before .before .before in
+    let a = k .before .before .before .args in
+    is-quiet (a .interval) (a .id) (now (a .contents)) (k .before .match .keys4) (ap quietTold (sym (c .before .refusal4 .given .1)) ∙ k .read4 .ensures)
+
+returns-8 : tie.Need-returns-8
+returns-8 c =
+    let k = c .before .before .before in
+    let a = k .before .before .before .args in
+    is-quiet (a .interval) (a .id) (now (a .contents)) (k .before .match .keys4) (ap quietTold (sym (c .before .quiet .given .1)) ∙ k .read4 .ensures)
+
+returns-9 : tie.Need-returns-9
+returns-9 c =
+    let a = c .before .before .args in
+    let r = c .match .rest in
+    is-other (a .interval) (a .id) (now (a .contents)) (r .0 .0 .0 .1) (r .0 .0 .1) (r .0 .1) (r .1)
+
+pub element-of-spec : {M : Type 1} → statement M
+element-of-spec =
+    tie.close
+    (tie.spec
+    (λ c κs. search needs)
+    (λ c. search needs)
+    (λ c. search needs)
+    (λ c κs. search needs)
+    (λ c. search needs)
+    (λ c. search needs)
+    (λ c κs. search needs)
+    (λ c. search needs)
+    (λ c. search needs)
+    (λ c κs. search needs)
+    (λ c. search needs)
+    (λ c. search needs)
+    returns
+    returns-2
+    returns-3
+    returns-4
+    returns-5
+    returns-6
+    returns-7
+    returns-8
+    returns-9)
