@@ -23,7 +23,8 @@ use Rattle.frame.proofs.SingleTrip.{followed}
 use Rattle.frame.specs.Actions.{Body, requests, reports, tpcRequest, tpcReport, switch, actionMeans, actionOctets, actionMay, ActionFits, actionInterpreted, actionClear}
 use Rattle.frame.specs.Frames.{action, Sent, kindOf, frameMeans}
 use Rattle.header.specs.Headers.{subtype, subtypeOf, toAll, foreignHeader, foreignAddress, headerMeans}
-use Rattle.header.specs.declared.Subtype.{Subtype}
+use Rattle.header.proofs.Heard.{not-too-long, heard-as}
+use Rattle.header.specs.declared.management.Subtype.{Subtype}
 use Rattle.measurement_body.proofs.NeverLonger.{never-longer}
 use Rattle.measurement_body.proofs.RunLaws.{octets-after}
 use Rattle.measurement_body.specs.Bodies.{longestBody}
@@ -87,12 +88,10 @@ body-written-back c body buffer o e i k short room =
 module _ (own ap' : List ℕ) (b : ℕ) (f : List ℕ) where
   -- the body of an accepted frame is never too long
   pub accepted-short : (x : Sent) → frameMeans own ap' b f ≡ accepted x → length (drop 24 f) ≤ longestBody
-  unfolding frameMeans headerMeans
+  unfolding frameMeans
   accepted-short x e =
       let h = followed (headerMeans own ap' f) _ x e in
-      let p = passed _ _ _ (h .1) in
-      let q = passed _ _ _ (p .1) in
-      omega (arith, ltb-false 2336 (length f) (q .0), length-drop 24 f)
+      omega (arith, not-too-long own ap' f (h .0) (h .1), length-drop 24 f)
 
   -- what an accepted action frame says is what its body means
   body-means : (s : Subtype) (body : Body) → kindOf b s (drop 24 f) ≡ accepted (action body) → actionMeans (drop 24 f) ≡ accepted body
@@ -127,13 +126,8 @@ module _ (own ap' : List ℕ) (b : ℕ) (f : List ℕ) where
   pub frame-read-back : (body : Body) → ActionFits body → actionMay body ≡ true → length (actionOctets body) ≤ longestBody
       → 24 ≤ length f → foreignHeader f ≡ false → foreignAddress own ap' f ≡ false → subtypeOf (subtype f) ≡ Subtype.Action
       → drop 24 f ≡ actionOctets body → frameMeans own ap' b f ≡ accepted (record { toAll = toAll f; kind = action body })
-  unfolding frameMeans headerMeans
+  unfolding frameMeans
   frame-read-back body fits m short long h a s e =
       let size = ap length e in
-      let head : headerMeans own ap' f ≡ accepted (record { subtype = Subtype.Action; toAll = toAll f }) =
-      sym
-      (past _ _ _ (le-ltb (length f) 24 long)
-      (past _ _ _ (le-ltb 2336 (length f) (omega (arith, length-drop 24 f)))
-      (past _ _ _ h (past _ _ _ a (ap (λ (t : Subtype). accepted (record { subtype = t; toAll = toAll f })) (sym s) ∙ done _)))))
-      in
+      let head = heard-as own ap' f Subtype.Action (toAll f) long (omega (arith, length-drop 24 f)) h a s refl in
       rw (head, e, action-trip .there body fits m)

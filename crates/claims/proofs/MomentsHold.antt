@@ -10,7 +10,7 @@ use Rattle.element.specs.Quiet.{quietMeans}
 use Rattle.fraction.specs.Fractions.{ceiling, fractionOf, possible, densitiesOf}
 use Rattle.frame.specs.Actions.{actionMeans}
 use Rattle.frame.specs.Frames.{frameMeans}
-use Rattle.header.specs.Headers.{foreignHeader, foreignAddress, toAll, headerMeans}
+use Rattle.header.specs.Headers.{foreignHeader, foreignAddress, toAll, headerMeans, managementMeans, addressMeans}
 use Rattle.schedule.specs.Schedules.{covered}
 use Rattle.schedule.specs.Units.{someUnit}
 use Rattle.station.specs.Asking.{firstOf, quietIn, permissionOf}
@@ -21,5 +21,5 @@ use Rattle.claims.specs.Moments.{AllRight, moments}
 use Rattle.claims.specs.Records.{recordAfter}
 
 pub all-right : AllRight moments
-unfolding recordAfter takeMeans frameMeans headerMeans foreignHeader foreignAddress toAll beaconMeans checked says takes elementsIn elementsAfter quietMeans switchMeans fixed actionMeans opensWith sole single announced told advanceMeans permissionOf firstOf quietIn someUnit covered densitiesOf possible fractionOf ceiling
+unfolding recordAfter takeMeans frameMeans headerMeans managementMeans addressMeans foreignHeader foreignAddress toAll beaconMeans checked says takes elementsIn elementsAfter quietMeans switchMeans fixed actionMeans opensWith sole single announced told advanceMeans permissionOf firstOf quietIn someUnit covered densitiesOf possible fractionOf ceiling
 all-right = (refl, (refl, (refl, (refl, (refl, (refl, (refl, (refl, (refl, (refl, (refl, (refl, (refl, ((refl, refl), tt))))))))))))))

@@ -26,7 +26,7 @@ use Rattle.frame.specs.Laid.{frameTold}
 use Rattle.frame.specs.declared.Frame.{Frame}
 use Rattle.frame.specs.declared.Reading.{Reading}
 use Rattle.header.proofs.read as Header-read
-use Rattle.header.specs.Headers.{Head, told}
+use Rattle.header.specs.Headers.{Head, headerTold}
 use Rattle.header.specs.declared.Header.{Header}
 use Rattle.measurement_body.proofs.reports.append as Reports-append
 use Rattle.measurement_body.proofs.reports.survey as Reports-survey

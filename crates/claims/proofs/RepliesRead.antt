@@ -28,7 +28,8 @@ use Rattle.frame.proofs.ActionTrip.{action-trip}
 use Rattle.frame.specs.Actions.{Body, requests, reports, tpcRequest, tpcReport, switch, actionMeans, actionOctets, actionMay, ActionFits}
 use Rattle.frame.specs.Frames.{action, frameMeans}
 use Rattle.header.specs.Headers.{same, toAll, foreignHeader, foreignAddress, headerMeans}
-use Rattle.header.specs.declared.Subtype.{Subtype}
+use Rattle.header.proofs.Heard.{heard-as}
+use Rattle.header.specs.declared.management.Subtype.{Subtype}
 use Rattle.measurement_body.specs.Bodies.{bodyOctets}
 use Rattle.measurement_body.specs.Lists.{nth, mayAll, mayList}
 use Rattle.measurement_body.specs.Reports.{reportSort}
@@ -77,13 +78,7 @@ module _ (o₀ o₁ o₂ o₃ o₄ o₅ a₀ a₁ a₂ a₃ a₄ a₅ : ℕ) (bo
   from-ap = rw (same-self master, same-self own)
 
   headed : headerMeans own master heard ≡ accepted (record { subtype = Subtype.Action; toAll = false })
-  unfolding headerMeans
-  headed =
-      sym
-      (past _ _ _ (le-ltb (length heard) 24 (omega arith))
-      (past _ _ _ (le-ltb 2336 (length heard) (omega arith))
-      (past _ _ _ not-foreign
-      (past _ _ _ from-ap (ap (λ (t : Bool). accepted (record { subtype = Subtype.Action; toAll = t })) (sym not-to-all) ∙ done _)))))
+  headed = heard-as own master heard Subtype.Action false (omega arith) (omega arith) not-foreign from-ap refl not-to-all
 
   framed : (b : ℕ) (k : Body) → actionMeans body ≡ accepted k → frameMeans own master b heard ≡ accepted (record { toAll = false; kind = action k })
   unfolding frameMeans

@@ -15,7 +15,7 @@ use Rattle.element.specs.PowerConstraint.{powerMeans}
 use Rattle.element.specs.Quiet.{quietMeans}
 use Rattle.frame.specs.Actions.{actionMeans}
 use Rattle.frame.specs.Frames.{frameMeans}
-use Rattle.header.specs.Headers.{foreignHeader, foreignAddress, toAll, headerMeans}
+use Rattle.header.specs.Headers.{foreignHeader, foreignAddress, toAll, headerMeans, managementMeans, addressMeans}
 use Rattle.pending.specs.declared.Pending.{Pending}
 use Rattle.schedule.specs.Schedules.{covered}
 use Rattle.schedule.specs.Units.{someUnit}
@@ -60,27 +60,27 @@ witnesses =
     ∷ []
 
 pub witnesses-right : AllRight witnesses
-unfolding recordAfter takeMeans frameMeans headerMeans foreignHeader foreignAddress toAll beaconMeans checked says takes elementsIn elementsAfter quietMeans switchMeans fixed actionMeans opensWith sole single announced told advanceMeans permissionOf firstOf quietIn someUnit covered
+unfolding recordAfter takeMeans frameMeans headerMeans managementMeans addressMeans foreignHeader foreignAddress toAll beaconMeans checked says takes elementsIn elementsAfter quietMeans switchMeans fixed actionMeans opensWith sole single announced told advanceMeans permissionOf firstOf quietIn someUnit covered
 witnesses-right = (refl, (refl, (refl, (refl, (refl, (refl, (refl, (refl, (refl, (refl, tt))))))))))
 
 -- ---- the record
 
 -- a Power Constraint is kept
 pub constraint-kept : recordAfter ours (beaconOf constraint ∷ []) .power ≡ MaybePower.Is (record { decibels = 3 })
-unfolding recordAfter takeMeans frameMeans headerMeans foreignHeader foreignAddress toAll beaconMeans checked says takes elementsIn elementsAfter powerMeans fixed announced told
+unfolding recordAfter takeMeans frameMeans headerMeans managementMeans addressMeans foreignHeader foreignAddress toAll beaconMeans checked says takes elementsIn elementsAfter powerMeans fixed announced told
 constraint-kept = refl
 
 -- and does not outlive a switch
 pub constraint-gone : recordAfter ours (advance 100 ∷ announcement 0 ∷ beaconOf constraint ∷ []) .power ≡ MaybePower.Absent
-unfolding recordAfter takeMeans frameMeans headerMeans foreignHeader foreignAddress toAll beaconMeans checked says takes elementsIn elementsAfter powerMeans switchMeans fixed actionMeans opensWith sole single announced told advanceMeans
+unfolding recordAfter takeMeans frameMeans headerMeans managementMeans addressMeans foreignHeader foreignAddress toAll beaconMeans checked says takes elementsIn elementsAfter powerMeans switchMeans fixed actionMeans opensWith sole single announced told advanceMeans
 constraint-gone = refl
 
 -- a switch is for the next TBTT, wherever in the interval it was announced
 pub counted-from-tbtt : recordAfter ours (announcement 0 ∷ advance 99 ∷ []) .pending ≡ Pending.Switch 100 0 40
-unfolding recordAfter takeMeans frameMeans headerMeans foreignHeader foreignAddress toAll checked elementsIn elementsAfter switchMeans fixed actionMeans opensWith sole single announced told advanceMeans
+unfolding recordAfter takeMeans frameMeans headerMeans managementMeans addressMeans foreignHeader foreignAddress toAll checked elementsIn elementsAfter switchMeans fixed actionMeans opensWith sole single announced told advanceMeans
 counted-from-tbtt = refl
 
 -- and when it comes, the channel is the new one
 pub channel-new : recordAfter ours (advance 1 ∷ announcement 0 ∷ advance 99 ∷ []) .channel ≡ 40
-unfolding recordAfter takeMeans frameMeans headerMeans foreignHeader foreignAddress toAll checked elementsIn elementsAfter switchMeans fixed actionMeans opensWith sole single announced told advanceMeans
+unfolding recordAfter takeMeans frameMeans headerMeans managementMeans addressMeans foreignHeader foreignAddress toAll checked elementsIn elementsAfter switchMeans fixed actionMeans opensWith sole single announced told advanceMeans
 channel-new = refl

@@ -12,6 +12,7 @@ use Rattle.beacon.specs.Beacons.{Told, beaconMeans}
 use Rattle.beacon.specs.Laid.{laid}
 use Rattle.beacon.specs.declared.Heard.{Heard}
 use Rattle.header.specs.Headers.{Head, headerMeans}
+use Rattle.header.proofs.Heard.{has-header}
 use Rattle.frame.specs.Actions.{Body}
 use Rattle.frame.specs.Frames.{Kind, beacon, probeResponse, action, kindOf, sent, frameMeans}
 use Rattle.frame.specs.Laid.{actionFrame, bodyFrame, received, frameLaid, noticeSubtype}
@@ -80,5 +81,4 @@ module _ (own ap' : List ℕ) (b : ℕ) (f : List ℕ) where
 
   -- a frame whose header is read has one
   pub headed : (h : Head) → accepted h ≡ headerMeans own ap' f → 24 ≤ length f
-  unfolding headerMeans
-  headed h e = ltb-false (length f) 24 (passed _ _ _ (sym e) .0)
+  headed h e = has-header own ap' f h (sym e)

@@ -10,7 +10,7 @@ use Rattle.beacon.specs.Beacons.{Told, beaconMeans}
 use Rattle.measurement_element.specs.declared.measurement_report.Report.{Report}
 use Rattle.measurement_element.specs.declared.measurement_request.Request.{Request}
 use Rattle.header.specs.Headers.{headerMeans}
-use Rattle.header.specs.declared.Subtype.{Subtype}
+use Rattle.header.specs.declared.management.Subtype.{Subtype}
 use Rattle.measurement_body.specs.Lists.{nth}
 use Rattle.frame.specs.Actions.{Body, requests, reports, tpcRequest, tpcReport, switch, actionMeans}
 

@@ -10,7 +10,7 @@ use Rattle.answer.specs.declared.Refusal.{Refusal}
 use Rattle.beacon.specs.Beacons.{Told}
 use Rattle.beacon.specs.Laid.{slots}
 use Rattle.element.specs.declared.quiet.Quiet.{Quiet}
-use Rattle.header.specs.declared.Subtype.{Subtype}
+use Rattle.header.specs.declared.management.Subtype.{Subtype}
 use Rattle.frame.specs.Actions.{Body, requests, reports, tpcRequest, tpcReport, switch}
 use Rattle.frame.specs.Frames.{Kind, beacon, probeResponse, action, Sent}
 use Rattle.frame.specs.declared.Frame.{Frame}

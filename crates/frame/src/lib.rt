@@ -10,7 +10,7 @@ ghost use mathlib.Core.Path.{_≡_};
 ghost use mathlib.Core.List.{[]};
 ghost use Rattle.frame.specs.Frames.{kindOf, sent, frameMeans};
 ghost use Rattle.frame.specs.Laid.{received, frameLaid, noticeSubtype};
-ghost use Rattle.header.specs.declared.Subtype.{Subtype};
+ghost use Rattle.header.specs.declared.management.Subtype.{Subtype};
 use answer::Answer;
 use answer::Refusal;
 use beacon::NO_QUIET;

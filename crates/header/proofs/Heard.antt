@@ -1,15 +1,37 @@
--- What an accepted header says of the frame's length. Assumes nothing.
+-- What an accepted header says of the frame, and which headers are accepted. Assumes nothing.
+use mathlib.Core.Bool.{Bool, false}
 use mathlib.Core.List.{List, _∷_}
-use mathlib.Core.Path.{_≡_}
+use mathlib.Core.Path.{_≡_, sym, ap, ap₂, _∙_}
 use Prim.Native.Nat.{ℕ, _≤_}
-use borrow.Author.Tests.{ltb-false}
+use borrow.Author.Tests.{ltb-false, le-ltb}
 use lib.Dec.{ltb}
 use lib.ListN.{length}
-use Rattle.answer.proofs.Judged.{passed, followed}
-use Rattle.answer.specs.Checks.{Outcome, refused, accepted}
-use Rattle.header.specs.Headers.{Head, headerLength, managementMeans, headerMeans}
+use Rattle.answer.proofs.Judged.{passed, followed, past, done}
+use Rattle.answer.specs.Checks.{Outcome, refused, accepted, andThen}
+use Rattle.header.specs.Headers.{Head, headerLength, longestFrame, subtype, subtypeOf, toAll, foreignHeader, foreignAddress, managementMeans, addressMeans, headerMeans}
+use Rattle.header.specs.declared.management.Subtype.{Subtype}
 
--- it has a whole header, and so a body from there on
-pub has-header : (own ap f : List ℕ) (h : Head) → headerMeans own ap f ≡ accepted h → headerLength ≤ length f
-unfolding headerMeans managementMeans
-has-header own ap f h e = ltb-false (length f) headerLength (passed _ _ _ (followed (managementMeans f) _ h e .1) .0)
+module _ (own ap' f : List ℕ) where
+  module _ (h : Head) (e : headerMeans own ap' f ≡ accepted h) where
+    of-management : (s : Subtype) × (managementMeans f ≡ accepted s)
+    unfolding headerMeans
+    of-management = let p = followed (managementMeans f) _ h e in (p .0, p .1)
+
+    -- it has a whole header, and so a body from there on
+    pub has-header : headerLength ≤ length f
+    unfolding managementMeans
+    has-header = ltb-false (length f) headerLength (passed _ _ _ (of-management .1) .0)
+
+    pub not-too-long : length f ≤ longestFrame
+    unfolding managementMeans
+    not-too-long = ltb-false longestFrame (length f) (passed _ _ _ (passed _ _ _ (of-management .1) .1) .0)
+
+  -- past each check
+  pub heard-as : (s : Subtype) (t : Bool) → headerLength ≤ length f → length f ≤ longestFrame → foreignHeader f ≡ false → foreignAddress own ap' f ≡ false
+      → subtypeOf (subtype f) ≡ s → toAll f ≡ t → headerMeans own ap' f ≡ accepted (record { subtype = s; toAll = t })
+  unfolding headerMeans managementMeans addressMeans
+  heard-as s t long short header address is to =
+      let managed : managementMeans f ≡ accepted s =
+      sym (past _ _ _ (le-ltb (length f) headerLength long) (past _ _ _ (le-ltb longestFrame (length f) short) (past _ _ _ header (ap accepted (sym is) ∙ done _)))) in
+      let addressed : addressMeans own ap' f ≡ accepted t = sym (past _ _ _ address (ap accepted (sym to) ∙ done _)) in
+      rw (managed, addressed)

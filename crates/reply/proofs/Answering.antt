@@ -17,7 +17,8 @@ use Rattle.measurement_element.specs.declared.measurement_request.Request.{Requ
 use Rattle.element.specs.declared.tpc_report.TpcReport.{TpcReport}
 use Rattle.frame.specs.Actions.{Body, requests, reports, tpcRequest, tpcReport, switch, actionMeans}
 use Rattle.header.specs.Headers.{Head, headerMeans}
-use Rattle.header.specs.declared.Subtype.{Subtype}
+use Rattle.header.proofs.Heard.{has-header}
+use Rattle.header.specs.declared.management.Subtype.{Subtype}
 use Rattle.octets.specs.Writing.{wrote, left, Written}
 use Rattle.octets.specs.declared.writing.Wrote.{Wrote}
 use Rattle.octets.proofs.Storing.{not-answer, left-not}
@@ -87,9 +88,8 @@ module _ (own ap' f : List ℕ) (body : Body) where
 
   by-header : (o : Outcome Head) → headerMeans own ap' f ≡ o → andThen o (afterHeader f) ≡ accepted body
       → (24 ≤ length f) × (actionMeans (drop 24 f) ≡ accepted body)
-  unfolding headerMeans
   by-header (refused r) h e = absurd (never e)
-  by-header (accepted x) h e = (ltb-false (length f) 24 (passed _ _ _ h .0), after (x .subtype) (x .toAll) e)
+  by-header (accepted x) h e = (has-header own ap' f x h, after (x .subtype) (x .toAll) e)
 
   pub due-body : dueMeans own ap' f ≡ accepted body → (24 ≤ length f) × (actionMeans (drop 24 f) ≡ accepted body)
   unfolding dueMeans

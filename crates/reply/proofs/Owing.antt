@@ -12,7 +12,8 @@ use Rattle.frame.specs.Actions.{Body, requests, reports, tpcRequest, tpcReport,
 use Rattle.frame.specs.Laid.{actionFrame, bodyFrame}
 use Rattle.frame.specs.declared.Frame.{Frame}
 use Rattle.header.specs.Headers.{Head, headerMeans}
-use Rattle.header.specs.declared.Subtype.{Subtype}
+use Rattle.header.proofs.Heard.{has-header}
+use Rattle.header.specs.declared.management.Subtype.{Subtype}
 use Rattle.reply.specs.Due.{orNone, bySubtype, afterHeader, dueMeans, dueOf}
 use Rattle.reply.specs.declared.due.Due.{Due}
 
@@ -70,5 +71,4 @@ module _ (own ap' f : List ℕ) where
 
   -- a frame whose header is read has one
   pub headed : (h : Head) → accepted h ≡ headerMeans own ap' f → 24 ≤ length f
-  unfolding headerMeans
-  headed h e = ltb-false (length f) 24 (passed _ _ _ (sym e) .0)
+  headed h e = has-header own ap' f h (sym e)

@@ -7,7 +7,7 @@ use Rattle.answer.specs.Checks.{Outcome, refused, accepted, pick, andThen}
 use Rattle.answer.specs.declared.Refusal.{Refusal}
 use Rattle.frame.specs.Actions.{Body, requests, reports, tpcRequest, tpcReport, switch, actionMeans}
 use Rattle.header.specs.Headers.{Head, headerMeans}
-use Rattle.header.specs.declared.Subtype.{Subtype}
+use Rattle.header.specs.declared.management.Subtype.{Subtype}
 use Rattle.reply.specs.declared.due.Due.{Due}
 
 -- a broken body is due none

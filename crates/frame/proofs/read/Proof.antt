@@ -3,8 +3,8 @@ use mathlib.Core.Path.{sym, ap, _∙_}
 use mathlib.Core.List.{List}
 use Prim.Native.Nat.{ℕ, _≤_}
 use lib.ListN.{length, drop}
-use Rattle.header.specs.Headers.{told}
-use Rattle.header.specs.declared.Subtype.{Subtype}
+use Rattle.header.specs.Headers.{headerTold}
+use Rattle.header.specs.declared.management.Subtype.{Subtype}
 use Rattle.frame.specs.Frames.{kindOf, sent}
 use Rattle.frame.specs.Laid.{frameLaid}
 use Rattle.frame.proofs.Handing.{framed, headed}
@@ -15,7 +15,7 @@ use Rattle.frame.proofs.read.Tie as tie
 
 -- there is a body
 long : (c : tie.After-known-told2) → 24 ≤ length (c .before .before .before .before .before .args .frame .now)
-long c = headed (c .before .before .before .before .before .args .own) (c .before .before .before .before .before .args .ap) (c .before .before .before .before .before .args .interval) (c .before .before .before .before .before .args .frame .now) _ (ap told (sym (c .before .subtype .given .1)) ∙ c .before .before .before .read .ensures)
+long c = headed (c .before .before .before .before .before .args .own) (c .before .before .before .before .before .args .ap) (c .before .before .before .before .before .args .interval) (c .before .before .before .before .before .args .frame .now) _ (ap headerTold (sym (c .before .subtype .given .1)) ∙ c .before .before .before .read .ensures)
 
 sub-body : tie.Need-sub-body
 sub-body c = long c
@@ -24,7 +24,7 @@ part-body-start : tie.Need-part-body-start
 part-body-start c = long c
 
 returns : tie.Need-returns
-returns c = c .alone .ensures ∙ ap frameLaid (framed (c .before .before .before .before .before .before .args .own) (c .before .before .before .before .before .before .args .ap) (c .before .before .before .before .before .before .args .interval) (c .before .before .before .before .before .before .args .frame .now) _ (ap told (sym (c .before .before .refusal .given .1)) ∙ c .before .before .before .before .read .ensures))
+returns c = c .alone .ensures ∙ ap frameLaid (framed (c .before .before .before .before .before .before .args .own) (c .before .before .before .before .before .before .args .ap) (c .before .before .before .before .before .before .args .interval) (c .before .before .before .before .before .before .args .frame .now) _ (ap headerTold (sym (c .before .before .refusal .given .1)) ∙ c .before .before .before .before .read .ensures))
 
 returns-2 : tie.Need-returns-2
 returns-2 c =
@@ -32,7 +32,7 @@ returns-2 c =
     c .read-notice .ensures
     ∙ ap (λ (s : List ℕ). frameLaid (sent (c .before .before .before .before .before .subtype .given .0 .1 .0) (kindOf (a .interval) Subtype.Beacon s))) (tail 24 (a .frame .now))
     ∙ ap (λ (t : Subtype). frameLaid (sent (c .before .before .before .before .before .subtype .given .0 .1 .0) (kindOf (a .interval) t (drop 24 (a .frame .now))))) (sym (c .before .enum-told .given .1))
-    ∙ ap frameLaid (framed (c .before .before .before .before .before .before .before .before .before .args .own) (c .before .before .before .before .before .before .before .before .before .args .ap) (c .before .before .before .before .before .before .before .before .before .args .interval) (c .before .before .before .before .before .before .before .before .before .args .frame .now) _ (ap told (sym (c .before .before .before .before .before .subtype .given .1)) ∙ c .before .before .before .before .before .before .before .read .ensures))
+    ∙ ap frameLaid (framed (c .before .before .before .before .before .before .before .before .before .args .own) (c .before .before .before .before .before .before .before .before .before .args .ap) (c .before .before .before .before .before .before .before .before .before .args .interval) (c .before .before .before .before .before .before .before .before .before .args .frame .now) _ (ap headerTold (sym (c .before .before .before .before .before .subtype .given .1)) ∙ c .before .before .before .before .before .before .before .read .ensures))
 
 returns-3 : tie.Need-returns-3
 returns-3 c =
@@ -40,7 +40,7 @@ returns-3 c =
     c .read-notice2 .ensures
     ∙ ap (λ (s : List ℕ). frameLaid (sent (c .before .before .before .before .before .subtype .given .0 .1 .0) (kindOf (a .interval) Subtype.ProbeResponse s))) (tail 24 (a .frame .now))
     ∙ ap (λ (t : Subtype). frameLaid (sent (c .before .before .before .before .before .subtype .given .0 .1 .0) (kindOf (a .interval) t (drop 24 (a .frame .now))))) (sym (c .before .enum-told2 .given .1))
-    ∙ ap frameLaid (framed (c .before .before .before .before .before .before .before .before .before .args .own) (c .before .before .before .before .before .before .before .before .before .args .ap) (c .before .before .before .before .before .before .before .before .before .args .interval) (c .before .before .before .before .before .before .before .before .before .args .frame .now) _ (ap told (sym (c .before .before .before .before .before .subtype .given .1)) ∙ c .before .before .before .before .before .before .before .read .ensures))
+    ∙ ap frameLaid (framed (c .before .before .before .before .before .before .before .before .before .args .own) (c .before .before .before .before .before .before .before .before .before .args .ap) (c .before .before .before .before .before .before .before .before .before .args .interval) (c .before .before .before .before .before .before .before .before .before .args .frame .now) _ (ap headerTold (sym (c .before .before .before .before .before .subtype .given .1)) ∙ c .before .before .before .before .before .before .before .read .ensures))
 
 returns-4 : tie.Need-returns-4
 returns-4 c =
@@ -48,7 +48,7 @@ returns-4 c =
     c .read-action .ensures
     ∙ ap (λ (s : List ℕ). frameLaid (sent (c .before .before .before .before .before .subtype .given .0 .1 .0) (kindOf (a .interval) Subtype.Action s))) (tail 24 (a .frame .now))
     ∙ ap (λ (t : Subtype). frameLaid (sent (c .before .before .before .before .before .subtype .given .0 .1 .0) (kindOf (a .interval) t (drop 24 (a .frame .now))))) (sym (c .before .enum-told3 .given .1))
-    ∙ ap frameLaid (framed (c .before .before .before .before .before .before .before .before .before .args .own) (c .before .before .before .before .before .before .before .before .before .args .ap) (c .before .before .before .before .before .before .before .before .before .args .interval) (c .before .before .before .before .before .before .before .before .before .args .frame .now) _ (ap told (sym (c .before .before .before .before .before .subtype .given .1)) ∙ c .before .before .before .before .before .before .before .read .ensures))
+    ∙ ap frameLaid (framed (c .before .before .before .before .before .before .before .before .before .args .own) (c .before .before .before .before .before .before .before .before .before .args .ap) (c .before .before .before .before .before .before .before .before .before .args .interval) (c .before .before .before .before .before .before .before .before .before .args .frame .now) _ (ap headerTold (sym (c .before .before .before .before .before .subtype .given .1)) ∙ c .before .before .before .before .before .before .before .read .ensures))
 
 pub read-spec : {M : Type 1} → statement M
 read-spec =

@@ -7,8 +7,8 @@ use Rattle.answer.specs.Checks.{Outcome, refused}
 use Rattle.answer.specs.declared.Refusal.{Refusal}
 use Rattle.beacon.specs.Beacons.{beaconMeans}
 use Rattle.measurement_element.specs.MeasurementReport.{reportLaid}
-use Rattle.header.specs.Headers.{told}
-use Rattle.header.specs.declared.Subtype.{Subtype}
+use Rattle.header.specs.Headers.{headerTold}
+use Rattle.header.specs.declared.management.Subtype.{Subtype}
 use Rattle.frame.specs.Actions.{actionMeans}
 use Rattle.frame.specs.Frames.{Sent, kindOf, sent, reportIn, elementOf}
 use Rattle.frame.proofs.Handing.{framed, headed}
@@ -20,7 +20,7 @@ use Rattle.frame.proofs.index.report_at.Tie as tie
 
 -- there is a body
 long : (c : tie.After-known-told2) → 24 ≤ length (c .before .before .before .before .before .args .frame .now)
-long c = headed (c .before .before .before .before .before .args .own) (c .before .before .before .before .before .args .ap) (c .before .before .before .before .before .args .interval) (c .before .before .before .before .before .args .frame .now) _ (ap told (sym (c .before .subtype .given .1)) ∙ c .before .before .before .read .ensures)
+long c = headed (c .before .before .before .before .before .args .own) (c .before .before .before .before .before .args .ap) (c .before .before .before .before .before .args .interval) (c .before .before .before .before .before .args .frame .now) _ (ap headerTold (sym (c .before .subtype .given .1)) ∙ c .before .before .before .read .ensures)
 
 sub-body : tie.Need-sub-body
 sub-body c = long c
@@ -30,7 +30,7 @@ part-body-start c = long c
 
 returns : tie.Need-returns
 unfolding elementOf
-returns c = c .refused .ensures ∙ ap (λ (o : Outcome Sent). reportLaid (elementOf reportIn (c .before .before .before .before .before .before .args .index) o)) (framed (c .before .before .before .before .before .before .args .own) (c .before .before .before .before .before .before .args .ap) (c .before .before .before .before .before .before .args .interval) (c .before .before .before .before .before .before .args .frame .now) _ (ap told (sym (c .before .before .refusal .given .1)) ∙ c .before .before .before .before .read .ensures))
+returns c = c .refused .ensures ∙ ap (λ (o : Outcome Sent). reportLaid (elementOf reportIn (c .before .before .before .before .before .before .args .index) o)) (framed (c .before .before .before .before .before .before .args .own) (c .before .before .before .before .before .before .args .ap) (c .before .before .before .before .before .before .args .interval) (c .before .before .before .before .before .before .args .frame .now) _ (ap headerTold (sym (c .before .before .refusal .given .1)) ∙ c .before .before .before .before .read .ensures))
 
 returns-2 : tie.Need-returns-2
 returns-2 c =
@@ -38,7 +38,7 @@ returns-2 c =
     c .report-in .ensures ∙ ap reportLaid (of-action reportIn (a .index) (c .before .before .before .before .before .subtype .given .0 .1 .0) (actionMeans (take (length (a .frame .now) - 24) (drop 24 (a .frame .now)))))
     ∙ ap (λ (s : List ℕ). reportLaid (elementOf reportIn (a .index) (sent (c .before .before .before .before .before .subtype .given .0 .1 .0) (kindOf (a .interval) Subtype.Action s)))) (tail 24 (a .frame .now))
     ∙ ap (λ (t : Subtype). reportLaid (elementOf reportIn (a .index) (sent (c .before .before .before .before .before .subtype .given .0 .1 .0) (kindOf (a .interval) t (drop 24 (a .frame .now)))))) (sym (c .before .enum-told .given .1))
-    ∙ ap (λ (o : Outcome Sent). reportLaid (elementOf reportIn (a .index) o)) (framed (c .before .before .before .before .before .before .before .before .before .args .own) (c .before .before .before .before .before .before .before .before .before .args .ap) (c .before .before .before .before .before .before .before .before .before .args .interval) (c .before .before .before .before .before .before .before .before .before .args .frame .now) _ (ap told (sym (c .before .before .before .before .before .subtype .given .1)) ∙ c .before .before .before .before .before .before .before .read .ensures))
+    ∙ ap (λ (o : Outcome Sent). reportLaid (elementOf reportIn (a .index) o)) (framed (c .before .before .before .before .before .before .before .before .before .args .own) (c .before .before .before .before .before .before .before .before .before .args .ap) (c .before .before .before .before .before .before .before .before .before .args .interval) (c .before .before .before .before .before .before .before .before .before .args .frame .now) _ (ap headerTold (sym (c .before .before .before .before .before .subtype .given .1)) ∙ c .before .before .before .before .before .before .before .read .ensures))
 
 returns-3 : tie.Need-returns-3
 returns-3 c =
@@ -46,7 +46,7 @@ returns-3 c =
     c .refused2 .ensures ∙ ap (λ (r : Refusal). reportLaid (refused r)) (c .before .notice-refusal .ensures) ∙ ap reportLaid (of-beacon reportIn (a .index) (c .before .before .before .before .before .before .subtype .given .0 .1 .0) (beaconMeans (a .interval) (take (length (a .frame .now) - 24) (drop 24 (a .frame .now)))))
     ∙ ap (λ (s : List ℕ). reportLaid (elementOf reportIn (a .index) (sent (c .before .before .before .before .before .before .subtype .given .0 .1 .0) (kindOf (a .interval) Subtype.Beacon s)))) (tail 24 (a .frame .now))
     ∙ ap (λ (t : Subtype). reportLaid (elementOf reportIn (a .index) (sent (c .before .before .before .before .before .before .subtype .given .0 .1 .0) (kindOf (a .interval) t (drop 24 (a .frame .now)))))) (sym (c .before .before .enum-told2 .given .1))
-    ∙ ap (λ (o : Outcome Sent). reportLaid (elementOf reportIn (a .index) o)) (framed (c .before .before .before .before .before .before .before .before .before .before .args .own) (c .before .before .before .before .before .before .before .before .before .before .args .ap) (c .before .before .before .before .before .before .before .before .before .before .args .interval) (c .before .before .before .before .before .before .before .before .before .before .args .frame .now) _ (ap told (sym (c .before .before .before .before .before .before .subtype .given .1)) ∙ c .before .before .before .before .before .before .before .before .read .ensures))
+    ∙ ap (λ (o : Outcome Sent). reportLaid (elementOf reportIn (a .index) o)) (framed (c .before .before .before .before .before .before .before .before .before .before .args .own) (c .before .before .before .before .before .before .before .before .before .before .args .ap) (c .before .before .before .before .before .before .before .before .before .before .args .interval) (c .before .before .before .before .before .before .before .before .before .before .args .frame .now) _ (ap headerTold (sym (c .before .before .before .before .before .before .subtype .given .1)) ∙ c .before .before .before .before .before .before .before .before .read .ensures))
 
 returns-4 : tie.Need-returns-4
 returns-4 c =
@@ -54,7 +54,7 @@ returns-4 c =
     c .refused3 .ensures ∙ ap (λ (r : Refusal). reportLaid (refused r)) (c .before .notice-refusal2 .ensures) ∙ ap reportLaid (of-probe reportIn (a .index) (c .before .before .before .before .before .before .subtype .given .0 .1 .0) (beaconMeans (a .interval) (take (length (a .frame .now) - 24) (drop 24 (a .frame .now)))))
     ∙ ap (λ (s : List ℕ). reportLaid (elementOf reportIn (a .index) (sent (c .before .before .before .before .before .before .subtype .given .0 .1 .0) (kindOf (a .interval) Subtype.ProbeResponse s)))) (tail 24 (a .frame .now))
     ∙ ap (λ (t : Subtype). reportLaid (elementOf reportIn (a .index) (sent (c .before .before .before .before .before .before .subtype .given .0 .1 .0) (kindOf (a .interval) t (drop 24 (a .frame .now)))))) (sym (c .before .before .enum-told3 .given .1))
-    ∙ ap (λ (o : Outcome Sent). reportLaid (elementOf reportIn (a .index) o)) (framed (c .before .before .before .before .before .before .before .before .before .before .args .own) (c .before .before .before .before .before .before .before .before .before .before .args .ap) (c .before .before .before .before .before .before .before .before .before .before .args .interval) (c .before .before .before .before .before .before .before .before .before .before .args .frame .now) _ (ap told (sym (c .before .before .before .before .before .before .subtype .given .1)) ∙ c .before .before .before .before .before .before .before .before .read .ensures))
+    ∙ ap (λ (o : Outcome Sent). reportLaid (elementOf reportIn (a .index) o)) (framed (c .before .before .before .before .before .before .before .before .before .before .args .own) (c .before .before .before .before .before .before .before .before .before .before .args .ap) (c .before .before .before .before .before .before .before .before .before .before .args .interval) (c .before .before .before .before .before .before .before .before .before .before .args .frame .now) _ (ap headerTold (sym (c .before .before .before .before .before .before .subtype .given .1)) ∙ c .before .before .before .before .before .before .before .before .read .ensures))
 
 pub report-at-spec : {M : Type 1} → statement M
 report-at-spec =

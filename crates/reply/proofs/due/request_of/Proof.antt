@@ -9,8 +9,8 @@ use lib.ListN.{length, drop}
 use Rattle.answer.specs.Checks.{accepted}
 use Rattle.frame.proofs.Tails.{tail}
 use Rattle.frame.specs.Actions.{actionMeans}
-use Rattle.header.specs.Headers.{told, headerMeans}
-use Rattle.header.specs.declared.Subtype.{Subtype}
+use Rattle.header.specs.Headers.{headerTold, headerMeans}
+use Rattle.header.specs.declared.management.Subtype.{Subtype}
 use Rattle.reply.specs.Due.{orNone, bySubtype, dueMeans, dueOf}
 use Rattle.reply.proofs.Owing.{header-refused, to-all, by-kind, headed}
 use Rattle.reply.proofs.due.request_of.Statement.{statement}
@@ -21,7 +21,7 @@ read-as : (c : tie.After-known-told2)
     → let a = c .before .before .before .before .before .args in
     let g = c .before .subtype .given .0 in
     accepted (record { subtype = g .0; toAll = g .1 .0 }) ≡ headerMeans (a .own) (a .ap) (now (a .frame))
-read-as c = sym (ap told (c .before .subtype .given .1)) ∙ c .before .before .before .read .ensures
+read-as c = sym (ap headerTold (c .before .subtype .given .1)) ∙ c .before .before .before .read .ensures
 
 -- to the station: by its subtype
 by-subtype : (c : tie.Else1)
@@ -44,7 +44,7 @@ returns c =
 returns-2 : tie.Need-returns-2
 returns-2 c =
     let a = c .before .before .before .before .before .args in
-    header-refused (a .own) (a .ap) (now (a .frame)) _ (sym (ap told (c .before .refusal .given .1)) ∙ c .before .before .before .read .ensures)
+    header-refused (a .own) (a .ap) (now (a .frame)) _ (sym (ap headerTold (c .before .refusal .given .1)) ∙ c .before .before .before .read .ensures)
 
 returns-3 : tie.Need-returns-3
 returns-3 c =
