@@ -13,7 +13,7 @@ use Rattle.octets.specs.Writing.{left}
 use Rattle.octets.proofs.Storing.{left-not, left-short, left-nothing, left-length, left-after}
 use Rattle.capture.specs.Listers.{Fits}
 use Rattle.capture.specs.Lists.{Told, nothing, before, blockTold, blocksAfter, blocksIn, blocksTold, fileTold}
-use Rattle.boundary.specs.Passing.{Passed}
+use Rattle.boundary.specs.CodeTerms.Passing.{Passed}
 use Rattle.capture.specs.declared.lister.Lister.{Lister}
 use Rattle.boundary.specs.declared.whole.Progress.{Progress}
 use Rattle.capture.proofs.Cutting.{next-block, one-more}

@@ -1,6 +1,6 @@
+pub mod CodeTerms
 pub mod Codes
-pub mod Fields
+pub mod ElementFields
 pub mod Findings
-pub mod Measurements
-pub mod Passing
-pub mod Records
+pub mod FrameFields
+pub mod Given

@@ -9,10 +9,9 @@ ghost use Rattle.measurement_body.specs.Bodies.{mayAppend, appended};
 ghost use Rattle.measurement_body.specs.Reports.{reportSort};
 ghost use Rattle.measurement_body.specs.Requests.{requestSort};
 ghost use Rattle.boundary.specs.Codes.{Put};
-ghost use Rattle.boundary.specs.Measurements.{tpcGiven, requestGiven, reportGiven};
+ghost use Rattle.boundary.specs.Given.{tpcGiven, requestGiven, reportGiven};
 use crate::codes;
-use crate::measurements;
-use crate::reports;
+use crate::given;
 use element::channel_switch::ChannelSwitch;
 
 #[no_mangle]
@@ -31,7 +30,7 @@ pub extern "C" fn oneiralth_write_tpc_report_body(
 ) -> u64
     ensures { λ r. ⌜ Put true (tpcReportBody token (tpcGiven power margin)) 0 (now (out .entry)) r (now (out .exit)) ⌝ }
 {
-    codes::wrote(single_body::write_tpc_report(token, reports::tpc(power, margin), out, 0))
+    codes::wrote(single_body::write_tpc_report(token, given::tpc(power, margin), out, 0))
 }
 
 #[no_mangle]
@@ -68,8 +67,8 @@ pub extern "C" fn oneiralth_append_request(
 ) -> u64
     ensures { λ r. ⌜ Put (leb used (length (now (buffer .entry))) && mayAppend requestSort 0 dialog (requestGiven token kind asks request report channel start duration) (not (eqb dialog 0)) (take used (now (buffer .entry)))) (appended requestSort 0 dialog (requestGiven token kind asks request report channel start duration) (take used (now (buffer .entry)))) used (now (buffer .entry)) r (now (buffer .exit)) ⌝ }
 {
-    let given = measurements::request(token, kind, asks, request, report, channel, start, duration);
-    codes::wrote(measurement_body::requests::append(buffer, used, dialog, given))
+    let record = given::request(token, kind, asks, request, report, channel, start, duration);
+    codes::wrote(measurement_body::requests::append(buffer, used, dialog, record))
 }
 
 // The same of reports.
@@ -89,7 +88,7 @@ pub extern "C" fn oneiralth_append_report(
 ) -> u64
     ensures { λ r. ⌜ Put (leb used (length (now (buffer .entry))) && mayAppend reportSort 1 dialog (reportGiven token kind says value channel start duration densities) true (take used (now (buffer .entry)))) (appended reportSort 1 dialog (reportGiven token kind says value channel start duration densities) (take used (now (buffer .entry)))) used (now (buffer .entry)) r (now (buffer .exit)) ⌝ }
 {
-    let given = measurements::report(
+    let record = given::report(
         token,
         kind,
         says,
@@ -99,5 +98,5 @@ pub extern "C" fn oneiralth_append_report(
         duration,
         densities,
     );
-    codes::wrote(measurement_body::reports::append(buffer, used, dialog, given))
+    codes::wrote(measurement_body::reports::append(buffer, used, dialog, record))
 }

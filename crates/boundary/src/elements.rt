@@ -8,10 +8,9 @@ ghost use Rattle.element.specs.Quiet.{quietMay, quietOctets};
 ghost use Rattle.element.specs.TpcReport.{tpcReportOctets};
 ghost use Rattle.element.specs.TpcRequest.{tpcRequestOctets};
 ghost use Rattle.boundary.specs.Codes.{Put};
-ghost use Rattle.boundary.specs.Measurements.{tpcGiven, requestGiven, reportGiven};
+ghost use Rattle.boundary.specs.Given.{tpcGiven, requestGiven, reportGiven};
 use crate::codes;
-use crate::measurements;
-use crate::reports;
+use crate::given;
 use element::channel_switch;
 use element::channel_switch::ChannelSwitch;
 use element::power_constraint;
@@ -41,7 +40,7 @@ pub extern "C" fn oneiralth_write_tpc_request(out: &mut [u8]) -> u64
 pub extern "C" fn oneiralth_write_tpc_report(power: u8, margin: u8, out: &mut [u8]) -> u64
     ensures { λ r. ⌜ Put true (tpcReportOctets (tpcGiven power margin)) 0 (now (out .entry)) r (now (out .exit)) ⌝ }
 {
-    codes::wrote(tpc_report::write(reports::tpc(power, margin), out, 0))
+    codes::wrote(tpc_report::write(given::tpc(power, margin), out, 0))
 }
 
 #[no_mangle]
@@ -95,8 +94,8 @@ pub extern "C" fn oneiralth_write_request(
 ) -> u64
     ensures { λ r. ⌜ Put (requestMay (requestGiven token kind asks request report channel start duration)) (requestOctets (requestGiven token kind asks request report channel start duration)) 0 (now (out .entry)) r (now (out .exit)) ⌝ }
 {
-    let given = measurements::request(token, kind, asks, request, report, channel, start, duration);
-    codes::wrote(measurement_request::write(given, out, 0))
+    let record = given::request(token, kind, asks, request, report, channel, start, duration);
+    codes::wrote(measurement_request::write(record, out, 0))
 }
 
 #[no_mangle]
@@ -113,7 +112,7 @@ pub extern "C" fn oneiralth_write_report(
 ) -> u64
     ensures { λ r. ⌜ Put (reportMay (reportGiven token kind says value channel start duration densities)) (reportOctets (reportGiven token kind says value channel start duration densities)) 0 (now (out .entry)) r (now (out .exit)) ⌝ }
 {
-    let given = measurements::report(
+    let record = given::report(
         token,
         kind,
         says,
@@ -123,5 +122,5 @@ pub extern "C" fn oneiralth_write_report(
         duration,
         densities,
     );
-    codes::wrote(measurement_report::write(given, out, 0))
+    codes::wrote(measurement_report::write(record, out, 0))
 }

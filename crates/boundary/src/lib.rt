@@ -1,15 +1,14 @@
 // What programs in C and Rust call: functions on numbers and octets that keep nothing between calls (docs/BOUNDARY.md).
 mod bodies;
 mod codes;
+mod element_fields;
 mod elements;
-mod fields;
+mod frame_fields;
+mod given;
 mod lists;
-mod measurements;
 mod numbers;
 mod reading;
-mod records;
 mod replies;
-mod reports;
 mod whole;
 
 pub use bodies::oneiralth_append_report;
@@ -29,6 +28,7 @@ pub use numbers::oneiralth_busy_fraction;
 pub use numbers::oneiralth_centre;
 pub use numbers::oneiralth_rpi_densities;
 pub use reading::oneiralth_read_frame;
+pub use reading::oneiralth_read_quiet;
 pub use reading::oneiralth_read_report;
 pub use reading::oneiralth_read_request;
 pub use replies::oneiralth_reply_to_measurement_request;

@@ -4,9 +4,9 @@ ghost use mathlib.Core.List.{_∷_, []};
 ghost use Rattle.reply.specs.Replies.{tpcReply, measurementReply};
 ghost use Rattle.boundary.specs.Codes.{addressOf, Given};
 ghost use Rattle.boundary.specs.Findings.{findingGiven};
-ghost use Rattle.boundary.specs.Measurements.{tpcGiven};
+ghost use Rattle.boundary.specs.Given.{tpcGiven};
 use crate::codes;
-use crate::reports;
+use crate::given;
 use measured_report::Finding;
 use measured_report::Readings;
 
@@ -21,7 +21,7 @@ pub extern "C" fn oneiralth_reply_to_tpc_request(
 ) -> u64
     ensures { λ r. ⌜ Given (tpcReply (addressOf own) (addressOf ap) (tpcGiven power margin) (now (frame .entry))) (now (out .entry)) r (now (out .exit)) ⌝ }
 {
-    let report = reports::tpc(power, margin);
+    let report = given::tpc(power, margin);
     let own = codes::address(own);
     let ap = codes::address(ap);
     codes::wrote(reply::to_tpc_request(frame, own, ap, report, out))

@@ -6,7 +6,7 @@ ghost use lib.ListN.{length};
 ghost use Rattle.octets.specs.Writing.{left, Written};
 ghost use Rattle.capture.specs.Listers.{Fits};
 ghost use Rattle.capture.specs.Lists.{blockTold, fileTold, listOf};
-ghost use Rattle.boundary.specs.Passing.{Passed};
+ghost use Rattle.boundary.specs.CodeTerms.Passing.{Passed};
 use answer::Refusal;
 use capture::Feed;
 use capture::Lister;

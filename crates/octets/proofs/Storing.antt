@@ -117,3 +117,28 @@ module _ (head body buffer : List ℕ) (n : ℕ) (size : n ≡ length head) (fit
             ∙ ap₂ (λ (k : ℕ) (b : List ℕ). left true body k b) size first
             ∙ left-after true head body buffer (omega arith);
       }
+
+-- ---- any number of parts, one after the other from the front on
+
+pub record Lies (parts buffer now : List ℕ) : Type 0 where
+  pub inside : length parts ≤ length buffer
+  pub stands : now ≡ filled parts buffer
+
+pub none-lies : (buffer : List ℕ) → Lies [] buffer buffer
+none-lies buffer = record { inside = omega arith; stands = refl }
+
+module _ {parts buffer now : List ℕ} (l : Lies parts buffer now) where
+  pub same-room : length now ≡ length buffer
+  same-room = ap length (l .stands) ∙ filled-length parts buffer (l .inside)
+
+  -- one more, at the place where those before it end
+  pub part-put : (os exit : List ℕ) (at : ℕ) → at ≡ length parts → at + length os ≤ length buffer → exit ≡ left true os at now → Lies (parts ++ os) buffer exit
+  part-put os exit at e fits w =
+      record {
+        inside = omega (arith, length-append parts os);
+        stands = w ∙ ap₂ (λ (n : ℕ) (b : List ℕ). left true os n b) e (l .stands) ∙ after-left parts os buffer (omega arith);
+      }
+
+  pub all-written : (n : ℕ) → n ≡ length parts → Written true parts 0 buffer (Wrote.Length n) now
+  all-written n e =
+      record { answers = ap accepted e ∙ sym (room-answer parts 0 buffer (omega (arith, l .inside))); leaves = l .stands ∙ sym (front-left parts buffer (l .inside)) }

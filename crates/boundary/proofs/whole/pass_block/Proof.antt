@@ -15,7 +15,7 @@ use Rattle.capture.specs.declared.feeding.Feed.{Feed}
 use Rattle.capture.specs.declared.feeding.Listing.{Listing}
 use Rattle.capture.specs.declared.lister.Lister.{Lister}
 use Rattle.capture.proofs.Fitting.{has-lines, feeds}
-use Rattle.boundary.specs.Passing.{Passed}
+use Rattle.boundary.specs.CodeTerms.Passing.{Passed}
 use Rattle.boundary.proofs.whole.pass_block.Statement.{statement}
 use Rattle.boundary.proofs.whole.pass_block.Tie as tie
 

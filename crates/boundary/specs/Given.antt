@@ -3,7 +3,9 @@ use mathlib.Core.Bool.{Bool}
 use Prim.Native.Nat.{ℕ}
 use lib.Dec.{eqb}
 use Rattle.answer.specs.Checks.{pick}
+use Rattle.measurement_element.specs.declared.found.Found.{Found}
 use Rattle.measurement_element.specs.declared.measurement_report.Matter as Says
+use Rattle.measurement_element.specs.declared.measurement_report.Reason.{Reason}
 use Rattle.measurement_element.specs.declared.measurement_report.Report.{Report}
 use Rattle.measurement_element.specs.declared.measurement_request.Matter as Asks
 use Rattle.measurement_element.specs.declared.measurement_request.Request.{Request}
@@ -34,12 +36,12 @@ requestGiven token kind number request report channel start duration =
 -- 0 Late, 1 Incapable, 2 Refused, 3 a basic report with its map, 4 a CCA report with its busy fraction, 5 an RPI histogram
 unfoldable pub saysGiven : ℕ → ℕ → Span → Says.Matter
 saysGiven number value span =
-    pick (eqb number 0) Says.Matter.Late
-    (pick (eqb number 1) Says.Matter.Incapable
-    (pick (eqb number 2) Says.Matter.Refused
-    (pick (eqb number 3) (Says.Matter.Basic span value)
-    (pick (eqb number 4) (Says.Matter.Cca span value)
-    (pick (eqb number 5) (Says.Matter.Rpi span)
+    pick (eqb number 0) (Says.Matter.NotMeasured Reason.Late)
+    (pick (eqb number 1) (Says.Matter.NotMeasured Reason.Incapable)
+    (pick (eqb number 2) (Says.Matter.NotMeasured Reason.Refused)
+    (pick (eqb number 3) (Says.Matter.Measured span (Found.Map value))
+    (pick (eqb number 4) (Says.Matter.Measured span (Found.Busy value))
+    (pick (eqb number 5) (Says.Matter.Measured span Found.Densities)
     Says.Matter.Uninterpreted)))))
 
 -- the eight densities are the octets of one number, the first of them the least significant

@@ -4,8 +4,8 @@ use mathlib.Core.Path.{_∙_}
 use borrow.Author.Needs.{needs}
 use mir.Facts.{toZ-ofZ}
 use mir.Syntax.{w8}
-use Rattle.boundary.proofs.reports.tpc.Statement.{statement}
-use Rattle.boundary.proofs.reports.tpc.Tie as tie
+use Rattle.boundary.proofs.given.tpc.Statement.{statement}
+use Rattle.boundary.proofs.given.tpc.Tie as tie
 
 returns : tie.Need-returns
 returns c =

@@ -1,11 +1,25 @@
-// Records of the measurement elements from numbers.
+// The records of a TPC Report and of the measurement elements, as a caller gives them by numbers.
 ghost use mathlib.Core.Path.{_≡_};
-ghost use Rattle.boundary.specs.Measurements.{asksGiven, saysGiven, requestGiven, reportGiven};
+ghost use Rattle.measurement_element.specs.declared.measurement_report.Matter.{Matter};
+ghost use Rattle.boundary.specs.Given.{tpcGiven, asksGiven, saysGiven, requestGiven, reportGiven};
+use element::tpc_report::TpcReport;
+use measurement_element::Found;
 use measurement_element::Span;
-use measurement_element::measurement_report;
+use measurement_element::measurement_report::Matter;
+use measurement_element::measurement_report::Reason;
 use measurement_element::measurement_report::Report;
 use measurement_element::measurement_request;
 use measurement_element::measurement_request::Request;
+
+// Power and margin as the element has them, each an octet.
+pub fn tpc(power: u8, margin: u8) -> TpcReport
+    ensures { λ r. ⌜ r ≡ tpcGiven power margin ⌝ }
+{
+    TpcReport {
+        power: octets::to_signed(power),
+        margin: octets::to_signed(margin),
+    }
+}
 
 // 0 an Enable element, 1 a measurement; every other number stands for what is not interpreted, which no writer takes.
 fn asks(number: u8, request: bool, report: bool, span: Span) -> measurement_request::Matter
@@ -47,28 +61,24 @@ pub fn request(
 
 // 0 Late, 1 Incapable, 2 Refused, 3 a basic report, 4 a CCA report, 5 an RPI histogram; every other number stands for what is not interpreted,
 // which no writer takes. The value is the map or the busy fraction.
-fn says(number: u8, value: u8, span: Span) -> measurement_report::Matter
+fn says(number: u8, value: u8, span: Span) -> Matter
     ensures { λ r. ⌜ r ≡ saysGiven number value span ⌝ }
 {
-    if number == 0 {
-        return measurement_report::Matter::Late;
+    match number {
+        0 => Matter::NotMeasured(Reason::Late),
+        1 => Matter::NotMeasured(Reason::Incapable),
+        2 => Matter::NotMeasured(Reason::Refused),
+        3 => measured(span, Found::Map(value)),
+        4 => measured(span, Found::Busy(value)),
+        5 => measured(span, Found::Densities),
+        _ => Matter::Uninterpreted,
     }
-    if number == 1 {
-        return measurement_report::Matter::Incapable;
-    }
-    if number == 2 {
-        return measurement_report::Matter::Refused;
-    }
-    if number == 3 {
-        return measurement_report::Matter::Basic { span, map: value };
-    }
-    if number == 4 {
-        return measurement_report::Matter::Cca { span, busy: value };
-    }
-    if number == 5 {
-        return measurement_report::Matter::Rpi(span);
-    }
-    measurement_report::Matter::Uninterpreted
+}
+
+fn measured(span: Span, found: Found) -> Matter
+    ensures { λ r. ⌜ r ≡ Matter.Measured span found ⌝ }
+{
+    Matter::Measured { span, found }
 }
 
 // The densities are eight octets, the first of them the least significant.

@@ -1,9 +1,9 @@
 -- `asks` meets its contract, number by number.
 -- Assumes nothing.
 use borrow.Author.Tests.{ne-eqb}
-use Rattle.boundary.specs.Measurements.{asksGiven}
-use Rattle.boundary.proofs.measurements.asks.Statement.{statement}
-use Rattle.boundary.proofs.measurements.asks.Tie as tie
+use Rattle.boundary.specs.Given.{asksGiven}
+use Rattle.boundary.proofs.given.asks.Statement.{statement}
+use Rattle.boundary.proofs.given.asks.Tie as tie
 
 returns : tie.Need-returns
 unfolding asksGiven

@@ -1,8 +1,8 @@
 -- `report` meets its contract.
 -- Assumes nothing.
 use borrow.Author.Needs.{needs}
-use Rattle.boundary.proofs.measurements.report.Statement.{statement}
-use Rattle.boundary.proofs.measurements.report.Tie as tie
+use Rattle.boundary.proofs.given.report.Statement.{statement}
+use Rattle.boundary.proofs.given.report.Tie as tie
 
 returns : tie.Need-returns
 returns c = rw (c .octets64 .ensures, c .before .says .ensures)

@@ -1,9 +1,9 @@
 -- `says` meets its contract, number by number.
 -- Assumes nothing.
 use borrow.Author.Tests.{ne-eqb}
-use Rattle.boundary.specs.Measurements.{saysGiven}
-use Rattle.boundary.proofs.measurements.says.Statement.{statement}
-use Rattle.boundary.proofs.measurements.says.Tie as tie
+use Rattle.boundary.specs.Given.{saysGiven}
+use Rattle.boundary.proofs.given.says.Statement.{statement}
+use Rattle.boundary.proofs.given.says.Tie as tie
 
 returns : tie.Need-returns
 unfolding saysGiven

@@ -1,8 +1,8 @@
 -- `request` meets its contract.
 -- Assumes nothing.
 use borrow.Author.Needs.{needs}
-use Rattle.boundary.proofs.measurements.request.Statement.{statement}
-use Rattle.boundary.proofs.measurements.request.Tie as tie
+use Rattle.boundary.proofs.given.request.Statement.{statement}
+use Rattle.boundary.proofs.given.request.Tie as tie
 
 returns : tie.Need-returns
 returns c = rw (c .asks .ensures)
