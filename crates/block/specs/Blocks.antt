@@ -10,14 +10,24 @@ use Rattle.octets.specs.Sums.{sumOf}
 use Rattle.octets.specs.Numbers.{number}
 use Rattle.block.specs.declared.Block.{Block}
 
+-- octets of a block, those before its check, and those that records may use
+abbrev pub blockSize : ℕ
+blockSize = 512
+
+abbrev pub checkedLength : ℕ
+checkedLength = 510
+
+abbrev pub payload : ℕ
+payload = 508
+
 abbrev pub usedLength : List ℕ → ℕ
 usedLength b = number 2 0 b
 
 abbrev pub checkOf : List ℕ → ℕ
-checkOf b = (1 + sumOf (take 510 b)) % 65536
+checkOf b = (1 + sumOf (take checkedLength b)) % 65536
 
 abbrev pub isDamaged : List ℕ → Bool
-isDamaged b = not (eqb (length b) 512) || (not (eqb (number 2 510 b) (checkOf b)) || ltb 508 (usedLength b))
+isDamaged b = not (eqb (length b) blockSize) || (not (eqb (number 2 checkedLength b) (checkOf b)) || ltb payload (usedLength b))
 
 unfoldable pub blockMeans : List ℕ → Block
 blockMeans b = pick (isDamaged b) Block.Damaged (Block.Used (usedLength b))
@@ -28,4 +38,4 @@ usedPart b = take (usedLength b) (drop 2 b)
 
 -- where a block ends that begins at a place of a file of so many octets: a last one may be short
 abbrev pub endAfter : ℕ → ℕ → ℕ
-endAfter at size = pick (leb (at + 512) size) (at + 512) size
+endAfter at size = pick (leb (at + blockSize) size) (at + blockSize) size

@@ -3,7 +3,7 @@ ghost use mathlib.Core.Path.{_≡_};
 ghost use Prim.Native.Nat.{_*_, _≤_};
 ghost use lib.ListN.{length, take};
 ghost use Rattle.octets.specs.Sums.{sumOf};
-ghost use Rattle.block.specs.Blocks.{endAfter, blockMeans};
+ghost use Rattle.block.specs.Blocks.{checkedLength, endAfter, blockMeans};
 
 // How many octets a block has, how many of them come before its check, and how many of these the records may use.
 pub const SIZE: usize = 512;
@@ -20,8 +20,8 @@ pub enum Block {
 
 // The sum of the octets that are checked.
 fn sum(block: &[u8]) -> u32
-    requires { ⌜ 510 ≤ length (now block) ⌝ }
-    ensures { λ r. ⌜ (r ≡ sumOf (take 510 (now (block .entry)))) × (r ≤ 255 * 510) ⌝ }
+    requires { ⌜ checkedLength ≤ length (now block) ⌝ }
+    ensures { λ r. ⌜ (r ≡ sumOf (take checkedLength (now (block .entry)))) × (r ≤ 255 * checkedLength) ⌝ }
 {
     let mut total: u32 = 0;
     let mut i = 0;

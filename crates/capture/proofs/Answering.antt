@@ -5,12 +5,13 @@ use mathlib.Core.Path.{_≡_, sym, ap}
 use Prim.Native.Nat.{ℕ}
 use Rattle.answer.specs.Checks.{pick}
 use Rattle.capture_record.specs.Entries.{advancing, hearing, asking}
-use Rattle.station.specs.Asking.{permissionNumber, permissionOf}
+use Rattle.station.specs.Asking.{permissionOf}
 use Rattle.station.specs.Clock.{advanceOf}
 use Rattle.station.specs.Taking.{takeOf}
 use Rattle.line.specs.declared.words.Word.{Word}
 use Rattle.capture.specs.Lists.{line, stepped, noStation, noted}
 use Rattle.capture.specs.declared.lister.Lister.{Lister}
+use Rattle.capture.specs.declared.response.Response.{Response}
 
 yes : {A : Type 0} (b : Bool) (x y : A) → b ≡ true → x ≡ pick b x y
 yes {A} b x y e = ap (λ (t : Bool). pick t x y) (sym e)
@@ -41,6 +42,6 @@ module _ (l : Lister) where
     unfolding noted
     a-frame f = yes (l .active) _ _ e
 
-    pub an-ask : (n : ℕ) → line l Word.Ask (permissionNumber (permissionOf (l .station) n)) ≡ noted l (asking n)
+    pub an-ask : (n : ℕ) → line l Word.Ask (Response.Question (permissionOf (l .station) n)) ≡ noted l (asking n)
     unfolding noted
     an-ask n = yes (l .active) _ _ e

@@ -8,26 +8,25 @@ use borrow.Author.Tests.{lt-ltb, le-ltb, le-leb, lt-leb}
 use lib.Dec.{ltb, leb}
 use lib.ListN.{length, take, drop, length-drop}
 use lib.Seq.{take-all}
-use Rattle.answer.proofs.Booleans.{clash}
 use Rattle.answer.specs.Checks.{pick}
 use Rattle.block.proofs.Judging.{used-within}
 use Rattle.block.specs.Blocks.{usedPart, blockMeans}
 use Rattle.block.specs.declared.Block.{Block}
 use Rattle.octets.specs.Writing.{filled}
-use Rattle.capture.specs.Feeding.{Fed, enoughRoom, linesOf, fedBy, leftBy}
-use Rattle.capture.specs.Following.{Sound, Listed}
-use Rattle.capture.specs.Listers.{blockLimit, oneBlockMore, Fits}
+use Rattle.capture.specs.CodeTerms.Following.{Listed, Fed}
+use Rattle.capture.specs.Feeding.{enoughRoom, linesOf, fedBy, leftBy}
+use Rattle.capture.specs.Listers.{blockLimit, oneBlockMore, Fits, Sound}
 use Rattle.capture.specs.Lists.{Told, damagedTold, judged, blockTold}
 use Rattle.capture.specs.declared.feeding.Feed.{Feed}
 use Rattle.capture.specs.declared.lister.Lister.{Lister}
 use Rattle.capture.specs.declared.listing.Put.{Put}
+use Rattle.capture.proofs.StaysSound.{none-sound}
 
 module _ (l : Lister) (f : Fits l) (h : l .blocks < blockLimit) where
   pub fits-damaged : Fits (damagedTold l .lister)
   fits-damaged =
       record {
-        followed = λ e. clash (sym e);
-        idle = λ e. refl;
+        sound = none-sound refl refl;
         few-blocks = omega arith;
         few-lines = omega (arith, f .few-lines);
         few-damaged = omega (arith, f .few-damaged);
@@ -35,13 +34,12 @@ module _ (l : Lister) (f : Fits l) (h : l .blocks < blockLimit) where
 
   -- the lister before the records of a block
   pub sound-counted : Sound (oneBlockMore l 0)
-  sound-counted = record { followed = f .followed; idle = f .idle }
+  sound-counted = record { followed = f .sound .followed; idle = f .sound .idle }
 
   pub fits-listed : (t : Told) (next : Lister) (count : ℕ) → Listed (oneBlockMore l 0) t next count → Fits next
   fits-listed t next count w =
       record {
-        followed = w .sound .followed;
-        idle = w .sound .idle;
+        sound = w .sound;
         few-blocks = omega (arith, w .same-blocks);
         few-lines = omega (arith, w .same-blocks, w .few-lines, f .few-lines);
         few-damaged = omega (arith, w .same-blocks, w .same-damaged, f .few-damaged);
@@ -61,37 +59,37 @@ told-as l b j e = ap (λ (k : Block). judged k b l) (sym e)
 -- ---- feeding
 
 module _ (l : Lister) (b out : List ℕ) where
-  module _ (h : length out < 10944) where
+  module _ (h : length out < enoughRoom) where
     pub fed-no-room : record { feed = Feed.NoRoom; lister = l } ≡ fedBy l b (length out)
     unfolding fedBy
-    fed-no-room = rw (lt-ltb (length out) 10944 h)
+    fed-no-room = rw (lt-ltb (length out) enoughRoom h)
 
     pub left-no-room : out ≡ leftBy l b out
     unfolding leftBy
-    left-no-room = rw (lt-ltb (length out) 10944 h)
+    left-no-room = rw (lt-ltb (length out) enoughRoom h)
 
-  module _ (h : 10944 ≤ length out) where
-    module _ (k : 36028797018963968 ≤ l .blocks) where
+  module _ (h : enoughRoom ≤ length out) where
+    module _ (k : blockLimit ≤ l .blocks) where
       pub fed-full : record { feed = Feed.Full; lister = l } ≡ fedBy l b (length out)
       unfolding fedBy
-      fed-full = rw (le-ltb (length out) 10944 h, le-leb 36028797018963968 (l .blocks) k)
+      fed-full = rw (le-ltb (length out) enoughRoom h, le-leb blockLimit (l .blocks) k)
 
       pub left-full : out ≡ leftBy l b out
       unfolding leftBy
-      left-full = rw (le-ltb (length out) 10944 h, le-leb 36028797018963968 (l .blocks) k)
+      left-full = rw (le-ltb (length out) enoughRoom h, le-leb blockLimit (l .blocks) k)
 
-    module _ (k : l .blocks < 36028797018963968) where
+    module _ (k : l .blocks < blockLimit) where
       pub fed-lines : (put : Put) → Fed l (blockTold b l) put → record { feed = Feed.Lines (put .count); lister = put .lister } ≡ fedBy l b (length out)
       unfolding fedBy
-      fed-lines put w = rw (le-ltb (length out) 10944 h, lt-leb 36028797018963968 (l .blocks) k, w .same, w .many)
+      fed-lines put w = rw (le-ltb (length out) enoughRoom h, lt-leb blockLimit (l .blocks) k, w .same, w .many)
 
       pub feeds : fedBy l b (length out) ≡ linesOf (blockTold b l)
       unfolding fedBy
-      feeds = rw (le-ltb (length out) 10944 h, lt-leb 36028797018963968 (l .blocks) k)
+      feeds = rw (le-ltb (length out) enoughRoom h, lt-leb blockLimit (l .blocks) k)
 
       pub left-lines : filled (blockTold b l .text) out ≡ leftBy l b out
       unfolding leftBy
-      left-lines = rw (le-ltb (length out) 10944 h, lt-leb 36028797018963968 (l .blocks) k)
+      left-lines = rw (le-ltb (length out) enoughRoom h, lt-leb blockLimit (l .blocks) k)
 
 -- what is known of a block that has lines
 by-room : (l : Lister) (t : Told) (out : List ℕ) (n : ℕ) (short full : Bool)

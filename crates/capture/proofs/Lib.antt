@@ -3,4 +3,4 @@ pub mod Answering
 pub mod Cutting
 pub mod Fitting
 pub mod Recording
-pub mod Sounding
+pub mod StaysSound

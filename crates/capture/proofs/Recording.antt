@@ -2,19 +2,22 @@
 use mathlib.Core.Bool.{Bool, true, false}
 use mathlib.Core.List.{List, [], _++_, append-assoc, append-nil}
 use mathlib.Core.Path.{_≡_, refl, sym, ap, _∙_, subst}
-use Prim.Native.Nat.{ℕ, _+_, _*_, _-_, _≤_}
+use Prim.Native.Nat.{ℕ, _+_, _*_, _-_, _<_, _≤_}
 use native.Mathlib.Omega.{arith}
 use lib.ListN.{length, drop, length-append}
 use Rattle.answer.specs.Checks.{pick}
+use Rattle.block.specs.Blocks.{payload}
+use Rattle.line.specs.Backs.{lineRoom}
 use Rattle.octets.specs.Writing.{left, filled}
 use Rattle.octets.proofs.Storing.{filled-length, after-left}
 use Rattle.capture_record.specs.Entries.{Noted, malformed, starting, advancing, hearing, asking, entryTold, entryMeans}
 use Rattle.capture_record.specs.Records.{Records, end, cut, more, recordsIn}
 use Rattle.capture_record.specs.declared.entry.Entry.{Entry}
-use Rattle.capture.specs.Following.{lineFor, Sound, Follows, Listed}
-use Rattle.capture.specs.Listers.{oneLineMore}
+use Rattle.capture.specs.CodeTerms.Following.{lineFor, Follows, Listed}
+use Rattle.capture.specs.Feeding.{enoughRoom}
+use Rattle.capture.specs.Listers.{mostLines, lineLimit, oneLineMore, Sound}
 use Rattle.capture.specs.Lists.{Told, nothing, before, badRecord, noted, isMalformed, recorded}
-use Rattle.capture.specs.Stepping.{entryMalformed}
+use Rattle.capture.specs.CodeTerms.Stepping.{entryMalformed}
 use Rattle.capture.specs.declared.lister.Lister.{Lister}
 use Rattle.capture.specs.declared.listing.Put.{Put}
 use Rattle.capture.specs.declared.noting.Answered.{Answered}
@@ -48,8 +51,8 @@ pub record Inv (used : List ℕ) (l₀ : Lister) (out₀ out : List ℕ) (l : Li
   pub many : count ≡ length lines
   pub sound : Sound l
   pub inside : at ≤ length used
-  pub room : 3 * count + 64 * (length used - at) ≤ 32512
-  pub few : 3 * l .lines + (length used - at) ≤ 3 * l₀ .lines + 508
+  pub room : 3 * count + lineRoom * (length used - at) ≤ lineRoom * payload
+  pub few : 3 * l .lines + (length used - at) ≤ 3 * l₀ .lines + payload
   pub same-blocks : l .blocks ≡ l₀ .blocks
   pub same-damaged : l .damaged ≡ l₀ .damaged
 
@@ -58,16 +61,20 @@ pub record Written (l : Lister) (a : Answered) (count : ℕ) (out : List ℕ) (p
   pub follows : Follows l (a .lister)
   pub after : put .lister ≡ oneLineMore (a .lister)
   pub place : put .count ≡ count + length (lineFor a .text)
-  pub short : put .count ≤ count + 64
+  pub short : put .count ≤ count + lineRoom
   pub leaves : exit ≡ left true (lineFor a .text) count out
 
-module _ {used : List ℕ} {l₀ : Lister} {out₀ out : List ℕ} {l : Lister} {count at : ℕ} (big : 10944 ≤ length out₀) (i : Inv used l₀ out₀ out l count at) where
+module _ {used : List ℕ} {l₀ : Lister} {out₀ out : List ℕ} {l : Lister} {count at : ℕ} (big : enoughRoom ≤ length out₀) (i : Inv used l₀ out₀ out l count at) where
   -- the buffer keeps its length
   pub same-size : length out ≡ length out₀
   same-size = ap (λ (xs : List ℕ). length xs) (i .stands) ∙ filled-length (i .lines) out₀ (omega (arith, i .many, i .room))
 
+  -- there is room for one line more, and a number
+  pub one-more : l₀ .lines + mostLines ≤ lineLimit → (count + lineRoom ≤ length out) × (l .lines < lineLimit)
+  one-more few = (omega (arith, i .room, same-size, big), omega (arith, i .few, few))
+
   -- the line stands after those before it
-  after : (text exit : List ℕ) → length text ≤ 64 → exit ≡ left true text count out → exit ≡ filled (i .lines ++ text) out₀
+  after : (text exit : List ℕ) → length text ≤ lineRoom → exit ≡ left true text count out → exit ≡ filled (i .lines ++ text) out₀
   after text exit h e =
       e ∙ ap (λ (n : ℕ). left true text n out) (i .many) ∙ ap (left true text (length (i .lines))) (i .stands)
       ∙ after-left (i .lines) text out₀ (omega (arith, i .many, i .room))
@@ -102,7 +109,7 @@ module _ {used : List ℕ} {l₀ : Lister} {out₀ out : List ℕ} {l : Lister} 
 
     pub size-after : length exit ≡ length out₀
     size-after =
-        let s : length (lineFor a .text) ≤ 64 = omega (arith, w .place, w .short) in
+        let s : length (lineFor a .text) ≤ lineRoom = omega (arith, w .place, w .short) in
         ap (λ (xs : List ℕ). length xs) (after (lineFor a .text) exit s (w .leaves))
         ∙ filled-length (i .lines ++ lineFor a .text) out₀ (omega (arith, i .many, i .room, length-append (i .lines) (lineFor a .text)))
 
@@ -159,7 +166,7 @@ module _ {used : List ℕ} {l₀ : Lister} {out₀ out : List ℕ} {l : Lister} 
             same-damaged = ap (λ (x : Lister). x .damaged) (w .after) ∙ w .follows .same-damaged ∙ i .same-damaged;
           }
 
-pub begins : (used : List ℕ) (l : Lister) (out : List ℕ) → length used ≤ 508 → Sound l → Inv used l out out l 0 0
+pub begins : (used : List ℕ) (l : Lister) (out : List ℕ) → length used ≤ payload → Sound l → Inv used l out out l 0 0
 begins used l out h s =
     record {
       lines = [];

@@ -1,5 +1,4 @@
+pub mod CodeTerms
 pub mod Feeding
-pub mod Following
 pub mod Listers
 pub mod Lists
-pub mod Stepping

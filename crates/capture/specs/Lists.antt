@@ -1,12 +1,13 @@
 -- The evening list of a file (01, "Capture blocks and the evening list").
 use mathlib.Core.Bool.{Bool, true, false}
 use mathlib.Core.List.{List, [], _∷_, _++_}
-use Prim.Native.Nat.{ℕ, zero, suc, _+_}
+use Prim.Native.Nat.{ℕ, zero, suc, _+_, _-_}
 use lib.ListN.{take}
 use Rattle.answer.specs.Checks.{Outcome, refused, accepted, pick}
-use Rattle.answer.specs.Numbers.{numberOf, answerNumber}
+use Rattle.answer.specs.Numbers.{answerNumber}
+use Rattle.answer.specs.declared.Answer.{Answer}
 use Rattle.answer.specs.declared.Refusal.{Refusal}
-use Rattle.block.specs.Blocks.{usedPart, blockMeans}
+use Rattle.block.specs.Blocks.{blockSize, usedPart, blockMeans}
 use Rattle.block.specs.declared.Block.{Block}
 use Rattle.capture_record.specs.Entries.{Noted, malformed, starting, advancing, hearing, asking, entryMeans}
 use Rattle.capture_record.specs.Records.{Records, end, cut, more, recordsIn}
@@ -20,6 +21,7 @@ use Rattle.line.specs.Lines.{lineOf, closingOf}
 use Rattle.line.specs.declared.words.Word.{Word}
 use Rattle.capture.specs.Listers.{fresh, without, following, oneLineMore, oneBlockMore}
 use Rattle.capture.specs.declared.lister.Lister.{Lister}
+use Rattle.capture.specs.declared.response.Response.{Response}
 
 -- the lister after something was told, and the text that this made
 pub record Told : Type 0 where
@@ -29,9 +31,17 @@ pub record Told : Type 0 where
 abbrev pub nothing : Lister → Told
 nothing l = record { lister = l; text = [] }
 
+-- the number of each answer
+abbrev pub responseNumber : Response → ℕ
+responseNumber (Response.Call a) = answerNumber a
+responseNumber (Response.Question p) = permissionNumber p
+
+abbrev pub refusal : Refusal → Response
+refusal r = Response.Call (Answer.Refused r)
+
 -- "number from 1 over the file, word, answer number"
-abbrev pub line : Lister → Word → ℕ → Told
-line l word answer = record { lister = oneLineMore l; text = lineOf (l .lines + 1) word answer }
+abbrev pub line : Lister → Word → Response → Told
+line l word answer = record { lister = oneLineMore l; text = lineOf (l .lines + 1) word (responseNumber answer) }
 
 abbrev pub before : List ℕ → Told → Told
 before text t = record { lister = t .lister; text = text ++ t .text }
@@ -39,26 +49,26 @@ before text t = record { lister = t .lister; text = text ++ t .text }
 -- ---- a record
 
 abbrev pub started : Lister → Outcome Station → Told
-started l (refused r) = line (without l) Word.Start (numberOf r)
-started l (accepted s) = line (following l s) Word.Start 0
+started l (refused r) = line (without l) Word.Start (refusal r)
+started l (accepted s) = line (following l s) Word.Start (Response.Call Answer.Accepted)
 
 abbrev pub stepped : Lister → Word → Stepped → Told
-stepped l word x = line (following l (x .station)) word (answerNumber (x .answer))
+stepped l word x = line (following l (x .station)) word (Response.Call (x .answer))
 
 -- a record with no station started is 19
 abbrev pub noStation : Lister → Word → Told
-noStation l word = line l word (numberOf Refusal.NoStation)
+noStation l word = line l word (refusal Refusal.NoStation)
 
 -- a malformed one is 20, and there is no station after it
 abbrev pub badRecord : Lister → Told
-badRecord l = line (without l) Word.Record (numberOf Refusal.RecordMalformed)
+badRecord l = line (without l) Word.Record (refusal Refusal.RecordMalformed)
 
 unfoldable pub noted : Lister → Noted → Told
 noted l malformed = badRecord l
 noted l (starting s) = started l (startMeans (s .own) (s .ap) (s .interval) (s .channel))
 noted l (advancing n) = pick (l .active) (stepped l Word.Advance (advanceOf (l .station) n)) (noStation l Word.Advance)
 noted l (hearing f) = pick (l .active) (stepped l Word.Frame (takeOf (l .station) f)) (noStation l Word.Frame)
-noted l (asking n) = pick (l .active) (line l Word.Ask (permissionNumber (permissionOf (l .station) n))) (noStation l Word.Ask)
+noted l (asking n) = pick (l .active) (line l Word.Ask (Response.Question (permissionOf (l .station) n))) (noStation l Word.Ask)
 
 -- ---- a block
 
@@ -79,7 +89,7 @@ recorded (more kind c rs) l =
 
 -- a damaged block is 17, and there is no station after it
 abbrev pub damagedTold : Lister → Told
-damagedTold l = line (without (oneBlockMore l 1)) Word.Block (numberOf Refusal.BlockDamaged)
+damagedTold l = line (without (oneBlockMore l 1)) Word.Block (refusal Refusal.BlockDamaged)
 
 abbrev pub judged : Block → List ℕ → Lister → Told
 judged Block.Damaged b l = damagedTold l
@@ -90,10 +100,10 @@ blockTold b l = judged (blockMeans b) b l
 
 -- ---- a file
 
--- the blocks after the first `skip` octets, which belong to the block before: 512 octets each, the last one shorter where the file ends
+-- the blocks after the first `skip` octets, which belong to the block before: so many octets each, the last one shorter where the file ends
 unfoldable pub blocksAfter : ℕ → List ℕ → List (List ℕ)
 blocksAfter zero [] = []
-blocksAfter zero (o ∷ os) = take 512 (o ∷ os) ∷ blocksAfter 511 os
+blocksAfter zero (o ∷ os) = take blockSize (o ∷ os) ∷ blocksAfter (blockSize - 1) os
 blocksAfter (suc skip) [] = []
 blocksAfter (suc skip) (o ∷ os) = blocksAfter skip os
 

@@ -3,14 +3,17 @@ ghost use mathlib.Core.Path.{_≡_};
 ghost use Prim.Native.Nat.{_<_, _≤_};
 ghost use lib.ListN.{length};
 ghost use Rattle.octets.specs.Writing.{filled};
-ghost use Rattle.capture.specs.Feeding.{Fed, fedBy, leftBy};
-ghost use Rattle.capture.specs.Listers.{oneBlockMore, Fits};
+ghost use Rattle.capture.specs.CodeTerms.Following.{Fed};
+ghost use Rattle.capture.specs.Feeding.{enoughRoom, fedBy, leftBy};
+ghost use Rattle.capture.specs.Listers.{blockLimit, oneBlockMore, Fits};
 ghost use Rattle.capture.specs.Lists.{damagedTold, blockTold};
 use crate::Lister;
 use crate::lister;
 use crate::listing;
 use crate::listing::Put;
 use crate::noting::Answered;
+use crate::response::Response;
+use answer::Answer;
 use answer::Refusal;
 use block::Block;
 use line::Word;
@@ -33,7 +36,7 @@ pub struct Listing {
 // The lister with one block more.
 fn counted(lister: Lister, damaged: u64) -> Lister
     requires { ⌜ Fits lister ⌝ }
-    requires { ⌜ (damaged ≤ 1) × (lister .blocks < 36028797018963968) ⌝ }
+    requires { ⌜ (damaged ≤ 1) × (lister .blocks < blockLimit) ⌝ }
     ensures { λ r. ⌜ r ≡ oneBlockMore lister damaged ⌝ }
 {
     Lister {
@@ -46,15 +49,14 @@ fn counted(lister: Lister, damaged: u64) -> Lister
 // The line of a damaged block: there is no station after it.
 fn put_damaged(lister: Lister, out: &mut [u8]) -> Put
     requires { ⌜ Fits lister ⌝ }
-    requires { ⌜ (lister .blocks < 36028797018963968) × (10944 ≤ length (now out)) ⌝ }
+    requires { ⌜ (lister .blocks < blockLimit) × (enoughRoom ≤ length (now out)) ⌝ }
     ensures { λ r. ⌜ Fed lister (damagedTold lister) r ⌝ }
     ensures { λ _. ⌜ now (out .exit) ≡ filled (damagedTold lister .text) (now (out .entry)) ⌝ }
 {
-    let refusal = Refusal::BlockDamaged;
     let answered = Answered {
         lister: lister::without(counted(lister, 1)),
         word: Word::Block,
-        answer: refusal.number(),
+        answer: Response::Call(Answer::Refused(Refusal::BlockDamaged)),
     };
     listing::put_line(answered, out, 0)
 }
@@ -62,7 +64,7 @@ fn put_damaged(lister: Lister, out: &mut [u8]) -> Put
 // The lines of a block, damaged or not.
 pub fn put_block(lister: Lister, block: &[u8], out: &mut [u8]) -> Put
     requires { ⌜ Fits lister ⌝ }
-    requires { ⌜ (lister .blocks < 36028797018963968) × (10944 ≤ length (now out)) ⌝ }
+    requires { ⌜ (lister .blocks < blockLimit) × (enoughRoom ≤ length (now out)) ⌝ }
     ensures { λ r. ⌜ Fed lister (blockTold (now (block .entry)) lister) r ⌝ }
     ensures { λ _. ⌜ now (out .exit) ≡ filled (blockTold (now (block .entry)) lister .text) (now (out .entry)) ⌝ }
 {

@@ -3,6 +3,7 @@ mod feeding;
 mod lister;
 mod listing;
 mod noting;
+mod response;
 mod stepping;
 
 pub use feeding::Feed;

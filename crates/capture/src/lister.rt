@@ -1,6 +1,7 @@
 // What the lister keeps from block to block.
 ghost use mathlib.Core.Path.{_≡_};
 ghost use Rattle.capture.specs.Listers.{fresh, without, following, Fits};
+use line::Text;
 use station::Station;
 
 pub struct Lister {
@@ -17,8 +18,11 @@ impl Lister {
     // How many blocks may be listed: a file of so many would have 2 to the 64 octets.
     pub const BLOCK_LIMIT: u64 = 36028797018963968;
 
-    // The room that the lines of a block always find: 171 lines of at most 64 octets.
-    pub const ROOM: usize = 10944;
+    // A block has at most so many lines, each of which takes three octets of its payload.
+    pub const MOST_LINES: usize = 171;
+
+    // The room that the lines of a block always find.
+    pub const ROOM: usize = Lister::MOST_LINES * Text::ROOM;
 
     // A lister that has seen nothing.
     pub fn fresh() -> Lister

@@ -1,17 +1,21 @@
 // The lines of a block, put into a lent buffer (document 01, "Capture blocks and the evening list").
 ghost use mathlib.Core.Path.{_≡_};
 ghost use mathlib.Core.Bool.{true};
-ghost use Prim.Native.Nat.{_+_, _-_, _≤_};
+ghost use Prim.Native.Nat.{_+_, _-_, _<_, _≤_};
 ghost use lib.ListN.{length, drop};
+ghost use Rattle.block.specs.Blocks.{payload};
 ghost use Rattle.octets.specs.Writing.{left, filled};
 ghost use Rattle.capture_record.specs.Records.{recordsIn};
+ghost use Rattle.line.specs.Backs.{lineRoom};
 ghost use Rattle.line.specs.Lines.{lineOf};
-ghost use Rattle.capture.specs.Following.{Sound, lineFor, Listed};
-ghost use Rattle.capture.specs.Listers.{oneLineMore};
-ghost use Rattle.capture.specs.Lists.{recorded};
+ghost use Rattle.capture.specs.CodeTerms.Following.{lineFor, Listed};
+ghost use Rattle.capture.specs.Feeding.{enoughRoom};
+ghost use Rattle.capture.specs.Listers.{mostLines, lineLimit, oneLineMore, Sound};
+ghost use Rattle.capture.specs.Lists.{responseNumber, recorded};
 use crate::Lister;
 use crate::noting;
 use crate::noting::Answered;
+use crate::response::Response;
 use crate::stepping;
 use crate::stepping::Step;
 use capture_record::Found;
@@ -26,8 +30,8 @@ pub struct Put {
 
 // A text after what the buffer holds already: how many octets there are then.
 fn put_text(text: Text, out: &mut [u8], count: usize) -> usize
-    requires { ⌜ (text .from ≤ 64) × (count + (64 - text .from) ≤ length (now out)) ⌝ }
-    ensures { λ r. ⌜ r ≡ count + (64 - text .from) ⌝ }
+    requires { ⌜ (text .from ≤ lineRoom) × (count + (lineRoom - text .from) ≤ length (now out)) ⌝ }
+    ensures { λ r. ⌜ r ≡ count + (lineRoom - text .from) ⌝ }
     ensures { λ _. ⌜ now (out .exit) ≡ left true (drop (text .from) (text .bytes)) count (now (out .entry)) ⌝ }
 {
     let bytes = text.bytes;
@@ -37,25 +41,26 @@ fn put_text(text: Text, out: &mut [u8], count: usize) -> usize
 }
 
 // The line of this number, after the lines before it: how many octets there are then.
-fn put_numbered(number: u64, word: Word, answer: u8, out: &mut [u8], count: usize) -> usize
-    requires { ⌜ count + 64 ≤ length (now out) ⌝ }
-    ensures { λ r. ⌜ (r ≡ count + length (lineOf number word answer)) × (r ≤ count + 64) ⌝ }
-    ensures { λ _. ⌜ now (out .exit) ≡ left true (lineOf number word answer) count (now (out .entry)) ⌝ }
+fn put_numbered(number: u64, word: Word, answer: Response, out: &mut [u8], count: usize) -> usize
+    requires { ⌜ count + lineRoom ≤ length (now out) ⌝ }
+    ensures { λ r. ⌜ (r ≡ count + length (lineOf number word (responseNumber answer))) × (r ≤ count + lineRoom) ⌝ }
+    ensures { λ _. ⌜ now (out .exit) ≡ left true (lineOf number word (responseNumber answer)) count (now (out .entry)) ⌝ }
 {
-    put_text(line::line(number, word, answer), out, count)
+    put_text(line::line(number, word, answer.number()), out, count)
 }
 
 // The line that tells a record's answer, after the lines before it.
 pub fn put_line(answered: Answered, out: &mut [u8], count: usize) -> Put
-    requires { ⌜ (count + 64 ≤ length (now out)) × (answered .lister .lines ≤ 9223372036854775807) ⌝ }
+    requires { ⌜ (count + lineRoom ≤ length (now out)) × (answered .lister .lines < lineLimit) ⌝ }
     ensures { λ r. ⌜ r .lister ≡ oneLineMore (answered .lister) ⌝ }
-    ensures { λ r. ⌜ (r .count ≡ count + length (lineFor answered .text)) × (r .count ≤ count + 64) ⌝ }
+    ensures { λ r. ⌜ (r .count ≡ count + length (lineFor answered .text)) × (r .count ≤ count + lineRoom) ⌝ }
     ensures { λ _. ⌜ now (out .exit) ≡ left true (lineFor answered .text) count (now (out .entry)) ⌝ }
 {
     let before = answered.lister;
     let word = answered.word;
+    let answer = answered.answer;
     let lines = before.lines + 1;
-    let count = put_numbered(lines, word, answered.answer, out, count);
+    let count = put_numbered(lines, word, answer, out, count);
     let lister = Lister { lines, ..before };
     Put { lister, count }
 }
@@ -63,7 +68,7 @@ pub fn put_line(answered: Answered, out: &mut [u8], count: usize) -> Put
 // The lines of the records in the used part of a block.
 pub fn put_records(lister: Lister, used: &[u8], out: &mut [u8]) -> Put
     requires { ⌜ Sound lister ⌝ }
-    requires { ⌜ (length (now used) ≤ 508) × (10944 ≤ length (now out)) × (lister .lines ≤ 9223372036854775000) ⌝ }
+    requires { ⌜ (length (now used) ≤ payload) × (enoughRoom ≤ length (now out)) × (lister .lines + mostLines ≤ lineLimit) ⌝ }
     ensures { λ r. ⌜ Listed lister (recorded (recordsIn (now (used .entry))) lister) (r .lister) (r .count) ⌝ }
     ensures { λ _. ⌜ now (out .exit) ≡ filled (recorded (recordsIn (now (used .entry))) lister .text) (now (out .entry)) ⌝ }
 {

@@ -3,11 +3,13 @@
 ghost use mathlib.Core.Path.{_≡_};
 ghost use mathlib.Core.Bool.{true};
 ghost use Rattle.capture_record.specs.Entries.{starting, settingsOf, advancing, hearing};
-ghost use Rattle.capture.specs.Following.{Sound, Follows, lineFor};
+ghost use Rattle.capture.specs.CodeTerms.Following.{lineFor, Follows};
+ghost use Rattle.capture.specs.CodeTerms.Stepping.{changeNotes, ChangeFits};
+ghost use Rattle.capture.specs.Listers.{Sound};
 ghost use Rattle.capture.specs.Lists.{badRecord, noted};
-ghost use Rattle.capture.specs.Stepping.{changeNotes, ChangeFits};
 use crate::Lister;
 use crate::lister;
+use crate::response::Response;
 use crate::stepping::Change;
 use answer::Answer;
 use answer::Refusal;
@@ -18,7 +20,7 @@ use station::Station;
 pub struct Answered {
     pub lister: Lister,
     pub word: Word,
-    pub answer: u8,
+    pub answer: Response,
 }
 
 // A malformed record: there is no station after it.
@@ -26,11 +28,10 @@ pub fn malformed(lister: Lister) -> Answered
     ensures { λ r. ⌜ lineFor r ≡ badRecord lister ⌝ }
     ensures { λ r. ⌜ Follows lister (r .lister) ⌝ }
 {
-    let refusal = Refusal::RecordMalformed;
     Answered {
         lister: lister::without(lister),
         word: Word::Record,
-        answer: refusal.number(),
+        answer: Response::Call(Answer::Refused(Refusal::RecordMalformed)),
     }
 }
 
@@ -45,17 +46,16 @@ fn start(lister: Lister, contents: &[u8]) -> Answered
     let started = Station::start(own, ap, settings.interval, settings.channel);
     let answer = started.answer;
     let station = started.station;
-    let number = answer.number();
     match answer {
         Answer::Accepted => Answered {
             lister: lister::following(lister, station),
             word: Word::Start,
-            answer: number,
+            answer: Response::Call(answer),
         },
         Answer::Refused(_) => Answered {
             lister: lister::without(lister),
             word: Word::Start,
-            answer: number,
+            answer: Response::Call(answer),
         },
     }
 }
@@ -74,7 +74,7 @@ fn advance(lister: Lister, units: u16) -> Answered
     Answered {
         lister: lister::following(lister, next),
         word: Word::Advance,
-        answer: answer.number(),
+        answer: Response::Call(answer),
     }
 }
 
@@ -92,7 +92,7 @@ fn frame(lister: Lister, contents: &[u8]) -> Answered
     Answered {
         lister: lister::following(lister, next),
         word: Word::Frame,
-        answer: answer.number(),
+        answer: Response::Call(answer),
     }
 }
 

@@ -5,10 +5,12 @@ ghost use mathlib.Core.Bool.{false};
 ghost use mathlib.Core.List.{List};
 ghost use Prim.Native.Nat.{ℕ};
 ghost use Rattle.capture_record.specs.Entries.{advancing, hearing, asking, entryTold};
-ghost use Rattle.capture.specs.Following.{Sound};
+ghost use Rattle.capture.specs.CodeTerms.Stepping.{stepTold, entryMalformed, StepFits};
+ghost use Rattle.capture.specs.Listers.{Sound};
 ghost use Rattle.capture.specs.Lists.{line, noStation, noted};
-ghost use Rattle.capture.specs.Stepping.{stepTold, entryMalformed, StepFits};
 use crate::Lister;
+use crate::response::Response;
+use answer::Answer;
 use answer::Refusal;
 use capture_record::Entry;
 use line::Word;
@@ -25,12 +27,16 @@ pub enum Step {
     // There is no station after it, and the rest of the block is dropped.
     Malformed,
     // This line, and the clock at this moment.
-    Told { word: Word, answer: u8, clock: u32 },
+    Told {
+        word: Word,
+        answer: Response,
+        clock: u32,
+    },
     Change(Change),
 }
 
 // A line, and nothing changes.
-fn unchanged(lister: Lister, word: Word, answer: u8) -> Step
+fn unchanged(lister: Lister, word: Word, answer: Response) -> Step
     requires { ⌜ Sound lister ⌝ }
     ensures { λ r. ⌜ ((c : List ℕ) → stepTold c lister r ≡ line lister word answer) ⌝ }
     ensures { λ r. ⌜ StepFits lister false r ⌝ }
@@ -48,8 +54,11 @@ fn unstarted(lister: Lister, word: Word) -> Step
     ensures { λ r. ⌜ ((c : List ℕ) → stepTold c lister r ≡ noStation lister word) ⌝ }
     ensures { λ r. ⌜ StepFits lister false r ⌝ }
 {
-    let refusal = Refusal::NoStation;
-    unchanged(lister, word, refusal.number())
+    unchanged(
+        lister,
+        word,
+        Response::Call(Answer::Refused(Refusal::NoStation)),
+    )
 }
 
 // An advance, by the station if there is one.
@@ -64,13 +73,14 @@ fn advance(lister: Lister, units: u16) -> Step
     let station = lister.station;
     let pending = station.pending;
     match station::advance_clock(station.clock, pending, units as u32) {
-        Advanced::Refused => {
-            let refusal = Refusal::PastClock;
-            unchanged(lister, Word::Advance, refusal.number())
-        }
+        Advanced::Refused => unchanged(
+            lister,
+            Word::Advance,
+            Response::Call(Answer::Refused(Refusal::PastClock)),
+        ),
         Advanced::Goes(moment) => Step::Told {
             word: Word::Advance,
-            answer: 0,
+            answer: Response::Call(Answer::Accepted),
             clock: moment,
         },
         Advanced::Switches {
@@ -103,7 +113,7 @@ fn ask(lister: Lister, units: u16) -> Step
     }
     let station = lister.station;
     let permission = station.ask(units as u32);
-    unchanged(lister, Word::Ask, permission.number())
+    unchanged(lister, Word::Ask, Response::Question(permission))
 }
 
 // Any record, by what it notes.

@@ -4,5 +4,17 @@ use Prim.Native.Nat.{ℕ, _-_}
 use lib.ListN.{length, replicate}
 use Rattle.line.specs.declared.back.Text.{Text}
 
+-- more than the longest line has
+abbrev pub lineRoom : ℕ
+lineRoom = 64
+
+-- the digits of the largest number of 64 bits
+abbrev pub mostDigits : ℕ
+mostDigits = 20
+
+-- the letters of the longest word
+abbrev pub mostLetters : ℕ
+mostLetters = 7
+
 abbrev pub backed : List ℕ → Text
-backed os = record { bytes = replicate (64 - length os) 0 ++ os; from = 64 - length os }
+backed os = record { bytes = replicate (lineRoom - length os) 0 ++ os; from = lineRoom - length os }

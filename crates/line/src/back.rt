@@ -3,7 +3,7 @@ ghost use mathlib.Core.Path.{_≡_};
 ghost use mathlib.Core.List.{List, [], _++_};
 ghost use Prim.Native.Nat.{ℕ, _+_, _≤_};
 ghost use lib.ListN.{length};
-ghost use Rattle.line.specs.Backs.{backed};
+ghost use Rattle.line.specs.Backs.{lineRoom, mostDigits, backed};
 ghost use Rattle.line.specs.Decimals.{decimal};
 
 // The text is the octets from `from` on; those in front of it are 0.
@@ -29,7 +29,7 @@ impl Text {
 
 // The octets, and the text after them.
 pub fn put(octets: &[u8], text: Text) -> Text
-    requires { ⌜ (length (now octets) ≤ text .from) × (text .from ≤ 64) ⌝ }
+    requires { ⌜ (length (now octets) ≤ text .from) × (text .from ≤ lineRoom) ⌝ }
     ensures { λ r. ⌜ ((os : List ℕ) → text ≡ backed os → r ≡ backed (now (octets .entry) ++ os)) ⌝ }
     ensures { λ r. ⌜ text .from ≡ r .from + length (now (octets .entry)) ⌝ }
 {
@@ -46,9 +46,9 @@ pub fn put(octets: &[u8], text: Text) -> Text
 
 // A number in decimal, and the text after it.
 pub fn put_number(number: u64, text: Text) -> Text
-    requires { ⌜ (20 ≤ text .from) × (text .from ≤ 64) ⌝ }
+    requires { ⌜ (mostDigits ≤ text .from) × (text .from ≤ lineRoom) ⌝ }
     ensures { λ r. ⌜ ((os : List ℕ) → text ≡ backed os → r ≡ backed (decimal number ++ os)) ⌝ }
-    ensures { λ r. ⌜ (r .from ≤ text .from) × (text .from ≤ r .from + 20) ⌝ }
+    ensures { λ r. ⌜ (r .from ≤ text .from) × (text .from ≤ r .from + mostDigits) ⌝ }
 {
     let mut bytes = text.bytes;
     let mut from = text.from;

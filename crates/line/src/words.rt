@@ -2,7 +2,7 @@
 ghost use mathlib.Core.Path.{_≡_};
 ghost use mathlib.Core.List.{List, _++_};
 ghost use Prim.Native.Nat.{ℕ, _+_, _≤_};
-ghost use Rattle.line.specs.Backs.{backed};
+ghost use Rattle.line.specs.Backs.{lineRoom, mostLetters, backed};
 ghost use Rattle.line.specs.Lines.{spelled};
 use crate::Text;
 use crate::back;
@@ -19,9 +19,9 @@ pub enum Word {
 
 // The word, and the text after it.
 pub fn put_word(word: Word, text: Text) -> Text
-    requires { ⌜ (7 ≤ text .from) × (text .from ≤ 64) ⌝ }
+    requires { ⌜ (mostLetters ≤ text .from) × (text .from ≤ lineRoom) ⌝ }
     ensures { λ r. ⌜ ((os : List ℕ) → text ≡ backed os → r ≡ backed (spelled word ++ os)) ⌝ }
-    ensures { λ r. ⌜ (r .from ≤ text .from) × (text .from ≤ r .from + 7) ⌝ }
+    ensures { λ r. ⌜ (r .from ≤ text .from) × (text .from ≤ r .from + mostLetters) ⌝ }
 {
     match word {
         Word::Start => back::put(b"start", text),

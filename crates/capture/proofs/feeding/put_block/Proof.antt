@@ -12,8 +12,9 @@ use Rattle.block.specs.Blocks.{blockMeans}
 use Rattle.block.specs.declared.Block.{Block}
 use Rattle.octets.specs.Writing.{filled}
 use Rattle.capture_record.specs.Records.{recordsIn}
-use Rattle.capture.specs.Feeding.{Fed}
-use Rattle.capture.specs.Following.{Sound, Listed}
+use Rattle.capture.specs.Listers.{Sound}
+use Rattle.capture.specs.CodeTerms.Following.{Fed}
+use Rattle.capture.specs.CodeTerms.Following.{Listed}
 use Rattle.capture.specs.Lists.{Told, recorded, blockTold}
 use Rattle.capture.specs.declared.lister.Lister.{Lister}
 use Rattle.capture.proofs.Fitting.{fits-listed, sound-counted, used-part, told-as}

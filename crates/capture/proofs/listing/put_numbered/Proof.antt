@@ -10,33 +10,39 @@ use denote.Ref.{now}
 use lib.ListN.{length}
 use Rattle.octets.specs.Writing.{left}
 use Rattle.line.proofs.InRoom.{from-place, fits, begins}
+use Rattle.line.specs.Backs.{lineRoom, backed}
 use Rattle.line.specs.Lines.{lineOf}
+use Rattle.capture.specs.Lists.{responseNumber}
 use Rattle.capture.proofs.listing.put_numbered.Statement.{statement}
 use Rattle.capture.proofs.listing.put_numbered.Tie as tie
 
-sixty-four : (c : tie.After-line) → length (c .line .result .bytes) ≡ 64
-sixty-four c = search needs
+its-room : (c : tie.After-line) → length (c .line .result .bytes) ≡ lineRoom
+its-room c = search needs
 
 abbrev lineIn : tie.After-line → List ℕ
-lineIn c = let a = c .before .before .args in lineOf (a .number) (a .word) (a .answer)
+lineIn c = let a = c .before .before .before .args in lineOf (a .number) (a .word) (responseNumber (a .answer))
 
--- where the line begins in its room
-place : (c : tie.After-line) → (length (lineIn c) ≤ 64) × (c .line .result .from + length (lineIn c) ≡ 64)
+-- the line in its room
+backed-as : (c : tie.After-line) → c .line .result ≡ backed (lineIn c)
+backed-as c = let a = c .before .before .before .args in c .line .ensures ∙ ap (λ (n : ℕ). backed (lineOf (a .number) (a .word) n)) (c .before .number .ensures)
+
+-- where it begins there
+place : (c : tie.After-line) → (length (lineIn c) ≤ lineRoom) × (c .line .result .from + length (lineIn c) ≡ lineRoom)
 place c =
-    let f = fits (c .line .result) (lineIn c) (c .line .ensures) (sixty-four c) in
-    (f, omega (arith, f, begins (c .line .result) (lineIn c) (c .line .ensures) (sixty-four c)))
+    let f = fits (c .line .result) (lineIn c) (backed-as c) (its-room c) in
+    (f, omega (arith, f, begins (c .line .result) (lineIn c) (backed-as c) (its-room c)))
 
 put-text-requires : tie.Need-put-text-requires
-put-text-requires c κs = let k = c .before in (omega (arith, place k), omega (arith, place k, k .before .before .pre))
+put-text-requires c κs = let k = c .before in (omega (arith, place k), omega (arith, place k, k .before .before .before .pre))
 
 returns : tie.Need-returns
 returns c =
     let p = c .before .before .put-text in
     let k = c .before .before .before .before in
-    let a = k .before .before .args in (
+    let a = k .before .before .before .args in (
       (omega (arith, place k, p .ensures .0), omega (arith, place k, p .ensures .0)),
-      p .ensures .1 ∙ ap (λ (os : List ℕ). left true os (a .count) (now (a .out))) (from-place (k .line .result) (lineIn k) (k .line .ensures)),
+      p .ensures .1 ∙ ap (λ (os : List ℕ). left true os (a .count) (now (a .out))) (from-place (k .line .result) (lineIn k) (backed-as k)),
     )
 
 pub put-numbered-spec : {M : Type 1} → statement M
-put-numbered-spec = tie.close (tie.spec (λ c κs. search needs) put-text-requires (λ c. search needs) returns)
+put-numbered-spec = tie.close (tie.spec (λ c κs. search needs) (λ c κs. search needs) put-text-requires (λ c. search needs) returns)

@@ -9,15 +9,16 @@ use borrow.Author.Needs.{needs}
 use denote.Ref.{now}
 use lib.ListN.{length, drop, length-drop}
 use lib.Seq.{take-all}
+use Rattle.line.specs.Backs.{lineRoom}
 use Rattle.octets.specs.Writing.{left}
 use Rattle.capture.proofs.listing.put_text.Statement.{statement}
 use Rattle.capture.proofs.listing.put_text.Tie as tie
 
-sixty-four : (c : tie.After-bytes2) → length (c .before .before .before .args .text .bytes) ≡ 64
-sixty-four c = search needs
+its-room : (c : tie.After-bytes2) → length (c .before .before .before .args .text .bytes) ≡ lineRoom
+its-room c = search needs
 
 part-put-end : tie.Need-part-put-end
-part-put-end c = omega (arith, sixty-four c, c .before .before .before .pre)
+part-put-end c = omega (arith, its-room c, c .before .before .before .pre)
 
 returns : tie.Need-returns
 returns c =
@@ -26,7 +27,7 @@ returns c =
     let t = a .text in (
       refl,
       c .before .before .put .ensures .leaves
-          ∙ ap (λ (os : List ℕ). left true os (a .count) (now (a .out))) (take-all (64 - t .from) (drop (t .from) (t .bytes)) (omega (arith, length-drop (t .from) (t .bytes), sixty-four k))),
+          ∙ ap (λ (os : List ℕ). left true os (a .count) (now (a .out))) (take-all (lineRoom - t .from) (drop (t .from) (t .bytes)) (omega (arith, length-drop (t .from) (t .bytes), its-room k))),
     )
 
 pub put-text-spec : {M : Type 1} → statement M

@@ -2,7 +2,7 @@
 -- Assumes nothing.
 use mathlib.Core.Path.{_∙_, subst}
 use borrow.Author.Needs.{needs}
-use Rattle.capture.specs.Stepping.{ChangeFits}
+use Rattle.capture.specs.CodeTerms.Stepping.{ChangeFits}
 use Rattle.capture.proofs.noting.note.Statement.{statement}
 use Rattle.capture.proofs.noting.note.Tie as tie
 

@@ -1,12 +1,9 @@
 -- `advance` meets its contract: no station, or the one that is followed, by its clock.
 -- Assumes nothing.
 use mathlib.Core.Bool.{true}
-use mathlib.Core.Path.{_≡_, refl, sym, ap, _∙_}
-use Prim.Native.Nat.{ℕ}
+use mathlib.Core.Path.{_≡_, refl, sym, _∙_}
 use borrow.Author.Needs.{needs}
 use borrow.Author.Tests.{not-true, not-false}
-use Rattle.line.specs.declared.words.Word.{Word}
-use Rattle.capture.specs.Lists.{line}
 use Rattle.capture.proofs.Answering.{no-advance}
 use Rattle.capture.proofs.Advancing.{refused-line, clock-line, clock-sound}
 use Rattle.capture.proofs.stepping.advance.Statement.{statement}
@@ -23,13 +20,10 @@ there c = not-false (c .before .before .before .before .args .lister .active) (c
 
 returns-2 : tie.Need-returns-2
 returns-2 c =
-    let k = c .before .before .before .before in
+    let k = c .before .before .before in
     let s = k .before .before .before .before in
-    let l = s .args .lister in
-    let told = sym (k .advance-clock .ensures) ∙ c .before .before .enum-told .given .1 in (
-      λ os.
-          c .unchanged .ensures .0 os ∙ ap (λ (n : ℕ). line l Word.Advance n) (c .before .number .ensures)
-          ∙ refused-line l (there k) (s .pre .followed (there k)) (s .args .units) told,
+    let told = sym (k .advance-clock .ensures) ∙ c .before .enum-told .given .1 in (
+      λ os. c .unchanged .ensures .0 os ∙ refused-line (s .args .lister) (there k) (s .pre .followed (there k)) (s .args .units) told,
       c .unchanged .ensures .1,
     )
 
@@ -53,7 +47,6 @@ advance-spec =
     returns
     (λ c κs. search needs)
     (λ c. search needs)
-    (λ c κs. search needs)
     (λ c κs. search needs)
     (λ c. search needs)
     (λ c. search needs)

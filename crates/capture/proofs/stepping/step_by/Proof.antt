@@ -5,7 +5,7 @@ use mathlib.Core.Path.{_≡_, refl, sym, ap, _∙_, subst}
 use borrow.Author.Needs.{needs}
 use Rattle.capture_record.specs.declared.entry.Entry.{Entry}
 use Rattle.capture.specs.Lists.{noted}
-use Rattle.capture.specs.Stepping.{entryMalformed, StepFits}
+use Rattle.capture.specs.CodeTerms.Stepping.{entryMalformed, StepFits}
 use Rattle.capture.specs.declared.lister.Lister.{Lister}
 use Rattle.capture.specs.declared.stepping.Step.{Step}
 use Rattle.capture.proofs.stepping.step_by.Statement.{statement}

@@ -3,18 +3,17 @@
 use mathlib.Core.Path.{_≡_, refl, sym, ap, subst}
 use native.Mathlib.Omega.{arith}
 use borrow.Author.Needs.{needs}
-use Rattle.answer.proofs.Booleans.{clash}
 use Rattle.station.specs.declared.Station.{Station}
 use Rattle.capture.specs.Listers.{fresh, Fits}
 use Rattle.capture.specs.declared.lister.Lister.{Lister}
+use Rattle.capture.proofs.StaysSound.{none-sound}
 use Rattle.capture.proofs.lister.Lister.fresh.Statement.{statement}
 use Rattle.capture.proofs.lister.Lister.fresh.Tie as tie
 
 fits : Fits fresh
 fits =
     record {
-      followed = λ e. clash (sym e);
-      idle = λ e. refl;
+      sound = none-sound refl refl;
       few-blocks = omega arith;
       few-lines = omega arith;
       few-damaged = omega arith;

@@ -1,21 +1,15 @@
--- The code's own terms: a line before it is written, and what every record leaves of the lister. No public promise cites these.
-use mathlib.Core.Bool.{true, false}
+-- A line before it is written, and what every record and every block leave of the lister.
 use mathlib.Core.Path.{_≡_}
 use Prim.Native.Nat.{ℕ, _+_, _≤_}
 use lib.ListN.{length}
-use Rattle.station.specs.Starting.{blank}
-use Rattle.station.specs.Validity.{Valid}
+use Rattle.capture.specs.Listers.{mostLines, Sound, Fits}
 use Rattle.capture.specs.Lists.{Told, line}
 use Rattle.capture.specs.declared.lister.Lister.{Lister}
+use Rattle.capture.specs.declared.listing.Put.{Put}
 use Rattle.capture.specs.declared.noting.Answered.{Answered}
 
 abbrev pub lineFor : Answered → Told
 lineFor a = line (a .lister) (a .word) (a .answer)
-
--- the station is one that its calls have made, or there is none
-pub record Sound (l : Lister) : Type 0 where
-  pub followed : l .active ≡ true → Valid (l .station)
-  pub idle : l .active ≡ false → l .station ≡ blank
 
 -- a record leaves a sound lister, and the counts as they are
 pub record Follows (l next : Lister) : Type 0 where
@@ -24,11 +18,17 @@ pub record Follows (l next : Lister) : Type 0 where
   pub same-blocks : next .blocks ≡ l .blocks
   pub same-damaged : next .damaged ≡ l .damaged
 
--- what the lines of a block leave: the lister that was told, how many octets they are, and counts that stay small
+-- what the lines of a block's records leave: the lister that was told, how many octets they are, and counts that stay small
 pub record Listed (l : Lister) (told : Told) (next : Lister) (count : ℕ) : Type 0 where
   pub same : next ≡ told .lister
   pub many : count ≡ length (told .text)
   pub sound : Sound next
-  pub few-lines : next .lines ≤ l .lines + 171
+  pub few-lines : next .lines ≤ l .lines + mostLines
   pub same-blocks : next .blocks ≡ l .blocks
   pub same-damaged : next .damaged ≡ l .damaged
+
+-- what the lines of a block leave
+pub record Fed (l : Lister) (told : Told) (put : Put) : Type 0 where
+  pub same : put .lister ≡ told .lister
+  pub many : put .count ≡ length (told .text)
+  pub fits : Fits (put .lister)

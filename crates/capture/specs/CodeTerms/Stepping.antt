@@ -1,12 +1,12 @@
--- The code's own terms: what a record comes to. No public promise cites these.
+-- What a record comes to, as the code tells it without the lister that it leaves.
 use mathlib.Core.Bool.{Bool, true, false}
 use mathlib.Core.List.{List}
 use mathlib.Core.Path.{_≡_}
 use Prim.Native.Nat.{ℕ}
 use Rattle.capture_record.specs.Entries.{Noted, starting, advancing, hearing, settingsOf}
 use Rattle.capture_record.specs.declared.entry.Entry.{Entry}
-use Rattle.station.specs.Clock.{clocked}
-use Rattle.capture.specs.Following.{Sound}
+use Rattle.station.specs.Stations.{withClock}
+use Rattle.capture.specs.Listers.{withStation, Sound}
 use Rattle.capture.specs.Lists.{Told, line, badRecord, noted}
 use Rattle.capture.specs.declared.lister.Lister.{Lister}
 use Rattle.capture.specs.declared.stepping.Change.{Change}
@@ -14,7 +14,7 @@ use Rattle.capture.specs.declared.stepping.Step.{Step}
 
 -- the lister with its station's clock at t
 abbrev pub clockedAt : Lister → ℕ → Lister
-clockedAt l t = record { lines = l .lines; blocks = l .blocks; damaged = l .damaged; active = l .active; station = clocked (l .station) t }
+clockedAt l t = withStation l (l .active) (withClock (l .station) t)
 
 -- what a change notes, with these contents
 abbrev pub changeNotes : List ℕ → Change → Noted
