@@ -3,14 +3,13 @@ use mathlib.Core.Bool.{Bool}
 use mathlib.Core.List.{List, [], _∷_, _++_}
 use Prim.Native.Nat.{ℕ}
 use Rattle.answer.specs.Checks.{Outcome, refused, accepted, pick}
+use Rattle.beacon.specs.Notices.{nothing, withReport, withSwitch}
 use Rattle.beacon.specs.declared.MaybePower.{MaybePower}
 use Rattle.beacon.specs.declared.MaybeReport.{MaybeReport}
 use Rattle.beacon.specs.declared.MaybeSwitch.{MaybeSwitch}
 use Rattle.beacon.specs.declared.Notice.{Notice}
 use Rattle.element.specs.Quiet.{quietContents}
-use Rattle.element.specs.declared.channel_switch.ChannelSwitch.{ChannelSwitch}
 use Rattle.element.specs.declared.quiet.Quiet.{Quiet}
-use Rattle.element.specs.declared.tpc_report.TpcReport.{TpcReport}
 use Rattle.frame.specs.declared.Frame.{Frame}
 use Rattle.frame.specs.declared.Reading.{Reading}
 use Rattle.frame.specs.declared.Received.{Received}
@@ -25,28 +24,19 @@ use Rattle.boundary.specs.declared.fields.HeldSwitch.{HeldSwitch}
 abbrev pub flag : Bool → ℕ
 flag b = pick b 1 0
 
-abbrev pub noNotice : Notice
-noNotice = record { timestamp = 0; capability = 0; power = MaybePower.Absent; report = MaybeReport.Absent; switch = MaybeSwitch.Absent }
-
 -- the kind's number, its token, how many measurement elements it has, and what it says of a notice's fields
 abbrev pub fields : ℕ → ℕ → ℕ → Notice → Fields
 fields kind token elements notice = record { kind = kind; token = token; elements = elements; notice = notice }
-
-abbrev pub reporting : TpcReport → Notice
-reporting t = record { timestamp = 0; capability = 0; power = MaybePower.Absent; report = MaybeReport.Is t; switch = MaybeSwitch.Absent }
-
-abbrev pub announcing : ChannelSwitch → Notice
-announcing s = record { timestamp = 0; capability = 0; power = MaybePower.Absent; report = MaybeReport.Absent; switch = MaybeSwitch.Is s }
 
 -- 0 beacon, 1 probe response, 2 Measurement Request, 3 Measurement Report, 4 TPC Request, 5 TPC Report, 6 Channel Switch Announcement
 abbrev pub fieldsOf : Frame → Fields
 fieldsOf (Frame.Beacon n) = fields 0 0 0 n
 fieldsOf (Frame.ProbeResponse n) = fields 1 0 0 n
-fieldsOf (Frame.MeasurementRequest token count) = fields 2 token count noNotice
-fieldsOf (Frame.MeasurementReport token count) = fields 3 token count noNotice
-fieldsOf (Frame.TpcRequest token) = fields 4 token 0 noNotice
-fieldsOf (Frame.TpcReport token t) = fields 5 token 0 (reporting t)
-fieldsOf (Frame.ChannelSwitch s) = fields 6 0 0 (announcing s)
+fieldsOf (Frame.MeasurementRequest token count) = fields 2 token count nothing
+fieldsOf (Frame.MeasurementReport token count) = fields 3 token count nothing
+fieldsOf (Frame.TpcRequest token) = fields 4 token 0 nothing
+fieldsOf (Frame.TpcReport token t) = fields 5 token 0 (withReport nothing t)
+fieldsOf (Frame.ChannelSwitch s) = fields 6 0 0 (withSwitch nothing s)
 
 -- what may be absent, with 1 in front where it is there and zeros where it is not
 abbrev pub heldPower : MaybePower → HeldPower

@@ -2,11 +2,12 @@
 ghost use mathlib.Core.Path.{_≡_};
 ghost use Rattle.beacon.specs.declared.MaybeReport.{MaybeReport};
 ghost use Rattle.element.specs.Quiet.{quietContents};
-ghost use Rattle.boundary.specs.Fields.{flag, fields, noNotice, fieldsOf, heldPower, heldReport, heldSwitch, headFields, quietFields};
+ghost use Rattle.boundary.specs.Fields.{flag, fields, fieldsOf, heldPower, heldReport, heldSwitch, headFields, quietFields};
 use beacon::MaybePower;
 use beacon::MaybeReport;
 use beacon::MaybeSwitch;
 use beacon::Notice;
+use beacon::QUIETS;
 use element::quiet::Quiet;
 use element::tpc_report::TpcReport;
 use frame::Frame;
@@ -17,18 +18,6 @@ pub struct Fields {
     pub token: u8,
     pub elements: u64,
     pub notice: Notice,
-}
-
-fn no_notice() -> Notice
-    ensures { λ r. ⌜ r ≡ noNotice ⌝ }
-{
-    Notice {
-        timestamp: 0,
-        capability: 0,
-        power: MaybePower::Absent,
-        report: MaybeReport::Absent,
-        switch: MaybeSwitch::Absent,
-    }
 }
 
 fn common(kind: u8, token: u8, elements: u64, notice: Notice) -> Fields
@@ -49,20 +38,22 @@ pub fn of_frame(frame: Frame) -> Fields
         Frame::Beacon(notice) => common(0, 0, 0, notice),
         Frame::ProbeResponse(notice) => common(1, 0, 0, notice),
         Frame::MeasurementRequest { token, count } => {
-            common(2, token, count as u64, no_notice())
+            common(2, token, count as u64, Notice::NOTHING)
         }
-        Frame::MeasurementReport { token, count } => common(3, token, count as u64, no_notice()),
-        Frame::TpcRequest { token } => common(4, token, 0, no_notice()),
+        Frame::MeasurementReport { token, count } => common(3, token, count as u64, Notice::NOTHING),
+        Frame::TpcRequest { token } => common(4, token, 0, Notice::NOTHING),
         Frame::TpcReport { token, report } => {
-            let report = MaybeReport::Is(report);
-            let notice = no_notice();
-            let notice = Notice { report, ..notice };
+            let notice = Notice {
+                report: MaybeReport::Is(report),
+                ..Notice::NOTHING
+            };
             common(5, token, 0, notice)
         }
         Frame::ChannelSwitch(switch) => {
-            let switch = MaybeSwitch::Is(switch);
-            let notice = no_notice();
-            let notice = Notice { switch, ..notice };
+            let notice = Notice {
+                switch: MaybeSwitch::Is(switch),
+                ..Notice::NOTHING
+            };
             common(6, 0, 0, notice)
         }
     }
@@ -218,13 +209,13 @@ pub fn quiet(quiet: Quiet) -> [u8; 6]
     [quiet.count, quiet.period, d[0], d[1], o[0], o[1]]
 }
 
-// The eight slots, six octets each.
-pub fn slots(quiets: [Quiet; 8]) -> [u8; 48]
+// The slots, six octets each.
+pub fn slots(quiets: [Quiet; QUIETS]) -> [u8; 48]
     ensures { λ r. ⌜ r ≡ quietFields quiets ⌝ }
 {
     let mut all = [0u8; 48];
     let mut i = 0;
-    while i < 8 {
+    while i < QUIETS {
         let slot = quiet(quiets[i]);
         octets::put(true, &slot, &mut all, 6 * i);
         i += 1;
