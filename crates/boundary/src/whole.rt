@@ -4,7 +4,8 @@ ghost use mathlib.Core.Path.{_≡_};
 ghost use Prim.Native.Nat.{_<_, _≤_};
 ghost use lib.ListN.{length};
 ghost use Rattle.octets.specs.Writing.{left, Written};
-ghost use Rattle.capture.specs.Listers.{Fits};
+ghost use Rattle.capture.specs.Feeding.{enoughRoom};
+ghost use Rattle.capture.specs.Listers.{blockLimit, Fits};
 ghost use Rattle.capture.specs.Lists.{blockTold, fileTold, listOf};
 ghost use Rattle.boundary.specs.CodeTerms.Passing.{Passed};
 use answer::Refusal;
@@ -52,7 +53,7 @@ fn pass_block(
     count: usize,
 ) -> Progress
     requires { ⌜ Fits lister ⌝ }
-    requires { ⌜ (lister .blocks < 36028797018963968) × (10944 ≤ length (now room)) × (count ≤ length (now out)) ⌝ }
+    requires { ⌜ (lister .blocks < blockLimit) × (enoughRoom ≤ length (now room)) × (count ≤ length (now out)) ⌝ }
     ensures { λ r. ⌜ Passed count (blockTold (now (block .entry)) lister) (length (now (out .entry))) r ⌝ }
     ensures { λ _. ⌜ now (out .exit) ≡ left store (blockTold (now (block .entry)) lister .text) count (now (out .entry)) ⌝ }
 {

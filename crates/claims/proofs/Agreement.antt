@@ -13,7 +13,7 @@ use Rattle.answer.proofs.Booleans.{either, neither}
 use Rattle.answer.proofs.Judged.{never}
 use Rattle.answer.specs.Checks.{Outcome, refused, accepted, checked}
 use Rattle.beacon.specs.Allowed.{QuietsAllowed}
-use Rattle.beacon.specs.Beacons.{Said}
+use Rattle.beacon.specs.Beacons.{Told}
 use Rattle.beacon.specs.declared.MaybePower.{MaybePower}
 use Rattle.beacon.specs.declared.MaybeSwitch.{MaybeSwitch}
 use Rattle.element.specs.declared.channel_switch.ChannelSwitch.{ChannelSwitch}
@@ -24,13 +24,15 @@ use Rattle.frame.specs.Allowed.{KindAllowed}
 use Rattle.frame.specs.Frames.{Kind, beacon, probeResponse, action, Sent, frameMeans}
 use Rattle.pending.specs.declared.Pending.{Pending}
 use Rattle.schedule.specs.Schedules.{setBy}
-use Rattle.station.specs.Clock.{switched, clocked, met, reachOf, advanceMeans, advanceOf}
-use Rattle.station.specs.Stations.{inUse}
-use Rattle.station.specs.Taking.{schedulesOf, rescheduled, constrained, announced, announcedIf, told, heard, takeMeans, takeOf}
+use Rattle.station.specs.Clock.{stepped, switched, reached, clockAdvance, advancedTo, advanceMeans, advanceOf}
+use Rattle.station.specs.Stations.{inUse, withClock}
+use Rattle.station.specs.Taking.{schedulesOf, rescheduled, constrained, announced, announcedIf, informed, heard, takeMeans, takeOf}
 use Rattle.station.specs.declared.Station.{Station}
-use Rattle.claims.specs.Histories.{Settings, Call, frame, advance, ask, History, clockAfter, Hears, Says, announcementIn, Tells, Announces, Latest, Throughout}
+use Rattle.capture_record.specs.declared.entry.Settings.{Settings}
+use Rattle.claims.specs.Histories.{Call, frame, advance, ask, History, tooFar, clockAfter, Hears, Says, announcementIn, Tells, Announces, Latest, Throughout}
 use Rattle.claims.specs.Records.{recordAfter, Agrees}
-use Rattle.claims.specs.Standing.{NoAnnouncement, Switches, at-once, reached, NoSwitch, ChannelIs, PowerIs, PendingIs, SetsEach, SchedulesAre}
+use Rattle.claims.specs.Standing.{NoAnnouncement, Switches, at-once, NoSwitch, ChannelIs, PowerIs, PendingIs, SetsEach, SchedulesAre}
+use Rattle.claims.specs.Standing as Standing
 use Rattle.claims.proofs.CountingTbtts.{counting}
 use Rattle.claims.proofs.OneSaying.{no-switch-said, hears-one}
 use Rattle.claims.proofs.Others.{channel-changes, power-gone, schedules-gone, channel-stays, power-stays, schedules-stay, power-kept, no-constraint, schedules-replaced}
@@ -77,7 +79,7 @@ module _ (s : Settings) (pos : 1 ≤ s .interval) where
   module _ (h : History) (r : Station) (a : Agrees s h r) where
     -- ---- a call that changes nothing
 
-    idle : (c : Call) → clockAfter (c ∷ h) ≡ clockAfter h → NoAnnouncement s c h → ((said : Said) → Tells s c said → ⊥) → Agrees s (c ∷ h) r
+    idle : (c : Call) → clockAfter (c ∷ h) ≡ clockAfter h → NoAnnouncement s c h → ((said : Told) → Tells s c said → ⊥) → Agrees s (c ∷ h) r
     idle c still none silent =
         let calm = no-switch s pos c h still none in
         record {
@@ -160,7 +162,7 @@ module _ (s : Settings) (pos : 1 ≤ s .interval) where
 
     -- ---- a beacon or a probe response
 
-    module _ (c : Call) (k : Kind) (said : Said) (still : clockAfter (c ∷ h) ≡ clockAfter h) (hears : Hears s c k) (says' : Says k said)
+    module _ (c : Call) (k : Kind) (said : Told) (still : clockAfter (c ∷ h) ≡ clockAfter h) (hears : Hears s c k) (says' : Says k said)
         (allowed : QuietsAllowed (s .interval) (said .quiets)) where
       tells : Tells s c said
       tells = (k, hears, says')
@@ -170,7 +172,7 @@ module _ (s : Settings) (pos : 1 ≤ s .interval) where
           rw (in-use r (said .quiets), a .same-clock, a .same-interval)
           (schedules-replaced s c h calm said tells _ (sets-each (clockAfter h) (said .quiets) allowed))
 
-      notices : (m : MaybePower) → said .power ≡ m
+      notices : (m : MaybePower) → said .notice .power ≡ m
           → Agrees s (c ∷ h) (announcedIf (constrained (rescheduled r (said .quiets)) m) (announcementIn k))
       notices MaybePower.Absent e =
           announces-if c k (rescheduled r (said .quiets)) still hears (a .same-own) (a .same-ap) (a .same-interval) (a .same-clock)
@@ -201,10 +203,10 @@ module _ (s : Settings) (pos : 1 ≤ s .interval) where
           (λ said y. subst (λ (l : Kind). Says l said) (hears-one s (frame f) (y .0) (action body) (y .1) hears) (y .2))
 
       hears-kind : (k : Kind) → Hears s (frame f) k → KindAllowed (s .interval) k → Agrees s (frame f ∷ h) (heard r k)
-      unfolding told
-      hears-kind (beacon t) hears ok = notices (frame f) (beacon t) (t .said) still-frame hears refl (ok .quiets-allowed) (t .said .power) refl
+      unfolding informed
+      hears-kind (beacon t) hears ok = notices (frame f) (beacon t) t still-frame hears refl (ok .quiets-allowed) (t .said .notice .power) refl
       hears-kind (probeResponse t) hears ok =
-          notices (frame f) (probeResponse t) (t .said) still-frame hears refl (ok .quiets-allowed) (t .said .power) refl
+          notices (frame f) (probeResponse t) t still-frame hears refl (ok .quiets-allowed) (t .said .notice .power) refl
       hears-kind (action (requests token rs)) hears ok = changes-nothing (requests token rs) hears refl
       hears-kind (action (reports token rs)) hears ok = changes-nothing (reports token rs) hears refl
       hears-kind (action (tpcRequest token)) hears ok = changes-nothing (tpcRequest token) hears refl
@@ -216,7 +218,7 @@ module _ (s : Settings) (pos : 1 ≤ s .interval) where
           (λ calm. schedules-stay s (frame f) h calm silent (inUse r) (a .schedules-told))
           (MaybeSwitch.Is w) refl
         where
-          silent : (said : Said) → Tells s (frame f) said → ⊥
+          silent : (said : Told) → Tells s (frame f) said → ⊥
           silent said y = subst (λ (l : Kind). Says l said) (hears-one s (frame f) (y .0) (action (switch w)) (y .1) hears) (y .2)
 
       takes : Agrees s (frame f ∷ h) (takeOf r f .station)
@@ -242,11 +244,11 @@ module _ (s : Settings) (pos : 1 ≤ s .interval) where
       nobody : NoAnnouncement s (advance n) h
       nobody w y = y .1
 
-      silence : (said : Said) → Tells s (advance n) said → ⊥
+      silence : (said : Told) → Tells s (advance n) said → ⊥
       silence said y = y .1
 
       -- no switch on the way
-      goes-on : NoSwitch s (advance n) h → PendingIs s (advance n ∷ h) (r .pending) → Agrees s (advance n ∷ h) (clocked r t)
+      goes-on : NoSwitch s (advance n) h → PendingIs s (advance n ∷ h) (r .pending) → Agrees s (advance n ∷ h) (withClock r t)
       goes-on calm pending =
           record {
             same-own = a .same-own;
@@ -260,7 +262,7 @@ module _ (s : Settings) (pos : 1 ≤ s .interval) where
           }
 
       meets : (w : ChannelSwitch) → Switches s (advance n) h w → PendingIs s (advance n ∷ h) Pending.Nothing
-          → Agrees s (advance n ∷ h) (switched (clocked r t) (w .channel))
+          → Agrees s (advance n ∷ h) (switched (withClock r t) (w .channel))
       meets w x pending =
           record {
             same-own = a .same-own;
@@ -273,48 +275,45 @@ module _ (s : Settings) (pos : 1 ≤ s .interval) where
             schedules-told = schedules-gone s (advance n) h w x;
           }
 
-      reaches : Agrees s (advance n ∷ h) (reachOf r t)
+      reaches : Agrees s (advance n ∷ h) (stepped r (advancedTo r (reached t (r .pending))) .station)
       reaches = by-pending (r .pending) refl
         where
-          by-pending : (p : Pending) → r .pending ≡ p → Agrees s (advance n ∷ h) (met p (clocked r t) t)
+          by-pending : (p : Pending) → r .pending ≡ p → Agrees s (advance n ∷ h) (stepped r (advancedTo r (reached t p)) .station)
           by-pending Pending.Nothing e =
               let before = subst (PendingIs s h) e (a .pending-told) in
               goes-on (nothing-reached s pos (advance n) h onward nobody before)
               (subst (PendingIs s (advance n ∷ h)) (sym e) (still-nothing s pos (advance n) h onward nobody before))
-          by-pending (Pending.Switch at mode channel) e =
-              let before : PendingIs s h (Pending.Switch at mode channel) = subst (PendingIs s h) e (a .pending-told) in
+          by-pending (Pending.Switch q) e =
+              let before : PendingIs s h (Pending.Switch q) = subst (PendingIs s h) e (a .pending-told) in
               let w = before .0 in
               ⊎-elim
-              (λ (y : ltb t at ≡ true).
-              let short : clockAfter (advance n ∷ h) < at = omega (arith, ltb-true t at y) in
+              (λ (y : ltb t (q .at) ≡ true).
+              let short : clockAfter (advance n ∷ h) < q .at = omega (arith, ltb-true t (q .at) y) in
               simp y
-              (goes-on (not-reached s pos (advance n) h onward nobody at w (before .1) short)
+              (goes-on (not-reached s pos (advance n) h onward nobody (q .at) w (before .1) short)
               (subst (PendingIs s (advance n ∷ h)) (sym e)
-              (w, still-awaited s pos (advance n) h onward nobody at w (before .1) short, before .2, before .3))))
-              (λ (k : ltb t at ≡ false).
-              let come : at ≤ clockAfter (advance n ∷ h) = omega (arith, ltb-false t at k) in
+              (w, still-awaited s pos (advance n) h onward nobody (q .at) w (before .1) short, before .2, before .3))))
+              (λ (k : ltb t (q .at) ≡ false).
+              let come : q .at ≤ clockAfter (advance n ∷ h) = omega (arith, ltb-false t (q .at) k) in
               simp k
-              (subst (λ (m : ℕ). Agrees s (advance n ∷ h) (switched (clocked r t) m)) (before .3)
-              (meets w (reached at (before .1) come) (no-longer s pos (advance n) h onward nobody at w (before .1) come))))
-              (either (ltb t at))
+              (subst (λ (m : ℕ). Agrees s (advance n ∷ h) (switched (withClock r t) m)) (before .3)
+              (meets w (Standing.reached (q .at) (before .1) come) (no-longer s pos (advance n) h onward nobody (q .at) w (before .1) come))))
+              (either (ltb t (q .at)))
 
     module _ (n : ℕ) where
-      same-limit : ltb 4294967295 (r .clock + n) ≡ ltb 4294967295 (clockAfter h + n)
-      same-limit = rw (a .same-clock)
+      same-test : tooFar (r .clock) n ≡ tooFar (clockAfter h) n
+      same-test = rw (a .same-clock)
 
       refused-stays : clockAfter (advance n ∷ h) ≡ clockAfter h → Agrees s (advance n ∷ h) r
       refused-stays still = idle (advance n) still (λ w x. x .1) (λ said x. x .1)
 
       advances : Agrees s (advance n ∷ h) (advanceOf r n .station)
-      unfolding advanceMeans checked clockAfter
+      unfolding advanceMeans clockAdvance clockAfter
       advances =
           ⊎-elim
-          (λ (y : ltb 65535 n ≡ true). simp y (refused-stays (simp y)))
-          (λ (k : ltb 65535 n ≡ false). ⊎-elim
-          (λ (y : ltb 4294967295 (r .clock + n) ≡ true). simp (k, y) (refused-stays (simp (k, sym same-limit ∙ y))))
-          (λ (l : ltb 4294967295 (r .clock + n) ≡ false). simp (k, l) (reaches n (r .clock + n) (simp (k, sym same-limit ∙ l) (rw (a .same-clock))) (omega (arith, a .same-clock))))
-          (either (ltb 4294967295 (r .clock + n))))
-          (either (ltb 65535 n))
+          (λ (y : tooFar (r .clock) n ≡ true). simp y (refused-stays (simp (sym same-test ∙ y))))
+          (λ (k : tooFar (r .clock) n ≡ false). simp k (reaches n (r .clock + n) (simp (sym same-test ∙ k) (rw (a .same-clock))) (omega (arith, a .same-clock))))
+          (either (tooFar (r .clock) n))
 
   -- ---- whatever the calls
 

@@ -15,7 +15,8 @@ use Rattle.station.specs.Asking.{firstOf, quietIn, permissionOf}
 use Rattle.station.specs.Stations.{inUse}
 use Rattle.station.specs.declared.Station.{Station}
 use Rattle.station.specs.declared.asking.Permission.{Permission}
-use Rattle.claims.specs.Histories.{Settings, History, clockAfter}
+use Rattle.capture_record.specs.declared.entry.Settings.{Settings}
+use Rattle.claims.specs.Histories.{History, clockAfter}
 use Rattle.claims.specs.OpenUnits.{QuietUnit, AllOpen, Waits, QuietLater, SwitchWithin, Applies}
 use Rattle.claims.specs.Records.{Agrees}
 use Rattle.claims.specs.Standing.{Awaits, PendingIs}
@@ -37,15 +38,18 @@ module _ {t : Bool} {P : Type 0} (x : Tells-whether t P) where
 module _ (s : Settings) (pos : 1 ≤ s .interval) (h : History) (r : Station) (a : Agrees s h r) where
   -- ---- the pending switch
 
-  pending-of : (at : ℕ) (w : ChannelSwitch) → Awaits s h at w → r .pending ≡ Pending.Switch at (w .mode) (w .channel)
-  pending-of at w x = pending-one s pos h (r .pending) (Pending.Switch at (w .mode) (w .channel)) (a .pending-told) (w, x, refl, refl)
+  abbrev awaited : ℕ → ChannelSwitch → Pending
+  awaited at w = Pending.Switch (record { at = at; mode = w .mode; channel = w .channel })
+
+  pending-of : (at : ℕ) (w : ChannelSwitch) → Awaits s h at w → r .pending ≡ awaited at w
+  pending-of at w x = pending-one s pos h (r .pending) (awaited at w) (a .pending-told) (w, x, refl, refl)
 
   waits : Tells-whether (silences (r .pending)) (Waits s h)
   waits = record { holds = λ e. by-pending (r .pending) (a .pending-told) e; shows = λ x. ap silences (pending-of (x .0) (x .1) (x .2)) ∙ eq-eqb (x .1 .mode) 1 (x .3) }
     where
       by-pending : (p : Pending) → PendingIs s h p → silences p ≡ true → Waits s h
       by-pending Pending.Nothing y e = clash (sym e)
-      by-pending (Pending.Switch at mode channel) (w, y, m, c) e = (at, w, y, m ∙ eqb-true mode 1 e)
+      by-pending (Pending.Switch q) (w, y, m, c) e = (q .at, w, y, m ∙ eqb-true (q .mode) 1 e)
 
   within : (n : ℕ) → Tells-whether (comesBefore (r .pending) (r .clock + n)) (SwitchWithin s h n)
   within n =
@@ -56,7 +60,7 @@ module _ (s : Settings) (pos : 1 ≤ s .interval) (h : History) (r : Station) (a
     where
       by-pending : (p : Pending) → PendingIs s h p → comesBefore p (r .clock + n) ≡ true → SwitchWithin s h n
       by-pending Pending.Nothing y e = clash (sym e)
-      by-pending (Pending.Switch at mode channel) (w, y, m, c) e = (at, w, y, omega (arith, ltb-true at (r .clock + n) e, a .same-clock))
+      by-pending (Pending.Switch q) (w, y, m, c) e = (q .at, w, y, omega (arith, ltb-true (q .at) (r .clock + n) e, a .same-clock))
 
   -- ---- the quiet units
 
@@ -75,22 +79,22 @@ module _ (s : Settings) (pos : 1 ≤ s .interval) (h : History) (r : Station) (a
 
   up-to : (p : Pending) (e u : ℕ) → PendingIs s h p → u < upTo p e → Before p e u
   up-to Pending.Nothing e u y lt = (lt, λ at w x. absurd (y at w x))
-  up-to (Pending.Switch m mode channel) e u y lt =
+  up-to (Pending.Switch q) e u y lt =
       ⊎-elim
-      (λ (z : ltb m e ≡ true). let k : u < m = simp z at lt in (omega (arith, ltb-true m e z), λ at w x. omega (arith, same at w x)))
-      (λ (z : ltb m e ≡ false). let k : u < e = simp z at lt in (k, λ at w x. omega (arith, same at w x, ltb-false m e z)))
-      (either (ltb m e))
+      (λ (z : ltb (q .at) e ≡ true). let k : u < q .at = simp z at lt in (omega (arith, ltb-true (q .at) e z), λ at w x. omega (arith, same at w x)))
+      (λ (z : ltb (q .at) e ≡ false). let k : u < e = simp z at lt in (k, λ at w x. omega (arith, same at w x, ltb-false (q .at) e z)))
+      (either (ltb (q .at) e))
     where
-      same : (at : ℕ) (w : ChannelSwitch) → Awaits s h at w → m ≡ at
-      same at w x = ap (λ (z : ℕ × ChannelSwitch). z .0) (announced-one s pos h (m, y .0) (at, w) (y .1 .0) (x .0))
+      same : (at : ℕ) (w : ChannelSwitch) → Awaits s h at w → q .at ≡ at
+      same at w x = ap (λ (z : ℕ × ChannelSwitch). z .0) (announced-one s pos h (q .at, y .0) (at, w) (y .1 .0) (x .0))
 
   up-to-back : (p : Pending) (e u : ℕ) → PendingIs s h p → Before p e u → u < upTo p e
   up-to-back Pending.Nothing e u y b = b .0
-  up-to-back (Pending.Switch m mode channel) e u y b =
+  up-to-back (Pending.Switch q) e u y b =
       ⊎-elim
-      (λ (z : ltb m e ≡ true). simp z (b .1 m (y .0) (y .1)))
-      (λ (z : ltb m e ≡ false). simp z (b .0))
-      (either (ltb m e))
+      (λ (z : ltb (q .at) e ≡ true). simp z (b .1 (q .at) (y .0) (y .1)))
+      (λ (z : ltb (q .at) e ≡ false). simp z (b .0))
+      (either (ltb (q .at) e))
 
   quiet-later : (n : ℕ) → Tells-whether (quietIn (inUse r) (r .clock + 1) (upTo (r .pending) (r .clock + n))) (QuietLater s h n)
   quiet-later n =

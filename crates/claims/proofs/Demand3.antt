@@ -20,7 +20,8 @@ use Rattle.station.specs.declared.Station.{Station}
 use Rattle.station.specs.declared.asking.Permission.{Permission}
 use Rattle.station.specs.declared.clock.Stepped.{Stepped}
 use Rattle.station.specs.declared.starting.Started.{Started}
-use Rattle.claims.specs.Histories.{Settings, frame, advance, ask, History}
+use Rattle.capture_record.specs.declared.entry.Settings.{Settings}
+use Rattle.claims.specs.Histories.{frame, advance, ask, History}
 use Rattle.claims.specs.OpenUnits.{AllOpen, Applies}
 use Rattle.claims.specs.Records.{recordAfter, Agrees}
 use Rattle.claims.specs.Runs.{Starts, Takes, Advances, Asks, Ran}

@@ -1,6 +1,6 @@
 -- Each line of a file's list is what the history of the station that it belongs to says (00, demand 3; 01, "Capture blocks and the evening list").
 -- Assumes nothing.
-use mathlib.Core.Bool.{Bool, true, false, _||_}
+use mathlib.Core.Bool.{Bool, true, false}
 use mathlib.Core.List.{List, [], _∷_, _++_, append-nil}
 use mathlib.Core.Logic.{inl, inr}
 use mathlib.Core.Path.{_≡_, refl, sym, ap, ap₂, _∙_, subst}
@@ -18,21 +18,24 @@ use Rattle.block.specs.declared.Block.{Block}
 use Rattle.capture.specs.Listers.{fresh, oneBlockMore}
 use Rattle.capture.specs.Lists.{Told, line, before, started, stepped, noStation, badRecord, noted, isMalformed, recorded, damagedTold, judged, blockTold, blocksIn, blocksTold, listOf}
 use Rattle.capture.specs.declared.lister.Lister.{Lister}
+use Rattle.capture.specs.declared.response.Response.{Response}
 use Rattle.frame.specs.Frames.{frameMeans}
 use Rattle.capture_record.specs.Entries.{Noted, malformed, starting, advancing, hearing, asking, entryMeans}
-use Rattle.capture_record.specs.declared.entry.Settings as Entry
 use Rattle.capture_record.specs.Records.{Records, end, cut, more, recordsIn}
 use Rattle.station.specs.Asking.{permissionNumber, permissionOf}
-use Rattle.station.specs.Clock.{advanceMeans, advanceOf}
+use Rattle.station.specs.Clock.{clockAdvance, advanceMeans, advanceOf}
 use Rattle.station.specs.Clock as Clock
 use Rattle.station.specs.Starting.{startForbids, startMeans}
 use Rattle.station.specs.Stations as Stations
 use Rattle.station.specs.Taking.{takeMeans, takeOf}
+use Rattle.pending.specs.declared.Pending.{Pending}
 use Rattle.station.specs.declared.Station.{Station}
+use Rattle.station.specs.declared.clock.Advanced.{Advanced}
 use Rattle.line.specs.Lines.{lineOf, closingOf}
 use Rattle.line.specs.declared.words.Word.{Word}
-use Rattle.claims.specs.Histories.{Settings, History, tooFar}
-use Rattle.claims.specs.HistoryLines.{Followed, nobody, since, startedWith, refusesStart, followedAfter, says, outcomeNumber, Tells, TellsRecords, TellsBlock, TellsBlocks, ToldByHistories}
+use Rattle.capture_record.specs.declared.entry.Settings.{Settings}
+use Rattle.claims.specs.Histories.{History, tooFar}
+use Rattle.claims.specs.HistoryLines.{Followed, nobody, since, refusesStart, followedAfter, says, outcomeNumber, Tells, TellsRecords, TellsBlock, TellsBlocks, ToldByHistories}
 use Rattle.claims.specs.Numbered.{Said, numberedFrom}
 use Rattle.claims.specs.Records.{recordAfter, Agrees}
 use Rattle.claims.proofs.Agreement.{agrees}
@@ -58,13 +61,20 @@ interval-positive : (own ap' : List ℕ) (b channel : ℕ) → startForbids own 
 interval-positive own ap' b channel e = let w = eqb-false b 0 (neither (eqb b 0) _ e .0) in omega (arith, w)
 
 advance-number : (r : Station) (n : ℕ) → answerNumber (advanceOf r n .answer) ≡ pick (tooFar (r .clock) n) 14 0
-unfolding advanceMeans checked
-advance-number r n = by-tests (ltb 65535 n) (ltb 4294967295 (r .clock + n))
+unfolding advanceMeans clockAdvance
+advance-number r n = by-test (tooFar (r .clock) n)
   where
-    by-tests : (long past : Bool) → answerNumber (Clock.stepped r (pick long (refused Refusal.PastClock) (pick past (refused Refusal.PastClock) (accepted (Clock.reachOf r (r .clock + n))))) .answer) ≡ pick (long || past) 14 0
-    by-tests true past = refl
-    by-tests false true = refl
-    by-tests false false = refl
+    by-switch : (coming : Bool) (t channel : ℕ) → answerNumber (Clock.stepped r (Clock.advancedTo r (pick coming (Advanced.Goes t) (Advanced.Switches t channel))) .answer) ≡ 0
+    by-switch true t channel = refl
+    by-switch false t channel = refl
+
+    by-pending : (p : Pending) (t : ℕ) → answerNumber (Clock.stepped r (Clock.advancedTo r (Clock.reached t p)) .answer) ≡ 0
+    by-pending Pending.Nothing t = refl
+    by-pending (Pending.Switch q) t = by-switch (ltb t (q .at)) t (q .channel)
+
+    by-test : (far : Bool) → answerNumber (Clock.stepped r (Clock.advancedTo r (pick far Advanced.Refused (Clock.reached (r .clock + n) (r .pending)))) .answer) ≡ pick far 14 0
+    by-test true = refl
+    by-test false = by-pending (r .pending) (r .clock + n)
 
 take-number : (r : Station) (f : List ℕ) → answerNumber (takeOf r f .answer) ≡ outcomeNumber (frameMeans (r .own) (r .ap) (r .interval) f)
 unfolding takeMeans
@@ -88,9 +98,9 @@ one-malformed : (l : Lister) (x : Followed) → One l x malformed (badRecord l)
 unfolding Matches
 one-malformed l x = record { said = says Word.Record 20; tells = refl; text = refl; line-count = refl; keeps = refl }
 
-module _ (l : Lister) (x : Followed) (s : Entry.Settings) where
+module _ (l : Lister) (x : Followed) (s : Settings) where
   one-start : (o : Outcome Station) (forbidden : Bool)
-      → refusesStart (startedWith s) ≡ forbidden
+      → refusesStart s ≡ forbidden
       → (forbidden ≡ true → o ≡ refused Refusal.BadStart)
       → (forbidden ≡ false → o ≡ accepted (Stations.fresh (s .own) (s .ap) (s .interval) (s .channel)))
       → One l x (starting s) (started l o)
@@ -102,7 +112,7 @@ module _ (l : Lister) (x : Followed) (s : Entry.Settings) where
         tells = ap (λ (b : Bool). says Word.Start (pick b 15 0)) (sym f);
         text = refl;
         line-count = refl;
-        keeps = subst (λ (b : Bool). Matches (started l (refused Refusal.BadStart) .lister) (pick b nobody (since (startedWith s) []))) (sym f) refl;
+        keeps = subst (λ (b : Bool). Matches (started l (refused Refusal.BadStart) .lister) (pick b nobody (since s []))) (sym f) refl;
       })
   one-start o false f refuses starts =
       subst (λ (p : Outcome Station). One l x (starting s) (started l p)) (sym (starts refl))
@@ -112,7 +122,7 @@ module _ (l : Lister) (x : Followed) (s : Entry.Settings) where
         text = refl;
         line-count = refl;
         keeps =
-            subst (λ (b : Bool). Matches (started l (accepted (Stations.fresh (s .own) (s .ap) (s .interval) (s .channel))) .lister) (pick b nobody (since (startedWith s) []))) (sym f)
+            subst (λ (b : Bool). Matches (started l (accepted (Stations.fresh (s .own) (s .ap) (s .interval) (s .channel))) .lister) (pick b nobody (since s []))) (sym f)
             (refl, refl, interval-positive (s .own) (s .ap) (s .interval) (s .channel) f);
       })
 
@@ -153,7 +163,7 @@ module _ (l : Lister) (s : Settings) (h : History) (active : l .active ≡ true)
         keeps = (refl, ap (λ (r : Station). takeOf r f .station) same, positive);
       }
 
-  one-ask : (n : ℕ) → One l (since s h) (asking n) (line l Word.Ask (permissionNumber (permissionOf (l .station) n)))
+  one-ask : (n : ℕ) → One l (since s h) (asking n) (line l Word.Ask (Response.Question (permissionOf (l .station) n)))
   unfolding Matches recordAfter
   one-ask n =
       record {
@@ -168,7 +178,7 @@ one : (l : Lister) (x : Followed) (e : Noted) → Matches l x → One l x e (not
 unfolding noted Matches
 one l x malformed m = one-malformed l x
 one l x (starting s) m =
-    one-start l x s _ (refusesStart (startedWith s)) refl (start-refused (s .own) (s .ap) (s .interval) (s .channel)) (start-accepted (s .own) (s .ap) (s .interval) (s .channel))
+    one-start l x s _ (refusesStart s) refl (start-refused (s .own) (s .ap) (s .interval) (s .channel)) (start-accepted (s .own) (s .ap) (s .interval) (s .channel))
 one l nobody (advancing n) m = chosen l nobody (advancing n) false _ _ m (one-unstarted l (advancing n) Word.Advance refl m refl)
 one l nobody (hearing f) m = chosen l nobody (hearing f) false _ _ m (one-unstarted l (hearing f) Word.Frame refl m refl)
 one l nobody (asking n) m = chosen l nobody (asking n) false _ _ m (one-unstarted l (asking n) Word.Ask refl m refl)

@@ -10,8 +10,9 @@ use Rattle.answer.specs.Checks.{Outcome, refused, accepted, pick}
 use Rattle.block.specs.Blocks.{usedLength, isDamaged, usedPart, blockMeans}
 use Rattle.block.specs.declared.Block.{Block}
 use Rattle.capture.specs.Listers.{fresh, without, following, oneBlockMore}
-use Rattle.capture.specs.Lists.{Told, nothing, line, before, started, badRecord, noted, isMalformed, recorded, damagedTold, judged, blockTold, blocksIn, blocksTold, listOf}
+use Rattle.capture.specs.Lists.{Told, nothing, responseNumber, line, before, started, badRecord, noted, isMalformed, recorded, damagedTold, judged, blockTold, blocksIn, blocksTold, listOf}
 use Rattle.capture.specs.declared.lister.Lister.{Lister}
+use Rattle.capture.specs.declared.response.Response.{Response}
 use Rattle.capture_record.specs.Entries.{Noted, malformed, starting, advancing, hearing, asking, entryMeans}
 use Rattle.capture_record.specs.Records.{Records, end, cut, more, recordsIn}
 use Rattle.station.specs.Starting.{startMeans}
@@ -44,12 +45,12 @@ unfolding numberedFrom
 none l = record { said = []; text = refl; many = refl; line-count = omega arith; block-count = omega arith; damaged-count = omega arith }
 
 -- one line, which leaves the numbers of blocks as they are
-one : (l next : Lister) (word : Word) (answer : ℕ) → next .lines ≡ l .lines → next .blocks ≡ l .blocks → next .damaged ≡ l .damaged → Counted l (line next word answer) 1 0 0
+one : (l next : Lister) (word : Word) (answer : Response) → next .lines ≡ l .lines → next .blocks ≡ l .blocks → next .damaged ≡ l .damaged → Counted l (line next word answer) 1 0 0
 unfolding numberedFrom
 one l next word answer same-lines same-blocks same-damaged =
     record {
-      said = record { word = word; answer = answer } ∷ [];
-      text = ap (λ (n : ℕ). lineOf (n + 1) word answer) same-lines ∙ sym (append-nil (lineOf (l .lines + 1) word answer));
+      said = record { word = word; answer = responseNumber answer } ∷ [];
+      text = ap (λ (n : ℕ). lineOf (n + 1) word (responseNumber answer)) same-lines ∙ sym (append-nil (lineOf (l .lines + 1) word (responseNumber answer)));
       many = refl;
       line-count = omega (arith, same-lines);
       block-count = omega (arith, same-blocks);
@@ -86,7 +87,7 @@ with-or-without l t u a b = by-station (l .active)
 
 started-one : (l : Lister) (o : Outcome Station) → Counted l (started l o) 1 0 0
 started-one l (refused r) = one l (without l) Word.Start _ refl refl refl
-started-one l (accepted s) = one l (following l s) Word.Start 0 refl refl refl
+started-one l (accepted s) = one l (following l s) Word.Start _ refl refl refl
 
 noted-one : (l : Lister) (n : Noted) → Counted l (noted l n) 1 0 0
 unfolding noted

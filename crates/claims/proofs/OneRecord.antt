@@ -6,7 +6,7 @@ use Prim.Native.Nat.{ℕ, _-_, _≤_}
 use native.Mathlib.Omega.{arith}
 use lib.ListN.{length, replicate, take-append-drop}
 use lib.Seq.{length-take-le}
-use Rattle.beacon.specs.Beacons.{Said, quietLimit}
+use Rattle.beacon.specs.Beacons.{Told, quietLimit}
 use Rattle.beacon.specs.declared.MaybePower.{MaybePower}
 use Rattle.element.specs.declared.quiet.Quiet.{Quiet}
 use Rattle.pending.specs.declared.Pending.{Pending}
@@ -14,7 +14,8 @@ use Rattle.schedule.specs.declared.Schedule.{Schedule}
 use Rattle.station.specs.Stations.{inUse, noSchedule}
 use Rattle.station.specs.Validity.{Valid}
 use Rattle.station.specs.declared.Station.{Station}
-use Rattle.claims.specs.Histories.{Settings, History}
+use Rattle.capture_record.specs.declared.entry.Settings.{Settings}
+use Rattle.claims.specs.Histories.{History}
 use Rattle.claims.specs.Records.{Agrees}
 use Rattle.claims.specs.Standing.{Sets, SetsEach, SchedulesAre}
 use Rattle.claims.proofs.CountingTbtts.{one-moment}
@@ -65,7 +66,7 @@ module _ (s : Settings) (pos : 1 ≤ s .interval) where
     schedules-one xs ys (inr (said, t, counts, each)) (inl (g, e)) = absurd (g said t counts)
     schedules-one xs ys (inr (said, t, counts, each)) (inr (said', t', counts', each')) =
         each-one t' (said' .quiets) xs ys
-        (subst (λ (z : Said × ℕ). SetsEach s (z .1) (z .0 .quiets) xs) (counts-one s pos h (said, t) (said', t') counts counts') each)
+        (subst (λ (z : Told × ℕ). SetsEach s (z .1) (z .0 .quiets) xs) (counts-one s pos h (said, t) (said', t') counts counts') each)
         each'
 
     -- what the slots hold follows from the schedules in use

@@ -5,14 +5,16 @@ use mathlib.Core.Path.{_≡_, refl, sym, ap, _∙_, subst}
 use Prim.Native.Nat.{ℕ, _≤_}
 use native.Mathlib.Omega.{arith}
 use Rattle.answer.specs.Checks.{accepted}
-use Rattle.beacon.specs.Beacons.{Said}
+use Rattle.beacon.specs.Beacons.{Told}
 use Rattle.beacon.specs.declared.MaybePower.{MaybePower}
 use Rattle.beacon.specs.declared.MaybeSwitch.{MaybeSwitch}
 use Rattle.element.specs.declared.channel_switch.ChannelSwitch.{ChannelSwitch}
 use Rattle.element.specs.declared.power_constraint.PowerConstraint.{PowerConstraint}
 use Rattle.frame.specs.Frames.{Kind, beacon, probeResponse, action, Sent}
 use Rattle.pending.specs.declared.Pending.{Pending}
-use Rattle.claims.specs.Histories.{Settings, Call, frame, advance, ask, History, clockAfter, Hears, Says, announcementIn, Tells, Announces, Constrains, Latest, Throughout}
+use Rattle.pending.specs.declared.Switch.{Switch}
+use Rattle.capture_record.specs.declared.entry.Settings.{Settings}
+use Rattle.claims.specs.Histories.{Call, frame, advance, ask, History, clockAfter, Hears, Says, announcementIn, Tells, Announces, Constrains, Latest, Throughout}
 use Rattle.claims.specs.Standing.{NoAnnouncement, LastAnnounced, Switches, at-once, reached, NoSwitch, Counts, ChannelIs, LastConstrained, PowerIs, PendingIs}
 use Rattle.claims.specs.Tbtts.{CountedTo}
 use Rattle.claims.proofs.CountingTbtts.{one-moment}
@@ -32,7 +34,15 @@ is-power e = cc
 pub no-power-said : {A : Type 0} {p : PowerConstraint} → MaybePower.Absent ≡ MaybePower.Is p → A
 no-power-said e = absurd (let z : _≡_ {A = ℕ} 0 1 = cc in omega arith)
 
-says-one : (k : Kind) (a b : Said) → Says k a → Says k b → a ≡ b
+abbrev switchOf : ℕ → ℕ → ℕ → Switch
+switchOf at mode channel = record { at = at; mode = mode; channel = channel }
+
+same-switch : (p q : Switch) → p .at ≡ q .at → p .mode ≡ q .mode → p .channel ≡ q .channel → p ≡ q
+same-switch p q a m c =
+    let same : switchOf (p .at) (p .mode) (p .channel) ≡ switchOf (q .at) (q .mode) (q .channel) = rw (a, m, c) in
+    same
+
+says-one : (k : Kind) (a b : Told) → Says k a → Says k b → a ≡ b
 says-one (beacon t) a b x y = sym x ∙ y
 says-one (probeResponse t) a b x y = sym x ∙ y
 says-one (action body) a b x y = absurd x
@@ -49,7 +59,7 @@ module _ (s : Settings) where
   pub announces-one : (c : Call) (w v : ChannelSwitch) → Announces s c w → Announces s c v → w ≡ v
   announces-one c w v (k, x, e) (l, y, f) = is-switch (sym e ∙ ap announcementIn (hears-one c k l x y) ∙ f)
 
-  pub tells-one : (c : Call) (a b : Said) → Tells s c a → Tells s c b → a ≡ b
+  pub tells-one : (c : Call) (a b : Told) → Tells s c a → Tells s c b → a ≡ b
   tells-one c a b (k, x, e) (l, y, f) = says-one l a b (subst (λ (z : Kind). Says z a) (hears-one c k l x y) e) f
 
 -- ---- the latest of some calls
@@ -100,13 +110,13 @@ module _ (s : Settings) (pos : 1 ≤ s .interval) where
   switches-one c h w v (reached at x le) (at-once b f) = absurd (omega (arith, announced-still c h v b, x .1))
   switches-one c h w v (reached at x le) (reached at' y le') = ap (λ (z : ℕ × ChannelSwitch). z .1) (announced-one h (at, w) (at', v) (x .0) (y .0))
 
-  pub counts-one : (h : History) (x y : Said × ℕ) → Counts s h (x .0) (x .1) → Counts s h (y .0) (y .1) → x ≡ y
+  pub counts-one : (h : History) (x y : Told × ℕ) → Counts s h (x .0) (x .1) → Counts s h (y .0) (y .1) → x ≡ y
   counts-one =
-      latest-one (λ c g. ((z : Said) → Tells s c z → ⊥) × NoSwitch s c g) (λ x c g. Tells s c (x .0) × (x .1 ≡ clockAfter g) × NoSwitch s c g)
+      latest-one (λ c g. ((z : Told) → Tells s c z → ⊥) × NoSwitch s c g) (λ x c g. Tells s c (x .0) × (x .1 ≡ clockAfter g) × NoSwitch s c g)
       (λ x c g v none. none .0 (x .0) (v .0))
       one
     where
-      one : (x y : Said × ℕ) (c : Call) (g : History) → Tells s c (x .0) × (x .1 ≡ clockAfter g) × NoSwitch s c g
+      one : (x y : Told × ℕ) (c : Call) (g : History) → Tells s c (x .0) × (x .1 ≡ clockAfter g) × NoSwitch s c g
           → Tells s c (y .0) × (y .1 ≡ clockAfter g) × NoSwitch s c g → x ≡ y
       one (a, t) (b, t') c g (x, e, i) (y, f, j) =
           let same : a ≡ b = tells-one s c a b x y in
@@ -117,7 +127,7 @@ module _ (s : Settings) (pos : 1 ≤ s .interval) where
   constrained-one =
       latest-one (λ c g. ((x : PowerConstraint) → Constrains s c x → ⊥) × NoSwitch s c g) (λ p c g. Constrains s c p × NoSwitch s c g)
       (λ p c g v none. none .0 p (v .0))
-      (λ p q c g v w. is-power (sym (v .0 .2) ∙ ap (λ (x : Said). x .power) (tells-one s c (v .0 .0) (w .0 .0) (v .0 .1) (w .0 .1)) ∙ w .0 .2))
+      (λ p q c g v w. is-power (sym (v .0 .2) ∙ ap (λ (x : Told). x .notice .power) (tells-one s c (v .0 .0) (w .0 .0) (v .0 .1) (w .0 .1)) ∙ w .0 .2))
 
   -- ---- the fields
 
@@ -149,10 +159,11 @@ module _ (s : Settings) (pos : 1 ≤ s .interval) where
 
     pub pending-one : (p q : Pending) → PendingIs s h p → PendingIs s h q → p ≡ q
     pending-one Pending.Nothing Pending.Nothing x y = refl
-    pending-one Pending.Nothing (Pending.Switch at mode channel) x (w, y, e, f) = absurd (x at w y)
-    pending-one (Pending.Switch at mode channel) Pending.Nothing (w, x, e, f) y = absurd (y at w x)
-    pending-one (Pending.Switch at mode channel) (Pending.Switch at' mode' channel') (w, x, e, f) (v, y, e', f') =
-        let same = announced-one h (at, w) (at', v) (x .0) (y .0) in
-        let moment : at ≡ at' = ap (λ (z : ℕ × ChannelSwitch). z .0) same in
+    pending-one Pending.Nothing (Pending.Switch q) x (w, y, e, f) = absurd (x (q .at) w y)
+    pending-one (Pending.Switch p) Pending.Nothing (w, x, e, f) y = absurd (y (p .at) w x)
+    pending-one (Pending.Switch p) (Pending.Switch q) (w, x, e, f) (v, y, e', f') =
+        let same = announced-one h (p .at, w) (q .at, v) (x .0) (y .0) in
         let one : w ≡ v = ap (λ (z : ℕ × ChannelSwitch). z .1) same in
-        cc
+        ap Pending.Switch
+        (same-switch p q (ap (λ (z : ℕ × ChannelSwitch). z .0) same)
+        (sym e ∙ ap (λ (z : ChannelSwitch). z .mode) one ∙ e') (sym f ∙ ap (λ (z : ChannelSwitch). z .channel) one ∙ f'))

@@ -3,12 +3,13 @@ use mathlib.Core.List.{List, [], _∷_}
 use mathlib.Core.Logic.{inl, inr}
 use mathlib.Core.Path.{_≡_, refl, sym, ap, _∙_}
 use Prim.Native.Nat.{ℕ}
-use Rattle.beacon.specs.Beacons.{Said}
+use Rattle.beacon.specs.Beacons.{Told}
 use Rattle.beacon.specs.declared.MaybePower.{MaybePower}
 use Rattle.element.specs.declared.channel_switch.ChannelSwitch.{ChannelSwitch}
 use Rattle.element.specs.declared.power_constraint.PowerConstraint.{PowerConstraint}
 use Rattle.schedule.specs.declared.Schedule.{Schedule}
-use Rattle.claims.specs.Histories.{Settings, Call, History, clockAfter, Tells, Constrains, Latest, Throughout}
+use Rattle.capture_record.specs.declared.entry.Settings.{Settings}
+use Rattle.claims.specs.Histories.{Call, History, clockAfter, Tells, Constrains, Latest, Throughout}
 use Rattle.claims.specs.Standing.{Switches, NoSwitch, Counts, ChannelIs, LastConstrained, PowerIs, SetsEach, SchedulesAre}
 use Rattle.claims.proofs.OneSaying.{tells-one, no-power-said}
 
@@ -25,7 +26,7 @@ module _ (s : Settings) (c : Call) (h : History) where
     power-gone p (inl (y, never)) = never w x
     power-gone p (inr ((y, never), last)) = never w x
 
-    no-longer-counts : (said : Said) (t : ℕ) → Counts s (c ∷ h) said t → ⊥
+    no-longer-counts : (said : Told) (t : ℕ) → Counts s (c ∷ h) said t → ⊥
     unfolding Latest
     no-longer-counts said t (inl (y, e, never)) = never w x
     no-longer-counts said t (inr ((y, never), last)) = never w x
@@ -51,24 +52,24 @@ module _ (s : Settings) (c : Call) (h : History) where
           none p (inr (y, last)) = f p last
       power-stays (MaybePower.Is p) last = inr ((silent, calm), last)
 
-    module _ (silent : (said : Said) → Tells s c said → ⊥) where
+    module _ (silent : (said : Told) → Tells s c said → ⊥) where
       pub schedules-stay : (xs : List Schedule) → SchedulesAre s h xs → SchedulesAre s (c ∷ h) xs
       unfolding Latest
       schedules-stay xs (inl (f, e)) = inl (none, e)
         where
-          none : (said : Said) (t : ℕ) → Counts s (c ∷ h) said t → ⊥
+          none : (said : Told) (t : ℕ) → Counts s (c ∷ h) said t → ⊥
           none said t (inl (y, z, w)) = silent said y
           none said t (inr (y, last)) = f said t last
       schedules-stay xs (inr (said, t, counts, each)) = inr (said, t, inr ((silent, calm), counts), each)
 
     -- a beacon or a probe response
-    module _ (said : Said) (tells : Tells s c said) where
-      pub power-kept : (p : PowerConstraint) → said .power ≡ MaybePower.Is p → PowerIs s (c ∷ h) (MaybePower.Is p)
+    module _ (said : Told) (tells : Tells s c said) where
+      pub power-kept : (p : PowerConstraint) → said .notice .power ≡ MaybePower.Is p → PowerIs s (c ∷ h) (MaybePower.Is p)
       unfolding Latest
       power-kept p e = inl ((said, tells, e), calm)
 
-      pub no-constraint : said .power ≡ MaybePower.Absent → (p : PowerConstraint) → Constrains s c p → ⊥
-      no-constraint e p (other, y, z) = no-power-said (sym e ∙ ap (λ (x : Said). x .power) (tells-one s c said other tells y) ∙ z)
+      pub no-constraint : said .notice .power ≡ MaybePower.Absent → (p : PowerConstraint) → Constrains s c p → ⊥
+      no-constraint e p (other, y, z) = no-power-said (sym e ∙ ap (λ (x : Told). x .notice .power) (tells-one s c said other tells y) ∙ z)
 
       pub schedules-replaced : (xs : List Schedule) → SetsEach s (clockAfter h) (said .quiets) xs → SchedulesAre s (c ∷ h) xs
       unfolding Latest

@@ -5,9 +5,11 @@ use mathlib.Core.Path.{_≡_, refl, ap, _∙_, subst}
 use Prim.Native.Nat.{ℕ, _+_, _*_, _/_, _<_, _≤_}
 use native.Mathlib.Omega.{arith}
 use Rattle.element.specs.declared.channel_switch.ChannelSwitch.{ChannelSwitch}
+use Rattle.pending.specs.Waiting.{pendingBy}
 use Rattle.pending.specs.declared.Pending.{Pending}
-use Rattle.station.proofs.Keeping.{moment-after}
-use Rattle.claims.specs.Histories.{Settings, Call, History, clockAfter, Announces, Latest}
+use Rattle.station.proofs.StaysValid.{moment-after}
+use Rattle.capture_record.specs.declared.entry.Settings.{Settings}
+use Rattle.claims.specs.Histories.{Call, History, clockAfter, Announces, Latest}
 use Rattle.claims.specs.Standing.{NoAnnouncement, Awaits, Switches, at-once, reached, NoSwitch, PendingIs}
 use Rattle.claims.specs.Tbtts.{CountedTo}
 use Rattle.claims.proofs.CountingTbtts.{counting}
@@ -33,7 +35,7 @@ module _ (s : Settings) (pos : 1 ≤ s .interval) (c : Call) (h : History) where
           not-awaited : (at : ℕ) (w : ChannelSwitch) → Awaits s (c ∷ h) at w → ⊥
           not-awaited at w (inl (a, m), come) = none w a
           not-awaited at w (inr (x, last), come) = f at w (last, omega arith)
-      pending-stays (Pending.Switch at mode channel) (w, (last, come), m, n) = (w, (inr (none, last), omega arith), m, n)
+      pending-stays (Pending.Switch x) (w, (last, come), m, n) = (w, (inr (none, last), omega arith), m, n)
 
     module _ (w : ChannelSwitch) (says : Announces s c w) where
       same-count : (v : ChannelSwitch) → Announces s c v → v .count ≡ w .count
@@ -47,7 +49,7 @@ module _ (s : Settings) (pos : 1 ≤ s .interval) (c : Call) (h : History) where
       pending-gone e at v (inr (none, last), come) = none w says
 
       module _ (more : 1 ≤ w .count) where
-        pub pending-new : PendingIs s (c ∷ h) (Pending.Switch ((clockAfter h / s .interval + w .count) * s .interval) (w .mode) (w .channel))
+        pub pending-new : PendingIs s (c ∷ h) (pendingBy w (clockAfter h / s .interval) (s .interval))
         unfolding Latest
         pending-new = (
           w,

@@ -9,7 +9,7 @@ use borrow.Author.Tests.{eqb-false}
 use lib.Dec.{eqb}
 use Rattle.answer.proofs.Booleans.{clash, either, neither, or-go, or-stop}
 use Rattle.beacon.specs.Allowed.{QuietsAllowed}
-use Rattle.beacon.specs.Beacons.{Said}
+use Rattle.beacon.specs.Beacons.{Told}
 use Rattle.element.specs.declared.quiet.Quiet.{Quiet}
 use Rattle.frame.proofs.Allowing.{frame-allowed}
 use Rattle.frame.specs.Allowed.{KindAllowed}
@@ -20,7 +20,8 @@ use Rattle.schedule.specs.Schedules.{Covers, covered}
 use Rattle.schedule.specs.Units.{someUnit}
 use Rattle.schedule.specs.declared.Schedule.{Schedule}
 use Rattle.station.specs.Asking.{quietIn}
-use Rattle.claims.specs.Histories.{Settings, Call, frame, advance, ask, History, Says, Tells, Latest}
+use Rattle.capture_record.specs.declared.entry.Settings.{Settings}
+use Rattle.claims.specs.Histories.{Call, frame, advance, ask, History, Says, Tells, Latest}
 use Rattle.claims.specs.OpenUnits.{QuietUnit}
 use Rattle.claims.specs.Standing.{Counts, Sets, SetsEach, SchedulesAre}
 use Rattle.claims.proofs.CoveredUnits.{covers-unit, unit-covers}
@@ -60,17 +61,17 @@ covered-quiet (y ∷ xs) a b u x lo hi m c =
 -- ---- what counts is allowed
 
 module _ (s : Settings) where
-  said-allowed : (k : Kind) (said : Said) → KindAllowed (s .interval) k → Says k said → QuietsAllowed (s .interval) (said .quiets)
-  said-allowed (beacon t) said a e = subst (λ (x : Said). QuietsAllowed (s .interval) (x .quiets)) e (a .quiets-allowed)
-  said-allowed (probeResponse t) said a e = subst (λ (x : Said). QuietsAllowed (s .interval) (x .quiets)) e (a .quiets-allowed)
+  said-allowed : (k : Kind) (said : Told) → KindAllowed (s .interval) k → Says k said → QuietsAllowed (s .interval) (said .quiets)
+  said-allowed (beacon t) said a e = subst (λ (x : Told). QuietsAllowed (s .interval) (x .quiets)) e (a .quiets-allowed)
+  said-allowed (probeResponse t) said a e = subst (λ (x : Told). QuietsAllowed (s .interval) (x .quiets)) e (a .quiets-allowed)
   said-allowed (action body) said a e = absurd e
 
-  told-allowed : (c : Call) (said : Said) → Tells s c said → QuietsAllowed (s .interval) (said .quiets)
+  told-allowed : (c : Call) (said : Told) → Tells s c said → QuietsAllowed (s .interval) (said .quiets)
   told-allowed (frame f) said (k, (toAll, e), says) = said-allowed k said (frame-allowed (s .interval) (s .own) (s .ap) f _ e) says
   told-allowed (advance n) said (k, x, says) = absurd x
   told-allowed (ask n) said (k, x, says) = absurd x
 
-  counts-allowed : (h : History) (said : Said) (t : ℕ) → Counts s h said t → QuietsAllowed (s .interval) (said .quiets)
+  counts-allowed : (h : History) (said : Told) (t : ℕ) → Counts s h said t → QuietsAllowed (s .interval) (said .quiets)
   unfolding Latest
   counts-allowed [] said t x = absurd x
   counts-allowed (c ∷ h) said t (inl x) = told-allowed c said (x .0)
@@ -124,7 +125,7 @@ module _ (s : Settings) where
     unit-quiet xs a b u (inl (f, e)) lo hi (said, t, q, counts, m, c) = absurd (f said t counts)
     unit-quiet xs a b u (inr (said', t', counts', each)) lo hi (said, t, q, counts, m, c) =
         let same = counts-one s pos h (said', t') (said, t) counts' counts in
-        let each' : SetsEach s t (said .quiets) xs = subst (λ (z : Said × ℕ). SetsEach s (z .1) (z .0 .quiets) xs) same each in
+        let each' : SetsEach s t (said .quiets) xs = subst (λ (z : Told × ℕ). SetsEach s (z .1) (z .0 .quiets) xs) same each in
         let w = sets-some t (said .quiets) xs q each' m in
         covered-quiet xs a b u (w .0) lo hi (w .1)
         (unit-covers s pos t q (w .0) (w .2) (counted-once (said .quiets) q (counts-allowed h said t counts) m) u c)

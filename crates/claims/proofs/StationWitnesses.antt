@@ -7,7 +7,7 @@ use lib.ListN.{replicate}
 use Rattle.action.specs.Openings.{opensWith}
 use Rattle.single_body.specs.Singles.{sole, single}
 use Rattle.answer.specs.Checks.{checked}
-use Rattle.beacon.specs.Beacons.{takes, says, beaconMeans}
+use Rattle.beacon.specs.Beacons.{elementMeans, takes, says, beaconMeans}
 use Rattle.beacon.specs.declared.MaybePower.{MaybePower}
 use Rattle.element.specs.ChannelSwitch.{switchMeans}
 use Rattle.octets.specs.Elements.{fixed}
@@ -20,8 +20,8 @@ use Rattle.pending.specs.declared.Pending.{Pending}
 use Rattle.schedule.specs.Schedules.{covered}
 use Rattle.schedule.specs.Units.{someUnit}
 use Rattle.station.specs.Asking.{firstOf, quietIn, permissionOf}
-use Rattle.station.specs.Clock.{advanceMeans}
-use Rattle.station.specs.Taking.{announced, told, takeMeans}
+use Rattle.station.specs.Clock.{clockAdvance, advanceMeans}
+use Rattle.station.specs.Taking.{announced, informed, takeMeans}
 use Rattle.walk.specs.Elements.{elementsAfter, elementsIn}
 use Rattle.claims.specs.Histories.{frame, advance}
 use Rattle.claims.specs.Moments.{Moment, asking, AllRight, ours, heard, beaconOf, quiet, announcement}
@@ -60,27 +60,27 @@ witnesses =
     ∷ []
 
 pub witnesses-right : AllRight witnesses
-unfolding recordAfter takeMeans frameMeans headerMeans managementMeans addressMeans foreignHeader foreignAddress toAll beaconMeans checked says takes elementsIn elementsAfter quietMeans switchMeans fixed actionMeans opensWith sole single announced told advanceMeans permissionOf firstOf quietIn someUnit covered
+unfolding recordAfter takeMeans frameMeans headerMeans managementMeans addressMeans foreignHeader foreignAddress toAll beaconMeans checked says takes elementMeans elementsIn elementsAfter quietMeans switchMeans fixed actionMeans opensWith sole single announced informed clockAdvance advanceMeans permissionOf firstOf quietIn someUnit covered
 witnesses-right = (refl, (refl, (refl, (refl, (refl, (refl, (refl, (refl, (refl, (refl, tt))))))))))
 
 -- ---- the record
 
 -- a Power Constraint is kept
 pub constraint-kept : recordAfter ours (beaconOf constraint ∷ []) .power ≡ MaybePower.Is (record { decibels = 3 })
-unfolding recordAfter takeMeans frameMeans headerMeans managementMeans addressMeans foreignHeader foreignAddress toAll beaconMeans checked says takes elementsIn elementsAfter powerMeans fixed announced told
+unfolding recordAfter takeMeans frameMeans headerMeans managementMeans addressMeans foreignHeader foreignAddress toAll beaconMeans checked says takes elementMeans elementsIn elementsAfter powerMeans fixed announced informed
 constraint-kept = refl
 
 -- and does not outlive a switch
 pub constraint-gone : recordAfter ours (advance 100 ∷ announcement 0 ∷ beaconOf constraint ∷ []) .power ≡ MaybePower.Absent
-unfolding recordAfter takeMeans frameMeans headerMeans managementMeans addressMeans foreignHeader foreignAddress toAll beaconMeans checked says takes elementsIn elementsAfter powerMeans switchMeans fixed actionMeans opensWith sole single announced told advanceMeans
+unfolding recordAfter takeMeans frameMeans headerMeans managementMeans addressMeans foreignHeader foreignAddress toAll beaconMeans checked says takes elementMeans elementsIn elementsAfter powerMeans switchMeans fixed actionMeans opensWith sole single announced informed clockAdvance advanceMeans
 constraint-gone = refl
 
 -- a switch is for the next TBTT, wherever in the interval it was announced
-pub counted-from-tbtt : recordAfter ours (announcement 0 ∷ advance 99 ∷ []) .pending ≡ Pending.Switch 100 0 40
-unfolding recordAfter takeMeans frameMeans headerMeans managementMeans addressMeans foreignHeader foreignAddress toAll checked elementsIn elementsAfter switchMeans fixed actionMeans opensWith sole single announced told advanceMeans
+pub counted-from-tbtt : recordAfter ours (announcement 0 ∷ advance 99 ∷ []) .pending ≡ Pending.Switch (record { at = 100; mode = 0; channel = 40 })
+unfolding recordAfter takeMeans frameMeans headerMeans managementMeans addressMeans foreignHeader foreignAddress toAll checked elementsIn elementsAfter switchMeans fixed actionMeans opensWith sole single announced informed clockAdvance advanceMeans
 counted-from-tbtt = refl
 
 -- and when it comes, the channel is the new one
 pub channel-new : recordAfter ours (advance 1 ∷ announcement 0 ∷ advance 99 ∷ []) .channel ≡ 40
-unfolding recordAfter takeMeans frameMeans headerMeans managementMeans addressMeans foreignHeader foreignAddress toAll checked elementsIn elementsAfter switchMeans fixed actionMeans opensWith sole single announced told advanceMeans
+unfolding recordAfter takeMeans frameMeans headerMeans managementMeans addressMeans foreignHeader foreignAddress toAll checked elementsIn elementsAfter switchMeans fixed actionMeans opensWith sole single announced informed clockAdvance advanceMeans
 channel-new = refl

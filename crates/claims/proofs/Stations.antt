@@ -16,13 +16,14 @@ use Rattle.pending.proofs.Pending.silences as Silences
 use Rattle.pending.proofs.Pending.up_to as Up-to
 use Rattle.station.proofs.Station.advance as Advance
 use Rattle.station.proofs.Station.ask as Ask
+use Rattle.station.proofs.Station.heard as Heard
 use Rattle.station.proofs.Station.start as Start
 use Rattle.station.proofs.Station.take as Take
 use Rattle.station.proofs.asking.Permission.number as Permission-number
 use Rattle.station.proofs.advance_clock as Advance-clock
 use Rattle.station.specs.Clock.{stepped, advanceMeans}
 use Rattle.station.specs.Starting.{blank}
-use Rattle.station.specs.Taking.{takeMeans}
+use Rattle.station.specs.Taking.{heardMeans, takeMeans}
 use Rattle.station.specs.Validity.{Valid}
 use Rattle.station.specs.declared.Station.{Station}
 use Rattle.station.specs.declared.clock.Stepped.{Stepped}
@@ -34,6 +35,9 @@ start κs a e f x y p q = once (p .0) (q .0)
 
 pub take : OneResult 1 Take.Kinds.ps Take.Kinds.r Take.Reads.Post
 take κs a e f x y p q = once (p .0) (q .0)
+
+pub heard : OneResult 0 Heard.Kinds.ps Heard.Kinds.r Heard.Reads.Post
+heard κs a e f x y p q = once (p .0) (q .0)
 
 pub advance : OneResult 0 Advance.Kinds.ps Advance.Kinds.r Advance.Reads.Post
 advance κs a e f x y p q = once (p .0) (q .0)
@@ -72,6 +76,10 @@ stepped-same s o x r e f =
 pub refused-take : (κs : Lfts 1) (a : Dens κs Take.Kinds.ps) (e : AtExit (endedOf 1 Take.Kinds.ps Take.Kinds.r) κs) (x : Stepped) (r : Refusal)
     → Take.Reads.Post κs a x e → x .answer ≡ Answer.Refused r → x .station ≡ a .0
 refused-take κs a e x r p f = stepped-same (a .0) (takeMeans (a .0) (now (a .1 .0))) x r (p .0) f
+
+pub refused-heard : (κs : Lfts 0) (a : Dens κs Heard.Kinds.ps) (e : AtExit (endedOf 0 Heard.Kinds.ps Heard.Kinds.r) κs) (x : Stepped) (r : Refusal)
+    → Heard.Reads.Post κs a x e → x .answer ≡ Answer.Refused r → x .station ≡ a .0
+refused-heard κs a e x r p f = stepped-same (a .0) (heardMeans (a .0) (a .1 .0)) x r (p .0) f
 
 pub refused-advance : (κs : Lfts 0) (a : Dens κs Advance.Kinds.ps) (e : AtExit (endedOf 0 Advance.Kinds.ps Advance.Kinds.r) κs) (x : Stepped) (r : Refusal)
     → Advance.Reads.Post κs a x e → x .answer ≡ Answer.Refused r → x .station ≡ a .0

@@ -1,5 +1,5 @@
--- The history of one station (00, demand 3): the calls that it was given after an accepted start, refused ones among them, and what
--- can be read off them. Nothing here names a station or a step of one.
+-- The history of one station (00, demand 3): the settings that it was started with, the calls that it was given after the start, refused
+-- ones among them, and what can be read off them. Nothing here names a station or a step of one.
 use mathlib.Core.Bool.{Bool, _||_}
 use mathlib.Core.List.{List, [], _∷_}
 use mathlib.Core.Logic.{_⊎_}
@@ -7,20 +7,14 @@ use mathlib.Core.Path.{_≡_}
 use Prim.Native.Nat.{ℕ, _+_}
 use lib.Dec.{ltb}
 use Rattle.answer.specs.Checks.{accepted, pick}
-use Rattle.beacon.specs.Beacons.{Said}
+use Rattle.beacon.specs.Beacons.{Told}
 use Rattle.beacon.specs.declared.MaybePower.{MaybePower}
 use Rattle.beacon.specs.declared.MaybeSwitch.{MaybeSwitch}
+use Rattle.capture_record.specs.declared.entry.Settings.{Settings}
 use Rattle.element.specs.declared.channel_switch.ChannelSwitch.{ChannelSwitch}
 use Rattle.element.specs.declared.power_constraint.PowerConstraint.{PowerConstraint}
 use Rattle.frame.specs.Actions.{requests, reports, tpcRequest, tpcReport, switch}
 use Rattle.frame.specs.Frames.{Kind, beacon, probeResponse, action, frameMeans}
-
--- what the station was started with
-pub record Settings : Type 0 where
-  pub own : List ℕ
-  pub ap : List ℕ
-  pub interval : ℕ
-  pub channel : ℕ
 
 -- a call as it was made: the octets of a frame, an advance by so many TU, a question to send for so many TU
 pub data Call : Type 0 where
@@ -54,15 +48,15 @@ Hears s (advance n) k = ⊥
 Hears s (ask n) k = ⊥
 
 -- a beacon or a probe response says this
-abbrev pub Says : Kind → Said → Type 0
-Says (beacon t) said = t .said ≡ said
-Says (probeResponse t) said = t .said ≡ said
+abbrev pub Says : Kind → Told → Type 0
+Says (beacon t) said = t ≡ said
+Says (probeResponse t) said = t ≡ said
 Says (action body) said = ⊥
 
 -- an announcement stands in a beacon, in a probe response, or in an action frame of its own
 abbrev pub announcementIn : Kind → MaybeSwitch
-announcementIn (beacon t) = t .said .switch
-announcementIn (probeResponse t) = t .said .switch
+announcementIn (beacon t) = t .notice .switch
+announcementIn (probeResponse t) = t .notice .switch
 announcementIn (action (requests token rs)) = MaybeSwitch.Absent
 announcementIn (action (reports token rs)) = MaybeSwitch.Absent
 announcementIn (action (tpcRequest token)) = MaybeSwitch.Absent
@@ -70,7 +64,7 @@ announcementIn (action (tpcReport token t)) = MaybeSwitch.Absent
 announcementIn (action (switch w)) = MaybeSwitch.Is w
 
 -- the call was an accepted beacon or probe response
-abbrev pub Tells : Settings → Call → Said → Type 0
+abbrev pub Tells : Settings → Call → Told → Type 0
 Tells s c said = (k : Kind) × Hears s c k × Says k said
 
 -- the call was an accepted announcement
@@ -79,7 +73,7 @@ Announces s c w = (k : Kind) × Hears s c k × (announcementIn k ≡ MaybeSwitch
 
 -- the call was an accepted beacon or probe response with a Power Constraint
 abbrev pub Constrains : Settings → Call → PowerConstraint → Type 0
-Constrains s c p = (said : Said) × Tells s c said × (said .power ≡ MaybePower.Is p)
+Constrains s c p = (said : Told) × Tells s c said × (said .notice .power ≡ MaybePower.Is p)
 
 -- ---- the latest of some calls
 

@@ -14,13 +14,13 @@ use Rattle.capture.specs.Lists.{isMalformed, blocksIn, listOf}
 use Rattle.frame.specs.Frames.{frameMeans}
 use Rattle.capture_record.specs.Entries.{Noted, malformed, starting, advancing, hearing, asking, entryMeans}
 use Rattle.capture_record.specs.Records.{Records, end, cut, more, recordsIn}
-use Rattle.capture_record.specs.declared.entry.Settings as Entry
 use Rattle.station.specs.Asking.{permissionNumber}
 use Rattle.station.specs.Starting.{startForbids}
 use Rattle.station.specs.declared.asking.Permission.{Permission}
 use Rattle.line.specs.Lines.{closingOf}
 use Rattle.line.specs.declared.words.Word.{Word}
-use Rattle.claims.specs.Histories.{Settings, frame, advance, ask, History, tooFar, clockAfter}
+use Rattle.capture_record.specs.declared.entry.Settings.{Settings}
+use Rattle.claims.specs.Histories.{frame, advance, ask, History, tooFar, clockAfter}
 use Rattle.claims.specs.Numbered.{Said, numberedFrom, damagedAmong}
 use Rattle.claims.specs.OpenUnits.{Applies}
 
@@ -29,9 +29,6 @@ pub data Followed : Type 0 where
   nobody : Followed
   since : Settings → History → Followed
 
-abbrev pub startedWith : Entry.Settings → Settings
-startedWith s = record { own = s .own; ap = s .ap; interval = s .interval; channel = s .channel }
-
 -- a start that is refused
 abbrev pub refusesStart : Settings → Bool
 refusesStart s = startForbids (s .own) (s .ap) (s .interval) (s .channel)
@@ -39,7 +36,7 @@ refusesStart s = startForbids (s .own) (s .ap) (s .interval) (s .channel)
 -- "After a 17, a 20 or a refused start there is no station until the next start record."
 abbrev pub followedAfter : Noted → Followed → Followed
 followedAfter malformed x = nobody
-followedAfter (starting s) x = pick (refusesStart (startedWith s)) nobody (since (startedWith s) [])
+followedAfter (starting s) x = pick (refusesStart s) nobody (since s [])
 followedAfter (advancing n) nobody = nobody
 followedAfter (advancing n) (since s h) = since s (advance n ∷ h)
 followedAfter (hearing f) nobody = nobody
@@ -58,7 +55,7 @@ outcomeNumber (accepted a) = 0
 -- the line of a record: no station where nobody is followed, else what the history says
 abbrev pub Tells : Noted → Followed → Said → Type 0
 Tells malformed x line = line ≡ says Word.Record (numberOf Refusal.RecordMalformed)
-Tells (starting s) x line = line ≡ says Word.Start (pick (refusesStart (startedWith s)) (numberOf Refusal.BadStart) 0)
+Tells (starting s) x line = line ≡ says Word.Start (pick (refusesStart s) (numberOf Refusal.BadStart) 0)
 Tells (advancing n) nobody line = line ≡ says Word.Advance (numberOf Refusal.NoStation)
 Tells (advancing n) (since s h) line = line ≡ says Word.Advance (pick (tooFar (clockAfter h) n) (numberOf Refusal.PastClock) 0)
 Tells (hearing f) nobody line = line ≡ says Word.Frame (numberOf Refusal.NoStation)

@@ -8,7 +8,8 @@ use Rattle.answer.specs.Checks.{accepted}
 use Rattle.octets.specs.Sums.{sumOf}
 use Rattle.fraction.specs.Fractions.{densitiesOf}
 use Rattle.station.specs.Asking.{permissionNumber, permissionOf}
-use Rattle.claims.specs.Histories.{Settings, Call, frame, advance, ask, History}
+use Rattle.capture_record.specs.declared.entry.Settings.{Settings}
+use Rattle.claims.specs.Histories.{Call, frame, advance, ask, History}
 use Rattle.claims.specs.Records.{recordAfter}
 
 -- ---- a station and its frames

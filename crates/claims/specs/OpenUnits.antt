@@ -5,11 +5,12 @@ use mathlib.Core.List.{List·Memᴰ}
 use mathlib.Core.Logic.{_⊎_}
 use mathlib.Core.Path.{_≡_}
 use Prim.Native.Nat.{ℕ, _+_, _*_, _<_, _≤_}
-use Rattle.beacon.specs.Beacons.{Said}
+use Rattle.beacon.specs.Beacons.{Told}
 use Rattle.element.specs.declared.channel_switch.ChannelSwitch.{ChannelSwitch}
 use Rattle.element.specs.declared.quiet.Quiet.{Quiet}
 use Rattle.station.specs.declared.asking.Permission.{Permission}
-use Rattle.claims.specs.Histories.{Settings, History, clockAfter}
+use Rattle.capture_record.specs.declared.entry.Settings.{Settings}
+use Rattle.claims.specs.Histories.{History, clockAfter}
 use Rattle.claims.specs.Standing.{Awaits, Counts}
 use Rattle.claims.specs.Tbtts.{CountedTo}
 
@@ -27,7 +28,7 @@ module _ (s : Settings) (h : History) where
   -- the unit lies in a quiet interval set by the latest accepted beacon or probe response since the last switch
   abbrev pub QuietUnit : ℕ → Type 0
   QuietUnit u =
-      (said : Said) × (t : ℕ) × (q : Quiet) × Counts s h said t × List·Memᴰ q (said .quiets) × CoversUnit (s .interval) t q u
+      (said : Told) × (t : ℕ) × (q : Quiet) × Counts s h said t × List·Memᴰ q (said .quiets) × CoversUnit (s .interval) t q u
 
   -- the unit lies before any pending switch, outside the wait of a mode-1 announcement that is still the latest, and outside every
   -- such quiet interval

@@ -6,7 +6,8 @@ use Rattle.station.specs.Clock.{advanceOf}
 use Rattle.station.specs.Stations.{fresh, inUse}
 use Rattle.station.specs.Taking.{takeOf}
 use Rattle.station.specs.declared.Station.{Station}
-use Rattle.claims.specs.Histories.{Settings, frame, advance, ask, History, clockAfter}
+use Rattle.capture_record.specs.declared.entry.Settings.{Settings}
+use Rattle.claims.specs.Histories.{frame, advance, ask, History, clockAfter}
 use Rattle.claims.specs.Standing.{ChannelIs, PowerIs, PendingIs, SchedulesAre}
 
 module _ (s : Settings) where

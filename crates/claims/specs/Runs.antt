@@ -14,7 +14,8 @@ use Rattle.station.proofs.Station.start as Start
 use Rattle.station.proofs.Station.take as Take
 use Rattle.station.specs.declared.Station.{Station}
 use Rattle.station.specs.declared.asking.Permission.{Permission}
-use Rattle.claims.specs.Histories.{Settings, frame, advance, ask, History}
+use Rattle.capture_record.specs.declared.entry.Settings.{Settings}
+use Rattle.claims.specs.Histories.{frame, advance, ask, History}
 
 -- a call that a promise allows, of which something is said
 abbrev pub Called : (n : ℕ) (ps : List (PK n)) (r : RK n) → Out n ps r → ((κs : Lfts n) → Dens κs ps → resT r κs .Denot → Type 0) → Type 0

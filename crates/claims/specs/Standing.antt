@@ -5,14 +5,15 @@ use mathlib.Core.List.{List, [], _∷_}
 use mathlib.Core.Logic.{_⊎_}
 use mathlib.Core.Path.{_≡_}
 use Prim.Native.Nat.{ℕ, _+_, _*_, _<_, _≤_}
-use Rattle.beacon.specs.Beacons.{Said}
+use Rattle.beacon.specs.Beacons.{Told}
 use Rattle.beacon.specs.declared.MaybePower.{MaybePower}
 use Rattle.element.specs.declared.channel_switch.ChannelSwitch.{ChannelSwitch}
 use Rattle.element.specs.declared.power_constraint.PowerConstraint.{PowerConstraint}
 use Rattle.element.specs.declared.quiet.Quiet.{Quiet}
 use Rattle.pending.specs.declared.Pending.{Pending}
 use Rattle.schedule.specs.declared.Schedule.{Schedule}
-use Rattle.claims.specs.Histories.{Settings, Call, History, clockAfter, Tells, Announces, Constrains, Latest, Throughout}
+use Rattle.capture_record.specs.declared.entry.Settings.{Settings}
+use Rattle.claims.specs.Histories.{Call, History, clockAfter, Tells, Announces, Constrains, Latest, Throughout}
 use Rattle.claims.specs.Tbtts.{CountedTo}
 
 module _ (s : Settings) where
@@ -44,10 +45,10 @@ module _ (s : Settings) where
   -- ---- the latest beacon or probe response
 
   -- it said this and was accepted at t, and no switch came with it or after it
-  abbrev pub Counts : History → Said → ℕ → Type 0
+  abbrev pub Counts : History → Told → ℕ → Type 0
   Counts h said t =
       Latest
-      (λ c g. ((x : Said) → Tells s c x → ⊥) × NoSwitch c g)
+      (λ c g. ((x : Told) → Tells s c x → ⊥) × NoSwitch c g)
       (λ c g. Tells s c said × (t ≡ clockAfter g) × NoSwitch c g)
       h
 
@@ -73,8 +74,8 @@ module _ (s : Settings) where
 
   abbrev pub PendingIs : History → Pending → Type 0
   PendingIs h Pending.Nothing = (at : ℕ) (w : ChannelSwitch) → Awaits h at w → ⊥
-  PendingIs h (Pending.Switch at mode channel) =
-      (w : ChannelSwitch) × Awaits h at w × (w .mode ≡ mode) × (w .channel ≡ channel)
+  PendingIs h (Pending.Switch x) =
+      (w : ChannelSwitch) × Awaits h (x .at) w × (w .mode ≡ x .mode) × (w .channel ≡ x .channel)
 
   -- a Quiet element that was accepted at t starts so far past the TBTT that it counts to, and runs again every so many TBTTs
   pub record Sets (t : ℕ) (q : Quiet) (x : Schedule) : Type 0 where
@@ -93,5 +94,5 @@ module _ (s : Settings) where
 
   abbrev pub SchedulesAre : History → List Schedule → Type 0
   SchedulesAre h xs =
-      (((said : Said) (t : ℕ) → Counts h said t → ⊥) × (xs ≡ []))
-      ⊎ ((said : Said) × (t : ℕ) × Counts h said t × SetsEach t (said .quiets) xs)
+      (((said : Told) (t : ℕ) → Counts h said t → ⊥) × (xs ≡ []))
+      ⊎ ((said : Told) × (t : ℕ) × Counts h said t × SetsEach t (said .quiets) xs)

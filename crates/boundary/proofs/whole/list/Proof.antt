@@ -13,6 +13,7 @@ use lib.Seq.{take-all}
 use Rattle.answer.proofs.Booleans.{clash}
 use Rattle.octets.specs.Writing.{left}
 use Rattle.line.proofs.InRoom as InRoom
+use Rattle.line.specs.Backs.{lineRoom}
 use Rattle.line.specs.Lines.{closingOf}
 use Rattle.capture.specs.Lists.{fileTold, listOf}
 use Rattle.capture.specs.declared.lister.Lister.{Lister}
@@ -53,15 +54,15 @@ closingIn c = let l = passIn c .pass-all .result .lister in closingOf (l .blocks
 fits : (c : tie.After-closing) → passIn c .pass-all .result .fits ≡ true
 fits c = not-false (passIn c .pass-all .result .fits) (c .before .before .if1 .left)
 
-sixty-four : (c : tie.After-closing) → length (c .closing .result .bytes) ≡ 64
-sixty-four c = search needs
+its-room : (c : tie.After-closing) → length (c .closing .result .bytes) ≡ lineRoom
+its-room c = search needs
 
 -- where it begins in its room
-place : (c : tie.After-closing) → (length (closingIn c) ≤ 64) × (c .closing .result .from + length (closingIn c) ≡ 64)
+place : (c : tie.After-closing) → (length (closingIn c) ≤ lineRoom) × (c .closing .result .from + length (closingIn c) ≡ lineRoom)
 place c =
     let t = c .closing in
-    let f = InRoom.fits (t .result) (closingIn c) (t .ensures) (sixty-four c) in
-    (f, omega (arith, f, InRoom.begins (t .result) (closingIn c) (t .ensures) (sixty-four c)))
+    let f = InRoom.fits (t .result) (closingIn c) (t .ensures) (its-room c) in
+    (f, omega (arith, f, InRoom.begins (t .result) (closingIn c) (t .ensures) (its-room c)))
 
 -- how long the list is
 total : (c : tie.After-closing) → length (listOf (fileIn (passIn c))) ≡ passIn c .pass-all .result .count + length (closingIn c)
@@ -108,7 +109,7 @@ part-put-start c = omega (arith, place (c .before .before .before .before .befor
 part-put-end : tie.Need-part-put-end
 part-put-end c =
     let t = c .before .before .before .before .before .before .before in
-    omega (arith, place t, sixty-four t)
+    omega (arith, place t, its-room t)
 
 returns-3 : tie.Need-returns-3
 returns-3 c =
@@ -119,8 +120,8 @@ returns-3 c =
     let k = passIn t in
     let p = k .pass-all in
     let x = t .closing .result in
-    let os : take (64 - x .from) (drop (x .from) (x .bytes)) ≡ closingIn t =
-    take-all (64 - x .from) (drop (x .from) (x .bytes)) (omega (arith, length-drop (x .from) (x .bytes), sixty-four t)) ∙ InRoom.from-place x (closingIn t) (t .closing .ensures)
+    let os : take (lineRoom - x .from) (drop (x .from) (x .bytes)) ≡ closingIn t =
+    take-all (lineRoom - x .from) (drop (x .from) (x .bytes)) (omega (arith, length-drop (x .from) (x .bytes), its-room t)) ∙ InRoom.from-place x (closingIn t) (t .closing .ensures)
     in
     whole (fileIn k) (outIn k) _ (p .ensures .1) _ _ (p .result .lister) (p .result .count) _ (second .pass-all2 .ensures .1)
     (put .ensures .leaves ∙ ap (λ (xs : List ℕ). left true xs (p .result .count) (second .pass-all2 .last .1 .1 .0)) os)

@@ -9,6 +9,7 @@ use denote.Ref.{now}
 use lib.ListN.{length}
 use borrow.Author.Tests.{not-true, not-false}
 use Rattle.block.proofs.Ending.{end-inside}
+use Rattle.capture.specs.Feeding.{enoughRoom}
 use Rattle.capture.specs.Listers.{fresh}
 use Rattle.capture.specs.Lists.{blocksIn, blocksTold, fileTold}
 use Rattle.capture.specs.declared.lister.Lister.{Lister}
@@ -18,7 +19,7 @@ use Rattle.boundary.proofs.whole.pass_all.Tie as tie
 
 abbrev Inv-loop : tie.InvT-loop
 Inv-loop file store out₀ room₀ next₀ at₀ out room next at =
-    Standing file store out₀ out next at × (length room ≡ 10944) × (store ≡ true → length (fileTold file .text) ≤ length out₀)
+    Standing file store out₀ out next at × (length room ≡ enoughRoom) × (store ≡ true → length (fileTold file .text) ≤ length out₀)
 
 abbrev μ-loop : tie.MeasureT-loop
 μ-loop file store out₀ room₀ next₀ at₀ out room next at = length file - at
