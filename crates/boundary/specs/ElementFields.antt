@@ -1,10 +1,10 @@
 -- An element of a frame as its fields, one after the other at fixed places (docs/BOUNDARY.md). What it has not got is 0.
 use mathlib.Core.List.{List, [], _∷_, _++_}
 use Prim.Native.Nat.{ℕ}
-use Rattle.answer.specs.Checks.{Outcome, refused, accepted, andThen}
-use Rattle.answer.specs.declared.Refusal.{Refusal}
+use Rattle.answer.specs.Checks.{Outcome, andThen}
 use Rattle.element.specs.declared.quiet.Quiet.{Quiet}
-use Rattle.frame.specs.Frames.{Kind, beacon, probeResponse, action, Sent}
+use Rattle.frame.specs.Frames.{Sent}
+use Rattle.frame.specs.Laid.{quietsOf}
 use Rattle.measurement_body.specs.Lists.{nth}
 use Rattle.measurement_element.specs.Span.{noSpan, spanOctets}
 use Rattle.measurement_element.specs.declared.found.Found.{Found}
@@ -19,13 +19,8 @@ use Rattle.boundary.specs.declared.element_fields.Said.{Said}
 
 -- ---- a Quiet element by its index, as the measurement elements are: past the last, or on another kind, 16
 
-abbrev pub quietIn : ℕ → Kind → Outcome Quiet
-quietIn i (beacon t) = nth i (t .quiets)
-quietIn i (probeResponse t) = nth i (t .quiets)
-quietIn i (action body) = refused Refusal.Impossible
-
 abbrev pub quietOf : ℕ → Outcome Sent → Outcome Quiet
-quietOf i o = andThen o (λ s. quietIn i (s .kind))
+quietOf i o = andThen o (λ s. nth i (quietsOf (s .kind)))
 
 -- ---- a Measurement Request element: what is asked, by the numbers that a writer takes; the two bits of an Enable element
 

@@ -126,8 +126,8 @@ pub fn flag(answer: bool) -> u8
 }
 
 // Refuses a buffer that is too short before anything is put.
-pub fn put(fields: Fields, to_all: bool, quiets: u64, out: &mut [u8]) -> Wrote
-    ensures { λ r. ⌜ Written true (fieldOctets fields to_all quiets) 0 (now (out .entry)) r (now (out .exit)) ⌝ }
+pub fn put(fields: Fields, broadcast: bool, quiets: u64, out: &mut [u8]) -> Wrote
+    ensures { λ r. ⌜ Written true (fieldOctets fields broadcast quiets) 0 (now (out .entry)) r (now (out .exit)) ⌝ }
 {
     if out.len() < LENGTH {
         return Wrote::Refused(Refusal::BufferShort);
@@ -136,7 +136,7 @@ pub fn put(fields: Fields, to_all: bool, quiets: u64, out: &mut [u8]) -> Wrote
     let power = notice.power;
     let report = notice.report;
     let switch = notice.switch;
-    let front = [fields.kind, flag(to_all), fields.token];
+    let front = [fields.kind, flag(broadcast), fields.token];
     octets::put(true, &front, out, KIND);
     let elements = octets::octets64(fields.elements);
     octets::put(true, &elements, out, ELEMENTS);

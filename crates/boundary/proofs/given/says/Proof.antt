@@ -1,37 +1,53 @@
--- `says` meets its contract, number by number.
--- Assumes nothing.
-use borrow.Author.Tests.{ne-eqb}
+-- `says` meets its contract: a number for each case.
+use mathlib.Core.Path.{_∙_}
+use borrow.Author.Tests.{eq-eqb, ne-eqb}
 use Rattle.boundary.specs.Given.{saysGiven}
+use borrow.Author.Needs.{needs}
 use Rattle.boundary.proofs.given.says.Statement.{statement}
 use Rattle.boundary.proofs.given.says.Tie as tie
 
 returns : tie.Need-returns
 unfolding saysGiven
-returns c = rw (c .if1 .taken)
+returns c = rw (c .match .keys1)
 
 returns-2 : tie.Need-returns-2
 unfolding saysGiven
-returns-2 c = rw (c .if2 .taken)
+returns-2 c = rw (c .match .keys2)
 
 returns-3 : tie.Need-returns-3
 unfolding saysGiven
-returns-3 c = rw (c .if3 .taken)
+returns-3 c = rw (c .match .keys3)
 
 returns-4 : tie.Need-returns-4
 unfolding saysGiven
-returns-4 c = rw (c .if4 .taken)
+returns-4 c = c .measured .ensures ∙ rw (c .before .match .keys4)
 
 returns-5 : tie.Need-returns-5
 unfolding saysGiven
-returns-5 c = rw (c .if5 .taken)
+returns-5 c = c .measured2 .ensures ∙ rw (c .before .match .keys5)
 
 returns-6 : tie.Need-returns-6
 unfolding saysGiven
-returns-6 c = rw (c .if6 .taken)
+returns-6 c = c .measured3 .ensures ∙ rw (c .before .match .keys6)
 
 returns-7 : tie.Need-returns-7
 unfolding saysGiven
-returns-7 c = rw (ne-eqb (c .before .before .before .before .before .before .args .number) 0 (c .before .before .before .before .before .if1 .left), ne-eqb (c .before .before .before .before .before .before .args .number) 1 (c .before .before .before .before .if2 .left), ne-eqb (c .before .before .before .before .before .before .args .number) 2 (c .before .before .before .if3 .left), ne-eqb (c .before .before .before .before .before .before .args .number) 3 (c .before .before .if4 .left), ne-eqb (c .before .before .before .before .before .before .args .number) 4 (c .before .if5 .left), ne-eqb (c .before .before .before .before .before .before .args .number) 5 (c .if6 .left))
+returns-7 c =
+    let other = c .match .rest in
+    let n = c .before .args .number in
+    simp (ne-eqb n 0 (other .0 .0 .0 .0 .0 .1), ne-eqb n 1 (other .0 .0 .0 .0 .1), ne-eqb n 2 (other .0 .0 .0 .1), ne-eqb n 3 (other .0 .0 .1), ne-eqb n 4 (other .0 .1), ne-eqb n 5 (other .1))
 
 pub says-spec : {M : Type 1} → statement M
-says-spec = tie.close (tie.spec returns returns-2 returns-3 returns-4 returns-5 returns-6 returns-7)
+says-spec =
+    tie.close
+    (tie.spec
+    (λ c κs. search needs)
+    (λ c κs. search needs)
+    (λ c κs. search needs)
+    returns
+    returns-2
+    returns-3
+    returns-4
+    returns-5
+    returns-6
+    returns-7)

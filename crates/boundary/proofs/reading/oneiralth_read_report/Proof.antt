@@ -1,5 +1,4 @@
 -- `oneiralth_read_report` meets its contract: minus a refusal's number, or the fields.
--- Assumes nothing.
 use mathlib.Core.List.{List}
 use mathlib.Core.Path.{_≡_, sym, ap, ap₂, _∙_}
 use Prim.Native.Nat.{ℕ}
@@ -11,7 +10,7 @@ use Rattle.measurement_element.specs.declared.measurement_report.Reading.{Readi
 use Rattle.measurement_element.specs.declared.measurement_report.Report.{Report}
 use Rattle.frame.specs.Frames.{frameMeans, elementOf, reportIn}
 use Rattle.boundary.specs.Codes.{addressOf}
-use Rattle.boundary.specs.Records.{reportFields}
+use Rattle.boundary.specs.ElementFields.{reportFields}
 use Rattle.boundary.proofs.Coded.{given-refused, given-put}
 use Rattle.boundary.proofs.Unlaid.{refused-by, report-answer, report-accepted}
 use Rattle.boundary.proofs.reading.oneiralth_read_report.Statement.{statement}
@@ -43,10 +42,23 @@ returns c =
 
 returns-2 : tie.Need-returns-2
 returns-2 c =
-    let f = c .before .before .before .before .before .before in
-    let k = f .before .before .before .before in
-    let e = report-accepted (outcome k) (sym (answered k) ∙ f .before .enum-told .given .1) ∙ ap (λ (r : Reading). accepted (r .report)) (sym (means k)) in
-    given-put (fields (outcome k)) _ _ _ _ _ (ap fields e ∙ ap accepted (sym (f .of-report .ensures))) (c .before .before .before .put .ensures) (c .wrote .ensures)
+    let told = c .before .before .before .before .before in
+    let k = told .before .before .before in
+    let e = report-accepted (outcome k) (sym (answered k) ∙ told .enum-told .given .1) ∙ ap (λ (r : Reading). accepted (r .report)) (sym (means k)) in
+    given-put (fields (outcome k)) _ _ _ _ _ (ap fields e) (c .before .before .before .put-report .ensures) (c .wrote .ensures)
 
 pub oneiralth-read-report-spec : {M : Type 1} → statement M
-oneiralth-read-report-spec = tie.close (tie.spec (λ c κs. search needs) (λ c κs. search needs) (λ c κs. search needs) (λ c. search needs) (λ c κs. search needs) (λ c. search needs) (λ c κs. search needs) (λ c. search needs) (λ c κs. search needs) (λ c κs. search needs) returns (λ c. search needs) returns-2)
+oneiralth-read-report-spec =
+    tie.close
+    (tie.spec
+    (λ c κs. search needs)
+    (λ c κs. search needs)
+    (λ c κs. search needs)
+    (λ c. search needs)
+    (λ c κs. search needs)
+    (λ c. search needs)
+    (λ c κs. search needs)
+    (λ c κs. search needs)
+    returns
+    (λ c. search needs)
+    returns-2)

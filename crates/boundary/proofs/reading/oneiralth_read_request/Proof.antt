@@ -1,5 +1,4 @@
 -- `oneiralth_read_request` meets its contract: minus a refusal's number, or the fields.
--- Assumes nothing.
 use mathlib.Core.List.{List}
 use mathlib.Core.Path.{_≡_, sym, ap, ap₂, _∙_}
 use Prim.Native.Nat.{ℕ}
@@ -10,7 +9,7 @@ use Rattle.measurement_element.specs.MeasurementRequest.{requestTold}
 use Rattle.measurement_element.specs.declared.measurement_request.Request.{Request}
 use Rattle.frame.specs.Frames.{frameMeans, elementOf, requestIn}
 use Rattle.boundary.specs.Codes.{addressOf}
-use Rattle.boundary.specs.Records.{requestFields}
+use Rattle.boundary.specs.ElementFields.{requestFields}
 use Rattle.boundary.proofs.Coded.{given-refused, given-put}
 use Rattle.boundary.proofs.reading.oneiralth_read_request.Statement.{statement}
 use Rattle.boundary.proofs.reading.oneiralth_read_request.Tie as tie
@@ -38,10 +37,23 @@ returns c =
 
 returns-2 : tie.Need-returns-2
 returns-2 c =
-    let f = c .before .before .before .before .before .before in
-    let k = f .before .before .before .before in
-    let e = sym (means k) ∙ ap requestTold (f .before .before .request .given .1) in
-    given-put (fields (outcome k)) _ _ _ _ _ (ap fields e ∙ ap accepted (sym (f .of-request .ensures))) (c .before .before .before .put .ensures) (c .wrote .ensures)
+    let asked = c .before .before .before .before .before .before in
+    let k = asked .before .before in
+    let e = sym (means k) ∙ ap requestTold (asked .request .given .1) in
+    given-put (fields (outcome k)) _ _ _ _ _ (ap fields e) (c .before .before .before .put-request .ensures) (c .wrote .ensures)
 
 pub oneiralth-read-request-spec : {M : Type 1} → statement M
-oneiralth-read-request-spec = tie.close (tie.spec (λ c κs. search needs) (λ c κs. search needs) (λ c κs. search needs) (λ c. search needs) (λ c κs. search needs) (λ c. search needs) (λ c κs. search needs) (λ c. search needs) (λ c κs. search needs) (λ c κs. search needs) returns (λ c. search needs) returns-2)
+oneiralth-read-request-spec =
+    tie.close
+    (tie.spec
+    (λ c κs. search needs)
+    (λ c κs. search needs)
+    (λ c κs. search needs)
+    (λ c. search needs)
+    (λ c κs. search needs)
+    (λ c. search needs)
+    (λ c κs. search needs)
+    (λ c κs. search needs)
+    returns
+    (λ c. search needs)
+    returns-2)
