@@ -40,7 +40,12 @@ pub fn of_frame(frame: Frame) -> Fields
         Frame::MeasurementRequest { token, count } => {
             common(2, token, count as u64, Notice::NOTHING)
         }
-        Frame::MeasurementReport { token, count } => common(3, token, count as u64, Notice::NOTHING),
+        Frame::MeasurementReport { token, count } => common(
+            3,
+            token,
+            count as u64,
+            Notice::NOTHING,
+        ),
         Frame::TpcRequest { token } => common(4, token, 0, Notice::NOTHING),
         Frame::TpcReport { token, report } => {
             let notice = Notice {

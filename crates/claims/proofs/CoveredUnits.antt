@@ -8,7 +8,6 @@ use Rattle.element.specs.declared.quiet.Quiet.{Quiet}
 use Rattle.schedule.specs.Schedules.{Covers}
 use Rattle.schedule.specs.declared.Schedule.{Schedule}
 use Rattle.capture_record.specs.declared.entry.Settings.{Settings}
-
 use Rattle.claims.specs.OpenUnits.{CoversUnit}
 use Rattle.claims.specs.Standing.{Sets}
 use Rattle.claims.proofs.CountingTbtts.{counted-at, counting}
