@@ -27,31 +27,37 @@ pub enum Added {
 fn add(notice: Notice, count: usize, element: Element) -> Added
     ensures { λ r. ⌜ ((qs : List Quiet) → count ≡ length qs → addedTold notice qs r ≡ adds (tells notice qs) element) ⌝ }
 {
-    let power = notice.power;
-    let report = notice.report;
-    let switch = notice.switch;
     match element {
-        Element::Power(constraint) => match power {
-            MaybePower::Is(_) => Added::Refused(Refusal::Repeated),
-            MaybePower::Absent => Added::Notice(Notice {
-                power: MaybePower::Is(constraint),
-                ..notice
-            }),
-        },
-        Element::Report(told) => match report {
-            MaybeReport::Is(_) => Added::Refused(Refusal::Repeated),
-            MaybeReport::Absent => Added::Notice(Notice {
-                report: MaybeReport::Is(told),
-                ..notice
-            }),
-        },
-        Element::Switch(announcement) => match switch {
-            MaybeSwitch::Is(_) => Added::Refused(Refusal::Repeated),
-            MaybeSwitch::Absent => Added::Notice(Notice {
-                switch: MaybeSwitch::Is(announcement),
-                ..notice
-            }),
-        },
+        Element::Power(power) => {
+            let before = notice.power;
+            match before {
+                MaybePower::Is(_) => Added::Refused(Refusal::Repeated),
+                MaybePower::Absent => Added::Notice(Notice {
+                    power: MaybePower::Is(power),
+                    ..notice
+                }),
+            }
+        }
+        Element::Report(report) => {
+            let before = notice.report;
+            match before {
+                MaybeReport::Is(_) => Added::Refused(Refusal::Repeated),
+                MaybeReport::Absent => Added::Notice(Notice {
+                    report: MaybeReport::Is(report),
+                    ..notice
+                }),
+            }
+        }
+        Element::Switch(switch) => {
+            let before = notice.switch;
+            match before {
+                MaybeSwitch::Is(_) => Added::Refused(Refusal::Repeated),
+                MaybeSwitch::Absent => Added::Notice(Notice {
+                    switch: MaybeSwitch::Is(switch),
+                    ..notice
+                }),
+            }
+        }
         Element::Quiet(quiet) => {
             if QUIETS <= count {
                 return Added::Refused(Refusal::TooManyQuiets);

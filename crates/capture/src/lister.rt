@@ -19,7 +19,7 @@ impl Lister {
     pub const BLOCK_LIMIT: u64 = 36028797018963968;
 
     // A block has at most so many lines, each of which takes three octets of its payload.
-    pub const MOST_LINES: usize = 171;
+    const MOST_LINES: usize = 171;
 
     // The room that the lines of a block always find.
     pub const ROOM: usize = Lister::MOST_LINES * Text::ROOM;

@@ -7,7 +7,6 @@ use Prim.Native.Nat.{ℕ, _+_, _*_, _/_, _<_, _≤_}
 use native.Mathlib.Omega.{arith}
 use borrow.Author.Tests.{ltb-true, ltb-false, eqb-true, eqb-false}
 use lib.Dec.{ltb, eqb}
-use lib.ListN.{length, length-map}
 use lib.Seq.{take-at}
 use Rattle.answer.proofs.Booleans.{either, neither}
 use Rattle.answer.proofs.Judged.{never}
@@ -23,7 +22,6 @@ use Rattle.frame.specs.Actions.{Body, requests, reports, tpcRequest, tpcReport,
 use Rattle.frame.specs.Allowed.{KindAllowed}
 use Rattle.frame.specs.Frames.{Kind, beacon, probeResponse, action, Sent, frameMeans}
 use Rattle.pending.specs.declared.Pending.{Pending}
-use Rattle.schedule.specs.Schedules.{setBy}
 use Rattle.station.specs.Clock.{stepped, switched, reached, clockAdvance, advancedTo, advanceMeans, advanceOf}
 use Rattle.station.specs.Stations.{inUse, withClock}
 use Rattle.station.specs.Taking.{schedulesOf, rescheduled, constrained, announced, announcedIf, informed, heard, takeMeans, takeOf}
@@ -73,8 +71,7 @@ module _ (s : Settings) (pos : 1 ≤ s .interval) where
   )
 
   in-use : (r : Station) (qs : List Quiet) → inUse (rescheduled r qs) ≡ schedulesOf (r .clock / r .interval) (r .interval) qs
-  in-use r qs =
-      take-at (schedulesOf (r .clock / r .interval) (r .interval) qs) _ (length qs) (length-map qs (λ q. setBy q (r .clock / r .interval) (r .interval)))
+  in-use r qs = take-at (schedulesOf (r .clock / r .interval) (r .interval) qs) _ _ refl
 
   module _ (h : History) (r : Station) (a : Agrees s h r) where
     -- ---- a call that changes nothing
@@ -204,9 +201,9 @@ module _ (s : Settings) (pos : 1 ≤ s .interval) where
 
       hears-kind : (k : Kind) → Hears s (frame f) k → KindAllowed (s .interval) k → Agrees s (frame f ∷ h) (heard r k)
       unfolding informed
-      hears-kind (beacon t) hears ok = notices (frame f) (beacon t) t still-frame hears refl (ok .quiets-allowed) (t .said .notice .power) refl
+      hears-kind (beacon t) hears ok = notices (frame f) (beacon t) t still-frame hears refl (ok .quiets-allowed) (t .notice .power) refl
       hears-kind (probeResponse t) hears ok =
-          notices (frame f) (probeResponse t) t still-frame hears refl (ok .quiets-allowed) (t .said .notice .power) refl
+          notices (frame f) (probeResponse t) t still-frame hears refl (ok .quiets-allowed) (t .notice .power) refl
       hears-kind (action (requests token rs)) hears ok = changes-nothing (requests token rs) hears refl
       hears-kind (action (reports token rs)) hears ok = changes-nothing (reports token rs) hears refl
       hears-kind (action (tpcRequest token)) hears ok = changes-nothing (tpcRequest token) hears refl

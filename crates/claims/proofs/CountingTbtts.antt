@@ -8,7 +8,7 @@ use native.Mathlib.Omega.{arith}
 use borrow.Author.Tests.{ltb-true, ltb-false}
 use lib.Dec.{ltb}
 use Rattle.answer.proofs.Booleans.{either}
-use Rattle.station.proofs.Keeping.{moment-after}
+use Rattle.station.proofs.StaysValid.{moment-after}
 use Rattle.claims.specs.Tbtts.{Tbtt, NextTbtt, CountedTo}
 
 module _ (b : ℕ) (pos : 1 ≤ b) where

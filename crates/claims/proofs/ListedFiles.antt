@@ -7,16 +7,22 @@ use Prim.Native.Nat.{ℕ, _+_}
 use native.Mathlib.Omega.{arith}
 use lib.ListN.{length, length-append}
 use Rattle.answer.specs.Checks.{Outcome, refused, accepted, pick}
+use Rattle.answer.specs.declared.Answer.{Answer}
+use Rattle.answer.specs.declared.Refusal.{Refusal}
 use Rattle.block.specs.Blocks.{usedLength, isDamaged, usedPart, blockMeans}
 use Rattle.block.specs.declared.Block.{Block}
 use Rattle.capture.specs.Listers.{fresh, without, following, oneBlockMore}
-use Rattle.capture.specs.Lists.{Told, nothing, responseNumber, line, before, started, badRecord, noted, isMalformed, recorded, damagedTold, judged, blockTold, blocksIn, blocksTold, listOf}
+use Rattle.capture.specs.Lists.{Told, nothing, responseNumber, refusal, line, before, started, stepped, noStation, badRecord, noted, isMalformed, recorded, damagedTold, judged, blockTold, blocksIn, blocksTold, listOf}
 use Rattle.capture.specs.declared.lister.Lister.{Lister}
 use Rattle.capture.specs.declared.response.Response.{Response}
 use Rattle.capture_record.specs.Entries.{Noted, malformed, starting, advancing, hearing, asking, entryMeans}
 use Rattle.capture_record.specs.Records.{Records, end, cut, more, recordsIn}
+use Rattle.station.specs.Asking.{permissionOf}
+use Rattle.station.specs.Clock.{advanceOf}
 use Rattle.station.specs.Starting.{startMeans}
+use Rattle.station.specs.Taking.{takeOf}
 use Rattle.station.specs.declared.Station.{Station}
+use Rattle.station.specs.declared.clock.Stepped.{Stepped}
 use Rattle.line.specs.Lines.{lineOf, closingOf}
 use Rattle.line.specs.declared.words.Word.{Word}
 use Rattle.claims.specs.Numbered.{Said, numberedFrom, recordsCounted, linesIn, linesAmong, damagedAmong, ListedAs}
@@ -86,21 +92,27 @@ with-or-without l t u a b = by-station (l .active)
     by-station false = b
 
 started-one : (l : Lister) (o : Outcome Station) → Counted l (started l o) 1 0 0
-started-one l (refused r) = one l (without l) Word.Start _ refl refl refl
-started-one l (accepted s) = one l (following l s) Word.Start _ refl refl refl
+started-one l (refused r) = one l (without l) Word.Start (refusal r) refl refl refl
+started-one l (accepted s) = one l (following l s) Word.Start (Response.Call Answer.Accepted) refl refl refl
+
+stepped-one : (l : Lister) (word : Word) (x : Stepped) → Counted l (stepped l word x) 1 0 0
+stepped-one l word x = one l (following l (x .station)) word (Response.Call (x .answer)) refl refl refl
+
+unstarted-one : (l : Lister) (word : Word) → Counted l (noStation l word) 1 0 0
+unstarted-one l word = one l l word (refusal Refusal.NoStation) refl refl refl
+
+bad : (l : Lister) → Counted l (badRecord l) 1 0 0
+bad l = one l (without l) Word.Record (refusal Refusal.RecordMalformed) refl refl refl
 
 noted-one : (l : Lister) (n : Noted) → Counted l (noted l n) 1 0 0
 unfolding noted
-noted-one l malformed = one l (without l) Word.Record _ refl refl refl
+noted-one l malformed = bad l
 noted-one l (starting s) = started-one l (startMeans (s .own) (s .ap) (s .interval) (s .channel))
-noted-one l (advancing n) = with-or-without l _ _ (one l (following l _) Word.Advance _ refl refl refl) (one l l Word.Advance _ refl refl refl)
-noted-one l (hearing f) = with-or-without l _ _ (one l (following l _) Word.Frame _ refl refl refl) (one l l Word.Frame _ refl refl refl)
-noted-one l (asking n) = with-or-without l _ _ (one l l Word.Ask _ refl refl refl) (one l l Word.Ask _ refl refl refl)
+noted-one l (advancing n) = with-or-without l _ _ (stepped-one l Word.Advance (advanceOf (l .station) n)) (unstarted-one l Word.Advance)
+noted-one l (hearing f) = with-or-without l _ _ (stepped-one l Word.Frame (takeOf (l .station) f)) (unstarted-one l Word.Frame)
+noted-one l (asking n) = with-or-without l _ _ (one l l Word.Ask (Response.Question (permissionOf (l .station) n)) refl refl refl) (unstarted-one l Word.Ask)
 
 -- ---- a block
-
-bad : (l : Lister) → Counted l (badRecord l) 1 0 0
-bad l = one l (without l) Word.Record _ refl refl refl
 
 recorded-counted : (rs : Records) (l : Lister) → Counted l (recorded rs l) (recordsCounted rs) 0 0
 unfolding recorded recordsCounted
@@ -128,7 +140,7 @@ unfolding blockTold blockMeans
 block-counted b l = by-damage (isDamaged b)
   where
     by-damage : (d : Bool) → Counted l (judged (pick d Block.Damaged (Block.Used (usedLength b))) b l) (pick d 1 (recordsCounted (recordsIn (usedPart b)))) 1 (pick d 1 0)
-    by-damage true = in-block l (damagedTold l) 1 1 (one (oneBlockMore l 1) (without (oneBlockMore l 1)) Word.Block _ refl refl refl)
+    by-damage true = in-block l (damagedTold l) 1 1 (one (oneBlockMore l 1) (without (oneBlockMore l 1)) Word.Block (refusal Refusal.BlockDamaged) refl refl refl)
     by-damage false = in-block l _ 0 _ (recorded-counted (recordsIn (usedPart b)) (oneBlockMore l 0))
 
 -- ---- a file

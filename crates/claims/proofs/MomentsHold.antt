@@ -3,7 +3,7 @@ use mathlib.Core.Path.{refl}
 use Rattle.action.specs.Openings.{opensWith}
 use Rattle.single_body.specs.Singles.{sole, single}
 use Rattle.answer.specs.Checks.{checked}
-use Rattle.beacon.specs.Beacons.{takes, says, beaconMeans}
+use Rattle.beacon.specs.Beacons.{elementMeans, takes, says, beaconMeans}
 use Rattle.element.specs.ChannelSwitch.{switchMeans}
 use Rattle.octets.specs.Elements.{fixed}
 use Rattle.element.specs.Quiet.{quietMeans}
@@ -14,12 +14,12 @@ use Rattle.header.specs.Headers.{foreignHeader, foreignAddress, toAll, headerMe
 use Rattle.schedule.specs.Schedules.{covered}
 use Rattle.schedule.specs.Units.{someUnit}
 use Rattle.station.specs.Asking.{firstOf, quietIn, permissionOf}
-use Rattle.station.specs.Clock.{advanceMeans}
-use Rattle.station.specs.Taking.{announced, told, takeMeans}
+use Rattle.station.specs.Clock.{clockAdvance, advanceMeans}
+use Rattle.station.specs.Taking.{announced, informed, takeMeans}
 use Rattle.walk.specs.Elements.{elementsAfter, elementsIn}
 use Rattle.claims.specs.Moments.{AllRight, moments}
 use Rattle.claims.specs.Records.{recordAfter}
 
 pub all-right : AllRight moments
-unfolding recordAfter takeMeans frameMeans headerMeans managementMeans addressMeans foreignHeader foreignAddress toAll beaconMeans checked says takes elementsIn elementsAfter quietMeans switchMeans fixed actionMeans opensWith sole single announced told advanceMeans permissionOf firstOf quietIn someUnit covered densitiesOf possible fractionOf ceiling
+unfolding recordAfter takeMeans frameMeans headerMeans managementMeans addressMeans foreignHeader foreignAddress toAll beaconMeans checked says takes elementMeans elementsIn elementsAfter quietMeans switchMeans fixed actionMeans opensWith sole single announced informed clockAdvance advanceMeans permissionOf firstOf quietIn someUnit covered densitiesOf possible fractionOf ceiling
 all-right = (refl, (refl, (refl, (refl, (refl, (refl, (refl, (refl, (refl, (refl, (refl, (refl, (refl, ((refl, refl), tt))))))))))))))

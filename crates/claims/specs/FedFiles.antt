@@ -39,7 +39,7 @@ FedAll [] l text last = (text ≡ []) × (last ≡ l)
 FedAll (b ∷ bs) l text last =
     (next : Lister) × (first : List ℕ) × (rest : List ℕ) × Feeds l b first next × FedAll bs next rest last × (text ≡ first ++ rest)
 
--- `text::closing` was called with the lister's counts, and these are its octets
+-- `line::closing` was called with the lister's counts, and these are its octets
 abbrev pub Closes : Lister → List ℕ → Type 0
 Closes l text =
     (κs : Lfts 0)

@@ -69,10 +69,11 @@ heardMeans s v = andThen (frameTold (v .reading)) (λ f. accepted (changedBy s f
 abbrev pub heardOf : Station → Received → Stepped
 heardOf s v = stepped s (heardMeans s v)
 
--- the octets of a frame, by the station's own settings
+-- an accepted frame of each kind
 abbrev pub heard : Station → Kind → Station
 heard s k = changedBy s (frameOf k) (quietsOf k)
 
+-- the octets of a frame, read by the station's own settings
 unfoldable pub takeMeans : Station → List ℕ → Outcome Station
 takeMeans s f = andThen (frameMeans (s .own) (s .ap) (s .interval) f) (λ sent. accepted (heard s (sent .kind)))
 
