@@ -1,5 +1,6 @@
 -- Each promise of the frame layer leaves one outcome: the walk, headers, beacons, action bodies, measurement bodies and frames.
 -- Assumes nothing.
+use mathlib.Core.Bool.{Bool, true, false}
 use mathlib.Core.Path.{_≡_, refl}
 use denote.Ref.{now}
 use Rattle.action.proofs.«open» as Open
@@ -26,8 +27,13 @@ use Rattle.frame.specs.Laid.{frameTold}
 use Rattle.frame.specs.declared.Frame.{Frame}
 use Rattle.frame.specs.declared.Reading.{Reading}
 use Rattle.header.proofs.read as Header-read
-use Rattle.header.specs.Headers.{Head, headerTold}
+use Rattle.header.proofs.read_address as Header-read-address
+use Rattle.header.proofs.read_management as Header-read-management
+use Rattle.header.specs.Headers.{Head, addressTold, headerTold, managementTold}
 use Rattle.header.specs.declared.Header.{Header}
+use Rattle.header.specs.declared.address.Addressed.{Addressed}
+use Rattle.header.specs.declared.management.Management.{Management}
+use Rattle.header.specs.declared.management.Subtype.{Subtype}
 use Rattle.measurement_body.proofs.reports.append as Reports-append
 use Rattle.measurement_body.proofs.reports.survey as Reports-survey
 use Rattle.measurement_body.proofs.requests.append as Requests-append
@@ -36,17 +42,43 @@ use Rattle.answer.specs.Outcomes.{OneResult, OneOutcome}
 use Rattle.claims.proofs.OneOutcomeElements.{switch-of, switch-told, request-of, request-told, tpc-report-of, tpc-report-told, tpc-request-of, tpc-request-told}
 use Rattle.claims.proofs.Same.{once, told-once, written-once}
 
+management-of : Outcome Subtype → Management
+management-of (refused r) = Management.Refused r
+management-of (accepted s) = Management.Is s
+
+management-told : (x : Management) → management-of (managementTold x) ≡ x
+unfolding management-of
+management-told (Management.Refused r) = refl
+management-told (Management.Is s) = refl
+
+pub header-read-management : OneResult 1 Header-read-management.Kinds.ps Header-read-management.Kinds.r Header-read-management.Reads.Post
+header-read-management κs a e f x y p q = told-once managementTold management-of management-told p q
+
+address-of : Outcome Bool → Addressed
+address-of (refused r) = Addressed.Refused r
+address-of (accepted false) = Addressed.ToStation
+address-of (accepted true) = Addressed.ToAll
+
+address-told : (x : Addressed) → address-of (addressTold x) ≡ x
+unfolding address-of
+address-told (Addressed.Refused r) = refl
+address-told Addressed.ToStation = refl
+address-told Addressed.ToAll = refl
+
+pub header-read-address : OneResult 1 Header-read-address.Kinds.ps Header-read-address.Kinds.r Header-read-address.Reads.Post
+header-read-address κs a e f x y p q = told-once addressTold address-of address-told p q
+
 header-of : Outcome Head → Header
 header-of (refused r) = Header.Refused r
 header-of (accepted h) = Header.Is (h .subtype) (h .toAll)
 
-header-told : (x : Header) → header-of (told x) ≡ x
+header-told : (x : Header) → header-of (headerTold x) ≡ x
 unfolding header-of
 header-told (Header.Refused r) = refl
 header-told (Header.Is s a) = refl
 
 pub header-read : OneResult 1 Header-read.Kinds.ps Header-read.Kinds.r Header-read.Reads.Post
-header-read κs a e f x y p q = told-once told header-of header-told p q
+header-read κs a e f x y p q = told-once headerTold header-of header-told p q
 
 pub beacon-read : OneResult 1 Beacon-read.Kinds.ps Beacon-read.Kinds.r Beacon-read.Reads.Post
 beacon-read κs a e f x y p q = once p q

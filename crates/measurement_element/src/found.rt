@@ -11,92 +11,90 @@ pub enum Found {
     Densities,
 }
 
-impl Found {
-    // By the type, 0 to 2, and the first octet after the span; reserved bits of a map are ignored.
-    pub fn by(kind: u8, octet: u8) -> Found
-        ensures { λ r. ⌜ r ≡ foundBy kind octet ⌝ }
-    {
-        if kind == 0 {
-            return Found::Map(octet % 32);
-        }
-        if kind == 1 {
-            return Found::Busy(octet);
-        }
-        Found::Densities
+// By the type, 0 to 2, and the first octet after the span; reserved bits of a map are ignored.
+pub fn by(kind: u8, octet: u8) -> Found
+    ensures { λ r. ⌜ r ≡ foundBy kind octet ⌝ }
+{
+    if kind == 0 {
+        return Found::Map(octet % 32);
     }
-
-    // How many octets the contents have.
-    pub fn size(self) -> u8
-        ensures { λ r. ⌜ r ≡ foundSize self ⌝ }
-    {
-        match self {
-            Found::Map(_) => 15,
-            Found::Busy(_) => 15,
-            Found::Densities => 22,
-        }
+    if kind == 1 {
+        return Found::Busy(octet);
     }
+    Found::Densities
+}
 
-    // The map says unmeasured, and shows something all the same.
-    pub fn is_forbidden(self) -> bool
-        ensures { λ r. ⌜ r ≡ foundForbids self ⌝ }
-    {
-        match self {
-            Found::Map(map) => {
-                if map / 16 % 2 == 1 {
-                    return map % 16 != 0;
-                }
-                false
+// How many octets the contents have.
+pub fn size(found: Found) -> u8
+    ensures { λ r. ⌜ r ≡ foundSize found ⌝ }
+{
+    match found {
+        Found::Map(_) => 15,
+        Found::Busy(_) => 15,
+        Found::Densities => 22,
+    }
+}
+
+// The map says unmeasured, and shows something all the same.
+pub fn is_forbidden(found: Found) -> bool
+    ensures { λ r. ⌜ r ≡ foundForbids found ⌝ }
+{
+    match found {
+        Found::Map(map) => {
+            if map / 16 % 2 == 1 {
+                return map % 16 != 0;
             }
-            Found::Busy(_) => false,
-            Found::Densities => false,
+            false
         }
+        Found::Busy(_) => false,
+        Found::Densities => false,
     }
+}
 
-    // Whether a measurement of this type finds this; the map's bits 5 to 7 are reserved.
-    pub fn agrees(self, kind: u8) -> bool
-        ensures { λ r. ⌜ r ≡ foundAgrees self kind ⌝ }
-    {
-        match self {
-            Found::Map(map) => {
-                if kind == 0 {
-                    return map < 32;
-                }
-                false
+// Whether a measurement of this type finds this; the map's bits 5 to 7 are reserved.
+pub fn agrees(found: Found, kind: u8) -> bool
+    ensures { λ r. ⌜ r ≡ foundAgrees found kind ⌝ }
+{
+    match found {
+        Found::Map(map) => {
+            if kind == 0 {
+                return map < 32;
             }
-            Found::Busy(_) => kind == 1,
-            Found::Densities => kind == 2,
+            false
         }
+        Found::Busy(_) => kind == 1,
+        Found::Densities => kind == 2,
     }
+}
 
-    // Whether the octet after the span has no reserved bit set.
-    pub fn is_clear(self, octet: u8) -> bool
-        ensures { λ r. ⌜ r ≡ foundClear self octet ⌝ }
-    {
-        match self {
-            Found::Map(_) => octet < 32,
-            Found::Busy(_) => true,
-            Found::Densities => true,
-        }
+// Whether the octet after the span has no reserved bit set.
+pub fn is_clear(found: Found, octet: u8) -> bool
+    ensures { λ r. ⌜ r ≡ foundClear found octet ⌝ }
+{
+    match found {
+        Found::Map(_) => octet < 32,
+        Found::Busy(_) => true,
+        Found::Densities => true,
     }
+}
 
-    // The octet after the span: the map, the busy fraction or the first density.
-    pub fn octet(self, density: u8) -> u8
-        ensures { λ r. ⌜ r ≡ foundOctet self density ⌝ }
-    {
-        match self {
-            Found::Map(map) => map,
-            Found::Busy(fraction) => fraction,
-            Found::Densities => density,
-        }
+// The octet after the span: the map, the busy fraction or the first density.
+pub fn octet(found: Found, density: u8) -> u8
+    ensures { λ r. ⌜ r ≡ foundOctet found density ⌝ }
+{
+    match found {
+        Found::Map(map) => map,
+        Found::Busy(fraction) => fraction,
+        Found::Densities => density,
     }
+}
 
-    pub fn has_densities(self) -> bool
-        ensures { λ r. ⌜ r ≡ hasDensities self ⌝ }
-    {
-        match self {
-            Found::Map(_) => false,
-            Found::Busy(_) => false,
-            Found::Densities => true,
-        }
+pub fn has_densities(found: Found) -> bool
+    ensures { λ r. ⌜ r ≡ hasDensities found ⌝ }
+{
+    match found {
+        Found::Map(_) => false,
+        Found::Busy(_) => false,
+        Found::Densities => true,
     }
 }

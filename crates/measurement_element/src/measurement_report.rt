@@ -5,7 +5,8 @@ ghost use lib.ListN.{length, take};
 ghost use Rattle.octets.specs.Writing.{Written};
 ghost use Rattle.measurement_element.specs.CodeTerms.Built.{reportSpan, reportLast, reportBuilt};
 ghost use Rattle.measurement_element.specs.MeasurementReport.{reportFlags, reportMeasured, reportMatterIn, isHistogram, densitiesIn, reportIn, matterInterpreted, reportSize, reportMisfits, reportForbids, reportMeans, noReport, reportLaid, reasonMode, reportMode, reportAgrees, silent, reportMay, reportOctets, reportInterpreted, mapClear, reportClear};
-use crate::Found;
+use crate::found;
+use crate::found::Found;
 use crate::span;
 use crate::span::Span;
 use answer::Answer;
@@ -57,7 +58,7 @@ fn measured_in(contents: &[u8], kind: u8) -> Matter
         return Matter::Uninterpreted;
     }
     let span = span::read(contents);
-    let found = Found::by(kind, octets::octet_at(contents, 14));
+    let found = found::by(kind, octets::octet_at(contents, 14));
     Matter::Measured { span, found }
 }
 
@@ -83,7 +84,7 @@ fn is_histogram(matter: Matter) -> bool
 {
     match matter {
         Matter::NotMeasured(_) => false,
-        Matter::Measured { span: _, found } => found.has_densities(),
+        Matter::Measured { span: _, found } => found::has_densities(found),
         Matter::Uninterpreted => false,
     }
 }
@@ -140,7 +141,7 @@ fn size_of(matter: Matter) -> u8
 {
     match matter {
         Matter::NotMeasured(_) => 3,
-        Matter::Measured { span: _, found } => found.size(),
+        Matter::Measured { span: _, found } => found::size(found),
         Matter::Uninterpreted => 3,
     }
 }
@@ -166,7 +167,7 @@ fn is_forbidden(matter: Matter) -> bool
             if span::is_forbidden(span) {
                 return true;
             }
-            found.is_forbidden()
+            found::is_forbidden(found)
         }
         Matter::Uninterpreted => false,
     }
@@ -215,7 +216,7 @@ fn is_map_clear(matter: Matter, octet: u8) -> bool
 {
     match matter {
         Matter::NotMeasured(_) => true,
-        Matter::Measured { span: _, found } => found.is_clear(octet),
+        Matter::Measured { span: _, found } => found::is_clear(found, octet),
         Matter::Uninterpreted => true,
     }
 }
@@ -280,7 +281,7 @@ fn last_of(matter: Matter, density: u8) -> u8
 {
     match matter {
         Matter::NotMeasured(_) => 0,
-        Matter::Measured { span: _, found } => found.octet(density),
+        Matter::Measured { span: _, found } => found::octet(found, density),
         Matter::Uninterpreted => 0,
     }
 }
@@ -291,7 +292,7 @@ fn agrees(matter: Matter, kind: u8) -> bool
 {
     match matter {
         Matter::NotMeasured(_) => true,
-        Matter::Measured { span: _, found } => found.agrees(kind),
+        Matter::Measured { span: _, found } => found::agrees(found, kind),
         Matter::Uninterpreted => false,
     }
 }

@@ -1,7 +1,7 @@
--- `Found::is_clear` meets its contract, case by case.
+-- `found::is_clear` meets its contract, case by case.
 use borrow.Author.Needs.{needs}
-use Rattle.measurement_element.proofs.found.Found.is_clear.Statement.{statement}
-use Rattle.measurement_element.proofs.found.Found.is_clear.Tie as tie
+use Rattle.measurement_element.proofs.found.is_clear.Statement.{statement}
+use Rattle.measurement_element.proofs.found.is_clear.Tie as tie
 
 returns : tie.Need-returns
 returns c = simp (c .enum-told .given .1)

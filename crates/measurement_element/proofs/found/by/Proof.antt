@@ -1,7 +1,7 @@
--- `Found::by` meets its contract: the tests on the type, in their order.
+-- `found::by` meets its contract: the tests on the type, in their order.
 use borrow.Author.Tests.{eq-eqb, ne-eqb}
-use Rattle.measurement_element.proofs.found.Found.by.Statement.{statement}
-use Rattle.measurement_element.proofs.found.Found.by.Tie as tie
+use Rattle.measurement_element.proofs.found.by.Statement.{statement}
+use Rattle.measurement_element.proofs.found.by.Tie as tie
 
 returns : tie.Need-returns
 returns c = simp (eq-eqb _ _ (c .if1 .taken))

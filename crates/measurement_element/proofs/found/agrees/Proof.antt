@@ -1,14 +1,14 @@
--- `Found::agrees` meets its contract: each arm has its type, and a map its bound.
+-- `found::agrees` meets its contract: each arm has its type, and a map its bound.
 use borrow.Author.Tests.{eq-eqb, ne-eqb}
 use borrow.Author.Needs.{needs}
-use Rattle.measurement_element.proofs.found.Found.agrees.Statement.{statement}
-use Rattle.measurement_element.proofs.found.Found.agrees.Tie as tie
+use Rattle.measurement_element.proofs.found.agrees.Statement.{statement}
+use Rattle.measurement_element.proofs.found.agrees.Tie as tie
 
 returns : tie.Need-returns
-returns c = simp (c .before .before .self .given .1, eq-eqb _ _ (c .if1 .taken))
+returns c = simp (c .before .before .found .given .1, eq-eqb _ _ (c .if1 .taken))
 
 returns-2 : tie.Need-returns-2
-returns-2 c = simp (c .before .before .self .given .1, ne-eqb _ _ (c .if1 .left))
+returns-2 c = simp (c .before .before .found .given .1, ne-eqb _ _ (c .if1 .left))
 
 returns-3 : tie.Need-returns-3
 returns-3 c = rw (c .enum-told .given .1)
