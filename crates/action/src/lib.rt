@@ -3,6 +3,11 @@ ghost use mathlib.Core.Path.{_≡_};
 ghost use Rattle.action.specs.Openings.{forbidsZeroToken, openingTold, opensWith};
 use answer::Refusal;
 
+// How many octets stand before the elements: category, action and token. Action 4 has no token.
+pub const FIXED_FIELDS: usize = 3;
+
+pub const SWITCH_FIXED_FIELDS: usize = 2;
+
 // How a body begins: with no token (action 4), or with an action below 4 and its token.
 pub enum Opening {
     Refused(Refusal),
@@ -29,7 +34,7 @@ pub fn open(body: &[u8]) -> Opening
     if body[0] != 0 {
         return Opening::Refused(Refusal::ForeignAction);
     }
-    if body.len() < 2 {
+    if body.len() < SWITCH_FIXED_FIELDS {
         return Opening::Refused(Refusal::TooShort);
     }
     let action = body[1];
@@ -39,7 +44,7 @@ pub fn open(body: &[u8]) -> Opening
     if action == 4 {
         return Opening::Switch;
     }
-    if body.len() < 3 {
+    if body.len() < FIXED_FIELDS {
         return Opening::Refused(Refusal::TooShort);
     }
     let token = body[2];

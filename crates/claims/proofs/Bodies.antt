@@ -25,7 +25,7 @@ use Rattle.frame.specs.Frames.{action, Sent, kindOf, frameMeans}
 use Rattle.header.specs.Headers.{subtype, subtypeOf, toAll, foreignHeader, foreignAddress, headerMeans}
 use Rattle.header.specs.declared.Subtype.{Subtype}
 use Rattle.measurement_body.proofs.NeverLonger.{never-longer}
-use Rattle.measurement_body.proofs.RunLaws.{octets-after}
+use Rattle.walk.proofs.RunLaws.{octets-after}
 use Rattle.measurement_body.specs.Bodies.{longestBody}
 use Rattle.measurement_body.specs.Lists.{mayList}
 use Rattle.measurement_body.specs.Reports.{reportSort}

@@ -7,7 +7,7 @@ use denote.Ref.{now}
 use lib.ListN.{length, take, drop, length-drop}
 use lib.Seq.{length-take-le}
 use Rattle.walk.proofs.element_at as Element-at
-use Rattle.walk.specs.Found.{follow, Within}
+use Rattle.walk.specs.CodeTerms.Found.{follow, Within}
 use Rattle.walk.specs.declared.Found.{Found}
 use Rattle.answer.specs.Outcomes.{OneResult}
 

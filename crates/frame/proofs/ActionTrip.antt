@@ -21,7 +21,7 @@ use Rattle.measurement_body.specs.Requests.{requestSort}
 use Rattle.measurement_body.proofs.ListTrip.{list-trip}
 use Rattle.measurement_body.proofs.ReportLists.{reports-trip}
 use Rattle.measurement_body.proofs.RequestLists.{requests-trip}
-use Rattle.measurement_body.proofs.RunLaws.{octets-after}
+use Rattle.walk.proofs.RunLaws.{octets-after}
 use Rattle.octets.specs.Numbers.{Octets}
 use Rattle.walk.specs.Elements.{elementsIn}
 use Rattle.frame.specs.Actions.{Body, requests, reports, tpcRequest, tpcReport, switch, actionMeans, actionOctets, actionMay, actionInterpreted, actionClear, ActionFits}

@@ -10,7 +10,7 @@ use Rattle.single_body.specs.Singles.{Sole, sole, alone, single}
 use Rattle.answer.specs.Checks.{Outcome, refused, accepted, checked, andThen}
 use Rattle.answer.proofs.Judged.{never, passed, kept, stands}
 use Rattle.octets.specs.Elements.{element, RoundTrip}
-use Rattle.measurement_body.proofs.RunLaws.{front, none, split, empty}
+use Rattle.walk.proofs.RunLaws.{front, none, split, empty}
 use Rattle.octets.specs.Numbers.{Octets}
 use Rattle.walk.specs.Elements.{Elements, end, cutHeader, cutContents, more, elementsIn}
 

@@ -7,7 +7,6 @@ pub mod Marking
 pub mod NeverLonger
 pub mod ReportLists
 pub mod RequestLists
-pub mod RunLaws
 pub mod StepCases
 pub mod Stepping
 pub mod SurveyLaws

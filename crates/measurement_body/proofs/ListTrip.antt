@@ -16,7 +16,7 @@ use Rattle.octets.specs.Elements.{element, RoundTrip}
 use Rattle.octets.specs.Numbers.{Octets}
 use Rattle.walk.specs.Elements.{Elements, end, cutHeader, cutContents, more, elementsIn}
 use Rattle.measurement_body.specs.Lists.{AllFit, Sort, listed, recordsIn, allClear, allInterpreted, allOctets, mayAll, mayList}
-use Rattle.measurement_body.proofs.RunLaws.{front, none, split, empty, octets-front, octets-after}
+use Rattle.walk.proofs.RunLaws.{front, none, split, empty, octets-front, octets-after}
 
 -- what is asked of one element: demand 2, where its octets lie, and that what may be written is interpreted and clear
 pub record Trip {A : Type 0} (s : Sort A) (Fits : A → Type 0) : Type 0 where

@@ -1,7 +1,7 @@
 -- `has_left_over` meets its contract.
 use borrow.Author.Needs.{needs}
-use Rattle.single_body.proofs.reading.has_left_over.Statement.{statement}
-use Rattle.single_body.proofs.reading.has_left_over.Tie as tie
+use Rattle.walk.proofs.has_left_over.Statement.{statement}
+use Rattle.walk.proofs.has_left_over.Tie as tie
 
 returns : tie.Need-returns
 returns c = search needs
