@@ -29,8 +29,9 @@ openingTold (Opening.Refused r) = refused r
 openingTold Opening.Switch = accepted switching
 openingTold (Opening.Token a t) = accepted (with a t)
 
-abbrev pub forbidsZeroToken : ℕ → Bool
-forbidsZeroToken action = eqb action 0 || eqb action 2
+-- token 0 is forbidden in actions 0 and 2
+abbrev pub forbidsToken : ℕ → ℕ → Bool
+forbidsToken action token = (eqb action 0 || eqb action 2) && eqb token 0
 
 unfoldable pub opensWith : List ℕ → Outcome Opens
 opensWith body =
@@ -43,6 +44,6 @@ opensWith body =
     (pick (eqb (octet 1 body) 4) (accepted switching)
     (judged
     (ltb (length body) fixedFields ⇒ Refusal.TooShort
-    ∷ (forbidsZeroToken (octet 1 body) && eqb (octet 2 body) 0) ⇒ Refusal.ForbiddenValue
+    ∷ forbidsToken (octet 1 body) (octet 2 body) ⇒ Refusal.ForbiddenValue
     ∷ [])
     (with (octet 1 body) (octet 2 body))))

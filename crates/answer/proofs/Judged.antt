@@ -1,11 +1,12 @@
--- Laws of `checked`: what an accepted value says of each check before it, and the ways through a list of checks. Assumes nothing.
+-- Laws of `checked` and `andThen`: what an accepted value says of each check and value before it, and the ways through a list of checks.
+-- Assumes nothing.
 use mathlib.Core.Path.{_≡_, refl}
 use mathlib.Core.Bool.{Bool, true, false}
 use mathlib.Core.List.{List, [], _∷_}
 use Prim.Native.Nat.{ℕ}
 use native.Mathlib.Omega.{arith}
 use Rattle.answer.specs.declared.Refusal.{Refusal}
-use Rattle.answer.specs.Checks.{Outcome, refused, accepted, Check, pick, checked}
+use Rattle.answer.specs.Checks.{Outcome, refused, accepted, Check, pick, checked, andThen}
 
 pub never : {A : Type 0} {r : Refusal} {a : A} → refused r ≡ accepted a → ⊥
 never e = let z : _≡_ {A = ℕ} 0 1 = cc in omega arith
@@ -48,3 +49,9 @@ module _ {A : Type 0} where
   pub through : (p : Outcome A) {o : Outcome A} → o ≡ p → o ≡ checked [] p
   unfolding checked
   through p e = e
+
+-- what follows an accepted value was accepted too
+pub followed : {A B : Type 0} (o : Outcome A) (next : A → Outcome B) (b : B) → andThen o next ≡ accepted b
+    → (a : A) × (o ≡ accepted a) × (next a ≡ accepted b)
+followed (refused r) next b e = absurd (never e)
+followed (accepted a) next b e = (a, refl, e)

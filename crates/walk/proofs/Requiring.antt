@@ -2,11 +2,12 @@
 use mathlib.Core.Path.{_≡_, refl, sym, ap, subst, _∙_}
 use mathlib.Core.Bool.{Bool, true, false}
 use mathlib.Core.List.{List, [], _∷_}
-use Prim.Native.Nat.{ℕ, _+_, _<_, _≤_}
+use Prim.Native.Nat.{ℕ, _+_, _-_, _<_, _≤_}
 use native.Mathlib.Omega.{arith}
 use borrow.Author.Tests.{eq-eqb, eqb-true, not-false}
 use lib.Dec.{leb, eqb}
 use lib.ListN.{length, take, drop, length-drop}
+use lib.Seq.{length-take-le}
 use Rattle.answer.proofs.Judged as Judged
 use Rattle.answer.specs.Checks.{refused, accepted, pick, checked}
 use Rattle.answer.specs.declared.Refusal.{Refusal}
@@ -43,6 +44,10 @@ pub record Lies (run : List ℕ) (at id start stop : ℕ) : Type 0 where
   pub begins : start ≡ at + 2
   pub ordered : start ≤ stop
   pub inside : stop ≤ length run
+
+-- they are as long as the places say
+pub long : {run : List ℕ} {at id start stop : ℕ} → Lies run at id start stop → length (take (stop - start) (drop start run)) ≡ stop - start
+long {run} {at} {id} {start} {stop} l = length-take-le (stop - start) (drop start run) (simp length-drop (omega (arith, l .ordered, l .inside)))
 
 module _ (run : List ℕ) (at id : ℕ) (x : Required) (t : requiredTold run x ≡ required id (elementsIn (drop at run))) where
   pub lies : RequiredWithin at (length run) x → {start stop : ℕ} → x ≡ Required.Contents start stop → Lies run at id start stop
