@@ -14,6 +14,13 @@ use Rattle.header.specs.declared.Subtype.{Subtype}
 use Rattle.measurement_body.specs.Lists.{nth}
 use Rattle.frame.specs.Actions.{Body, requests, reports, tpcRequest, tpcReport, switch, actionMeans}
 
+-- a frame's body: what stands after its header
+abbrev pub headerLength : ℕ
+headerLength = 24
+
+abbrev pub bodyOf : List ℕ → List ℕ
+bodyOf f = drop headerLength f
+
 -- Beacon, Probe Response, and the five action bodies
 pub data Kind : Type 0 where
   beacon : Told → Kind
@@ -36,7 +43,7 @@ sent toAll o = andThen o (λ k. accepted (record { toAll = toAll; kind = k }))
 unfoldable pub frameMeans : List ℕ → List ℕ → ℕ → List ℕ → Outcome Sent
 frameMeans own ap b f =
     andThen (headerMeans own ap f)
-    (λ h. sent (h .toAll) (kindOf b (h .subtype) (drop 24 f)))
+    (λ h. sent (h .toAll) (kindOf b (h .subtype) (bodyOf f)))
 
 -- ---- a measurement element by its index from 0; past the last, or on another kind: 16
 
