@@ -23,6 +23,9 @@ const LONGEST_BODY: usize = 2312;
 // How many octets an element of either kind has at most.
 const LONGEST_ELEMENT: usize = 24;
 
+// How many octets a body of one element has at most.
+const ROOM: usize = FIXED_FIELDS + LONGEST_ELEMENT;
+
 // Whether what is there begins a body of an action and a token.
 fn is_begun(there: &[u8], action: u8, token: u8) -> bool
     ensures { λ r. ⌜ r ≡ begins action token (now (there .entry)) ⌝ }
@@ -83,11 +86,11 @@ fn may_follow(there: &[u8], kind: Kind, token: u8, own: u8, count: usize, may: b
 }
 
 // A body of one element, and after it some octets that are not written.
-fn body_octets(kind: Kind, token: u8, element: &[u8]) -> [u8; 27]
+fn body_octets(kind: Kind, token: u8, element: &[u8]) -> [u8; ROOM]
     requires { ⌜ length (now element) ≤ longestElement ⌝ }
     ensures { λ r. ⌜ Fronts (opening (sortOf kind .action) token ++ now (element .entry)) r ⌝ }
 {
-    let mut bytes = [0u8; FIXED_FIELDS + LONGEST_ELEMENT];
+    let mut bytes = [0u8; ROOM];
     bytes[1] = kind.action();
     bytes[2] = token;
     octets::put(true, element, &mut bytes, FIXED_FIELDS);
