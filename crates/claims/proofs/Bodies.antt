@@ -119,7 +119,7 @@ module _ (own ap' : List ℕ) (b : ℕ) (f : List ℕ) where
       → bodyCalls body buffer ≡ holding (bodyOf f) buffer
   frame-written-back x body buffer o e k i c room =
       let m = kind-means x e in
-      body-written-back (bodyOf f) body buffer (octets-after (take headerLength f) (bodyOf f) (subst Octets (sym (take-append-bodyOf f)) o))
+      body-written-back (bodyOf f) body buffer (octets-after (take headerLength f) (bodyOf f) (subst Octets (sym (take-append-drop headerLength f)) o))
       (body-means (m .0) body (m .1 ∙ ap accepted k)) i c (accepted-short x e) room
 
   -- and after a header that is not refused, each body that may be written, and is not too long, reads back the same

@@ -1,6 +1,6 @@
 -- Each promise of the frame layer leaves one outcome: the walk, headers, beacons, action bodies, measurement bodies and frames.
 -- Assumes nothing.
-use mathlib.Core.Path.{_≡_, refl}
+use mathlib.Core.Path.{_≡_, refl, ap₂}
 use denote.Ref.{now}
 use Rattle.action.proofs.forbids_token as Forbids-token
 use Rattle.action.proofs.«open» as Open
@@ -16,6 +16,7 @@ use Rattle.answer.specs.Checks.{Outcome, refused, accepted}
 use Rattle.beacon.proofs.read as Beacon-read
 use Rattle.element.specs.ChannelSwitch.{switchTold}
 use Rattle.measurement_element.specs.MeasurementRequest.{requestTold}
+use Rattle.measurement_element.specs.declared.measurement_request.Reading as RequestReading
 use Rattle.element.specs.TpcReport.{tpcReportTold}
 use Rattle.element.specs.TpcRequest.{tpcRequestTold}
 use Rattle.frame.proofs.read as Frame-read
@@ -131,7 +132,7 @@ pub request-in : OneResult 1 Request-in.Kinds.ps Request-in.Kinds.r Request-in.R
 request-in κs a e f x y p q = told-once requestTold request-of request-told p q
 
 asked : (x y : Asked) → x .reading ≡ y .reading → x .request ≡ y .request → x ≡ y
-asked x y e f = cc
+asked x y e f = ap₂ (λ (a : Reading) (b : RequestReading.Reading). record { reading = a; request = b }) e f
 
 pub read-request : OneResult 1 Read-request.Kinds.ps Read-request.Kinds.r Read-request.Reads.Post
 read-request κs a e f x y p q =
