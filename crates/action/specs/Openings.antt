@@ -10,6 +10,13 @@ use Rattle.answer.specs.declared.Refusal.{Refusal}
 use Rattle.octets.specs.Numbers.{octet}
 use Rattle.action.specs.declared.Opening.{Opening}
 
+-- the octets before the elements: category, action and token; action 4 has no token
+abbrev pub fixedFields : ℕ
+fixedFields = 3
+
+abbrev pub switchFixedFields : ℕ
+switchFixedFields = 2
+
 pub data Opens : Type 0 where
   -- action 4
   switching : Opens
@@ -22,20 +29,21 @@ openingTold (Opening.Refused r) = refused r
 openingTold Opening.Switch = accepted switching
 openingTold (Opening.Token a t) = accepted (with a t)
 
-abbrev pub forbidsZeroToken : ℕ → Bool
-forbidsZeroToken action = eqb action 0 || eqb action 2
+-- token 0 is forbidden in actions 0 and 2
+abbrev pub forbidsToken : ℕ → ℕ → Bool
+forbidsToken action token = (eqb action 0 || eqb action 2) && eqb token 0
 
 unfoldable pub opensWith : List ℕ → Outcome Opens
 opensWith body =
     checked
     (ltb (length body) 1 ⇒ Refusal.TooShort
     ∷ not (eqb (octet 0 body) 0) ⇒ Refusal.ForeignAction
-    ∷ ltb (length body) 2 ⇒ Refusal.TooShort
+    ∷ ltb (length body) switchFixedFields ⇒ Refusal.TooShort
     ∷ ltb 4 (octet 1 body) ⇒ Refusal.ForeignAction
     ∷ [])
     (pick (eqb (octet 1 body) 4) (accepted switching)
     (judged
-    (ltb (length body) 3 ⇒ Refusal.TooShort
-    ∷ (forbidsZeroToken (octet 1 body) && eqb (octet 2 body) 0) ⇒ Refusal.ForbiddenValue
+    (ltb (length body) fixedFields ⇒ Refusal.TooShort
+    ∷ forbidsToken (octet 1 body) (octet 2 body) ⇒ Refusal.ForbiddenValue
     ∷ [])
     (with (octet 1 body) (octet 2 body))))

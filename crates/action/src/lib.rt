@@ -1,7 +1,12 @@
 // How an action body begins (document 01, "Octets" and "Order"; 802.11h 7.2.3.12, 7.3.1.11 and 7.4.1): category, action and, but for action 4, a dialog token.
 ghost use mathlib.Core.Path.{_≡_};
-ghost use Rattle.action.specs.Openings.{forbidsZeroToken, openingTold, opensWith};
+ghost use Rattle.action.specs.Openings.{forbidsToken, openingTold, opensWith};
 use answer::Refusal;
+
+// How many octets stand before the elements: category, action and token. Action 4 has no token.
+pub const FIXED_FIELDS: usize = 3;
+
+pub const SWITCH_FIXED_FIELDS: usize = 2;
 
 // How a body begins: with no token (action 4), or with an action below 4 and its token.
 pub enum Opening {
@@ -11,13 +16,16 @@ pub enum Opening {
 }
 
 // Token 0 is forbidden in actions 0 and 2; reports may have it.
-fn forbids_zero_token(action: u8) -> bool
-    ensures { λ r. ⌜ r ≡ forbidsZeroToken action ⌝ }
+pub fn forbids_token(action: u8, token: u8) -> bool
+    ensures { λ r. ⌜ r ≡ forbidsToken action token ⌝ }
 {
     if action == 0 {
-        return true;
+        return token == 0;
     }
-    action == 2
+    if action == 2 {
+        return token == 0;
+    }
+    false
 }
 
 pub fn open(body: &[u8]) -> Opening
@@ -29,7 +37,7 @@ pub fn open(body: &[u8]) -> Opening
     if body[0] != 0 {
         return Opening::Refused(Refusal::ForeignAction);
     }
-    if body.len() < 2 {
+    if body.len() < SWITCH_FIXED_FIELDS {
         return Opening::Refused(Refusal::TooShort);
     }
     let action = body[1];
@@ -39,14 +47,12 @@ pub fn open(body: &[u8]) -> Opening
     if action == 4 {
         return Opening::Switch;
     }
-    if body.len() < 3 {
+    if body.len() < FIXED_FIELDS {
         return Opening::Refused(Refusal::TooShort);
     }
     let token = body[2];
-    if forbids_zero_token(action) {
-        if token == 0 {
-            return Opening::Refused(Refusal::ForbiddenValue);
-        }
+    if forbids_token(action, token) {
+        return Opening::Refused(Refusal::ForbiddenValue);
     }
     Opening::Token { action, token }
 }

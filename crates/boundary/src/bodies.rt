@@ -65,7 +65,7 @@ pub extern "C" fn oneiralth_append_request(
     start: u64,
     duration: u16,
 ) -> u64
-    ensures { λ r. ⌜ Put (leb used (length (now (buffer .entry))) && mayAppend requestSort 0 dialog (requestGiven token kind asks request report channel start duration) (not (eqb dialog 0)) (take used (now (buffer .entry)))) (appended requestSort 0 dialog (requestGiven token kind asks request report channel start duration) (take used (now (buffer .entry)))) used (now (buffer .entry)) r (now (buffer .exit)) ⌝ }
+    ensures { λ r. ⌜ Put (leb used (length (now (buffer .entry))) && mayAppend requestSort dialog (requestGiven token kind asks request report channel start duration) (take used (now (buffer .entry)))) (appended requestSort dialog (requestGiven token kind asks request report channel start duration) (take used (now (buffer .entry)))) used (now (buffer .entry)) r (now (buffer .exit)) ⌝ }
 {
     let record = given::request(token, kind, asks, request, report, channel, start, duration);
     codes::wrote(measurement_body::requests::append(buffer, used, dialog, record))
@@ -86,7 +86,7 @@ pub extern "C" fn oneiralth_append_report(
     duration: u16,
     densities: u64,
 ) -> u64
-    ensures { λ r. ⌜ Put (leb used (length (now (buffer .entry))) && mayAppend reportSort 1 dialog (reportGiven token kind says value channel start duration densities) true (take used (now (buffer .entry)))) (appended reportSort 1 dialog (reportGiven token kind says value channel start duration densities) (take used (now (buffer .entry)))) used (now (buffer .entry)) r (now (buffer .exit)) ⌝ }
+    ensures { λ r. ⌜ Put (leb used (length (now (buffer .entry))) && mayAppend reportSort dialog (reportGiven token kind says value channel start duration densities) (take used (now (buffer .entry)))) (appended reportSort dialog (reportGiven token kind says value channel start duration densities) (take used (now (buffer .entry)))) used (now (buffer .entry)) r (now (buffer .exit)) ⌝ }
 {
     let record = given::report(
         token,

@@ -12,33 +12,32 @@ use lib.Dec.{eqb}
 use lib.ListN.{length, take, drop, length-drop, take-append-drop}
 use Rattle.single_body.specs.Singles.{tpcRequestBody, tpcReportBody, switchBody}
 use Rattle.answer.proofs.Booleans.{both}
-use Rattle.answer.proofs.Judged.{past, done, passed, kept}
+use Rattle.answer.proofs.Judged.{past, done, passed, kept, followed}
 use Rattle.answer.specs.Checks.{Outcome, accepted}
 use Rattle.beacon.specs.Beacons.{beaconMeans}
 use Rattle.element.specs.ChannelSwitch.{switchOctets}
 use Rattle.octets.specs.Elements.{RoundTrip}
 use Rattle.element.specs.TpcReport.{tpcReportOctets}
 use Rattle.frame.proofs.ActionTrip.{action-trip}
-use Rattle.frame.proofs.SingleTrip.{followed}
 use Rattle.frame.specs.Actions.{Body, requests, reports, tpcRequest, tpcReport, switch, actionMeans, actionOctets, actionMay, ActionFits, actionInterpreted, actionClear}
-use Rattle.frame.specs.Frames.{action, Sent, kindOf, frameMeans}
-use Rattle.header.specs.Headers.{subtype, subtypeOf, toAll, foreignHeader, foreignAddress, headerMeans}
+use Rattle.frame.specs.Frames.{bodyOf, action, Sent, kindOf, frameMeans}
+use Rattle.header.specs.Headers.{headerLength, subtype, subtypeOf, toAll, foreignHeader, foreignAddress, headerMeans}
 use Rattle.header.proofs.Heard.{not-too-long, heard-as}
 use Rattle.header.specs.declared.management.Subtype.{Subtype}
 use Rattle.measurement_body.proofs.NeverLonger.{never-longer}
-use Rattle.measurement_body.proofs.RunLaws.{octets-after}
+use Rattle.walk.proofs.RunLaws.{octets-after}
 use Rattle.measurement_body.specs.Bodies.{longestBody}
 use Rattle.measurement_body.specs.Lists.{mayList}
 use Rattle.measurement_body.specs.Reports.{reportSort}
 use Rattle.measurement_body.specs.Requests.{requestSort}
+use Rattle.measurement_body.specs.declared.kinds.Kind.{Kind}
 use Rattle.octets.specs.Numbers.{Octets}
 use Rattle.octets.specs.Writing.{room, wrote}
 use Rattle.octets.proofs.Storing.{room-answer, front-left}
 use Rattle.claims.specs.BodyCalls.{once, bodyCalls, holding}
 -- a measurement body of any number of elements is written by one call for each: where it is not too long and the buffer has room
 -- every call is accepted, and the buffer then begins with the body's octets; a run that was read is written back
-pub use Rattle.measurement_body.proofs.ReportLists.{reports-append-all, reports-append-back}
-pub use Rattle.measurement_body.proofs.RequestLists.{requests-append-all, requests-append-back}
+pub use Rattle.measurement_body.proofs.MeasurementLists.{measurements-append-all, measurements-append-back}
 
 pub action-bodies : RoundTrip actionMeans actionOctets actionMay ActionFits actionInterpreted actionClear
 action-bodies = action-trip
@@ -56,8 +55,8 @@ pub body-written : (body : Body) (buffer : List ℕ) → ActionFits body → act
 unfolding bodyCalls ActionFits actionMay actionOctets
 body-written (requests token rs) buffer f m short room =
     let p = both (not (eqb token 0)) (mayList requestSort rs) m in
-    requests-append-all token (p .0) buffer rs f (p .1) short room
-body-written (reports token rs) buffer f m short room = reports-append-all token buffer rs f m short room
+    measurements-append-all Kind.Requests token (p .0) buffer rs f (p .1) short room
+body-written (reports token rs) buffer f m short room = measurements-append-all Kind.Reports token refl buffer rs f m short room
 body-written (tpcRequest token) buffer f m short room = called-once _ _ buffer m room
 body-written (tpcReport token t) buffer f m short room = called-once _ _ buffer refl room
 body-written (switch s) buffer f m short room = called-once _ _ buffer m room
@@ -69,8 +68,8 @@ one-call may os buffer n e = kept _ (passed _ _ _ (passed _ _ _ e .1) .1)
 -- and no calls write one that is too long for any frame
 pub body-never-longer : (body : Body) (buffer : List ℕ) (n : ℕ) → bodyCalls body buffer .used ≡ accepted n → n ≤ longestBody
 unfolding bodyCalls tpcReportOctets switchOctets
-body-never-longer (requests token rs) buffer n e = never-longer requestSort 0 token (not (eqb token 0)) rs 0 buffer n (omega arith) e
-body-never-longer (reports token rs) buffer n e = never-longer reportSort 1 token true rs 0 buffer n (omega arith) e
+body-never-longer (requests token rs) buffer n e = never-longer requestSort token rs 0 buffer n (omega arith) e
+body-never-longer (reports token rs) buffer n e = never-longer reportSort token rs 0 buffer n (omega arith) e
 body-never-longer (tpcRequest token) buffer n e = omega (arith, one-call _ (tpcRequestBody token) buffer n e)
 body-never-longer (tpcReport token t) buffer n e = omega (arith, one-call _ (tpcReportBody token t) buffer n e)
 body-never-longer (switch s) buffer n e = omega (arith, one-call _ (switchBody s) buffer n e)
@@ -87,47 +86,47 @@ body-written-back c body buffer o e i k short room =
 
 module _ (own ap' : List ℕ) (b : ℕ) (f : List ℕ) where
   -- the body of an accepted frame is never too long
-  pub accepted-short : (x : Sent) → frameMeans own ap' b f ≡ accepted x → length (drop 24 f) ≤ longestBody
+  pub accepted-short : (x : Sent) → frameMeans own ap' b f ≡ accepted x → length (bodyOf f) ≤ longestBody
   unfolding frameMeans
   accepted-short x e =
       let h = followed (headerMeans own ap' f) _ x e in
-      omega (arith, not-too-long own ap' f (h .0) (h .1), length-drop 24 f)
+      omega (arith, not-too-long own ap' f (h .0) (h .1), length-bodyOf f)
 
   -- what an accepted action frame says is what its body means
-  body-means : (s : Subtype) (body : Body) → kindOf b s (drop 24 f) ≡ accepted (action body) → actionMeans (drop 24 f) ≡ accepted body
+  body-means : (s : Subtype) (body : Body) → kindOf b s (bodyOf f) ≡ accepted (action body) → actionMeans (bodyOf f) ≡ accepted body
   body-means Subtype.Beacon body e =
-      let t = followed (beaconMeans b (drop 24 f)) _ _ e in
+      let t = followed (beaconMeans b (bodyOf f)) _ _ e in
       absurd (let z : _≡_ {A = ℕ} 0 1 = cc (t .2) in omega arith)
   body-means Subtype.ProbeResponse body e =
-      let t = followed (beaconMeans b (drop 24 f)) _ _ e in
+      let t = followed (beaconMeans b (bodyOf f)) _ _ e in
       absurd (let z : _≡_ {A = ℕ} 0 1 = cc (t .2) in omega arith)
   body-means Subtype.Action body e =
-      let t = followed (actionMeans (drop 24 f)) _ _ e in
+      let t = followed (actionMeans (bodyOf f)) _ _ e in
       t .1 ∙ ap accepted (let same : t .0 ≡ body = cc (t .2) in same)
 
-  kind-means : (x : Sent) → frameMeans own ap' b f ≡ accepted x → (s : Subtype) × (kindOf b s (drop 24 f) ≡ accepted (x .kind))
+  kind-means : (x : Sent) → frameMeans own ap' b f ≡ accepted x → (s : Subtype) × (kindOf b s (bodyOf f) ≡ accepted (x .kind))
   unfolding frameMeans
   kind-means x e =
       let h = followed (headerMeans own ap' f) _ x e in
-      let k = followed (kindOf b (h .0 .subtype) (drop 24 f)) _ x (h .2) in
+      let k = followed (kindOf b (h .0 .subtype) (bodyOf f)) _ x (h .2) in
       let same : record { toAll = h .0 .toAll; kind = k .0 } ≡ x = cc (k .2) in
       (h .0 .subtype, k .1 ∙ ap (λ (y : Sent). accepted (y .kind)) same)
 
   -- so the body of each accepted action frame with nothing uninterpreted and no reserved bit set is written back
   pub frame-written-back : (x : Sent) (body : Body) (buffer : List ℕ) → Octets f → frameMeans own ap' b f ≡ accepted x → x .kind ≡ action body
-      → actionInterpreted body ≡ true → actionClear (drop 24 f) ≡ true → length (drop 24 f) ≤ length buffer
-      → bodyCalls body buffer ≡ holding (drop 24 f) buffer
+      → actionInterpreted body ≡ true → actionClear (bodyOf f) ≡ true → length (bodyOf f) ≤ length buffer
+      → bodyCalls body buffer ≡ holding (bodyOf f) buffer
   frame-written-back x body buffer o e k i c room =
       let m = kind-means x e in
-      body-written-back (drop 24 f) body buffer (octets-after (take 24 f) (drop 24 f) (subst Octets (sym (take-append-drop 24 f)) o))
+      body-written-back (bodyOf f) body buffer (octets-after (take headerLength f) (bodyOf f) (subst Octets (sym (take-append-drop headerLength f)) o))
       (body-means (m .0) body (m .1 ∙ ap accepted k)) i c (accepted-short x e) room
 
   -- and after a header that is not refused, each body that may be written, and is not too long, reads back the same
   pub frame-read-back : (body : Body) → ActionFits body → actionMay body ≡ true → length (actionOctets body) ≤ longestBody
-      → 24 ≤ length f → foreignHeader f ≡ false → foreignAddress own ap' f ≡ false → subtypeOf (subtype f) ≡ Subtype.Action
-      → drop 24 f ≡ actionOctets body → frameMeans own ap' b f ≡ accepted (record { toAll = toAll f; kind = action body })
+      → headerLength ≤ length f → foreignHeader f ≡ false → foreignAddress own ap' f ≡ false → subtypeOf (subtype f) ≡ Subtype.Action
+      → bodyOf f ≡ actionOctets body → frameMeans own ap' b f ≡ accepted (record { toAll = toAll f; kind = action body })
   unfolding frameMeans
   frame-read-back body fits m short long h a s e =
       let size = ap length e in
-      let head = heard-as own ap' f Subtype.Action (toAll f) long (omega (arith, length-drop 24 f)) h a s refl in
+      let head = heard-as own ap' f Subtype.Action (toAll f) long (omega (arith, length-bodyOf f)) h a s refl in
       rw (head, e, action-trip .there body fits m)

@@ -1,7 +1,8 @@
 -- The moments marked P, all of them (01, "Moments on both sides"), computed from the meanings. Assumes nothing.
 use mathlib.Core.Path.{refl}
 use Rattle.action.specs.Openings.{opensWith}
-use Rattle.single_body.specs.Singles.{sole, single}
+use Rattle.single_body.specs.Singles.{single}
+use Rattle.walk.specs.Required.{required}
 use Rattle.answer.specs.Checks.{checked}
 use Rattle.beacon.specs.Beacons.{elementMeans, takes, says, beaconMeans}
 use Rattle.element.specs.ChannelSwitch.{switchMeans}
@@ -21,5 +22,5 @@ use Rattle.claims.specs.Moments.{AllRight, moments}
 use Rattle.claims.specs.Records.{recordAfter}
 
 pub all-right : AllRight moments
-unfolding recordAfter takeMeans frameMeans headerMeans managementMeans addressMeans foreignHeader foreignAddress toAll beaconMeans checked says takes elementMeans elementsIn elementsAfter quietMeans switchMeans fixed actionMeans opensWith sole single announced informed clockAdvance advanceMeans permissionOf firstOf quietIn someUnit covered densitiesOf possible fractionOf ceiling
+unfolding recordAfter takeMeans frameMeans headerMeans managementMeans addressMeans foreignHeader foreignAddress toAll beaconMeans checked says takes elementMeans elementsIn elementsAfter quietMeans switchMeans fixed actionMeans opensWith required single announced informed clockAdvance advanceMeans permissionOf firstOf quietIn someUnit covered densitiesOf possible fractionOf ceiling
 all-right = (refl, (refl, (refl, (refl, (refl, (refl, (refl, (refl, (refl, (refl, (refl, (refl, (refl, ((refl, refl), tt))))))))))))))

@@ -1,8 +1,9 @@
 -- Each promise of the frame layer leaves one outcome: the walk, headers, beacons, action bodies, measurement bodies and frames.
 -- Assumes nothing.
 use mathlib.Core.Bool.{Bool, true, false}
-use mathlib.Core.Path.{_≡_, refl}
+use mathlib.Core.Path.{_≡_, refl, ap₂}
 use denote.Ref.{now}
+use Rattle.action.proofs.forbids_token as Forbids-token
 use Rattle.action.proofs.«open» as Open
 use Rattle.single_body.proofs.read_channel_switch as Read-channel-switch
 use Rattle.single_body.proofs.read_tpc_report as Read-tpc-report
@@ -16,16 +17,19 @@ use Rattle.answer.specs.Checks.{Outcome, refused, accepted}
 use Rattle.beacon.proofs.read as Beacon-read
 use Rattle.element.specs.ChannelSwitch.{switchTold}
 use Rattle.measurement_element.specs.MeasurementRequest.{requestTold}
+use Rattle.measurement_element.specs.declared.measurement_request.Reading as RequestReading
 use Rattle.element.specs.TpcReport.{tpcReportTold}
 use Rattle.element.specs.TpcRequest.{tpcRequestTold}
 use Rattle.frame.proofs.read as Frame-read
 use Rattle.frame.proofs.read_body as Read-body
+use Rattle.frame.proofs.read_request as Read-request
 use Rattle.frame.proofs.report_at as Report-at
 use Rattle.frame.proofs.request_at as Request-at
 use Rattle.frame.proofs.request_in as Request-in
 use Rattle.frame.specs.Laid.{frameTold}
 use Rattle.frame.specs.declared.Frame.{Frame}
 use Rattle.frame.specs.declared.Reading.{Reading}
+use Rattle.frame.specs.declared.index.Asked.{Asked}
 use Rattle.header.proofs.read as Header-read
 use Rattle.header.proofs.read_address as Header-read-address
 use Rattle.header.proofs.read_management as Header-read-management
@@ -35,9 +39,11 @@ use Rattle.header.specs.declared.address.Addressed.{Addressed}
 use Rattle.header.specs.declared.management.Management.{Management}
 use Rattle.header.specs.declared.management.Subtype.{Subtype}
 use Rattle.measurement_body.proofs.reports.append as Reports-append
-use Rattle.measurement_body.proofs.reports.survey as Reports-survey
 use Rattle.measurement_body.proofs.requests.append as Requests-append
-use Rattle.measurement_body.proofs.requests.survey as Requests-survey
+use Rattle.measurement_body.proofs.kinds.Kind.action as Kind-action
+use Rattle.measurement_body.proofs.kinds.Kind.has_tokens_once as Kind-has-tokens-once
+use Rattle.measurement_body.proofs.kinds.Kind.id as Kind-id
+use Rattle.measurement_body.proofs.survey as Survey
 use Rattle.answer.specs.Outcomes.{OneResult, OneOutcome}
 use Rattle.claims.proofs.OneOutcomeElements.{switch-of, switch-told, request-of, request-told, tpc-report-of, tpc-report-told, tpc-request-of, tpc-request-told}
 use Rattle.claims.proofs.Same.{once, told-once, written-once}
@@ -94,6 +100,9 @@ opening-told (Opening.Refused r) = refl
 opening-told Opening.Switch = refl
 opening-told (Opening.Token k t) = refl
 
+pub forbids-token : OneResult 0 Forbids-token.Kinds.ps Forbids-token.Kinds.r Forbids-token.Reads.Post
+forbids-token κs a e f x y p q = once p q
+
 pub body-opening : OneResult 1 Open.Kinds.ps Open.Kinds.r Open.Reads.Post
 body-opening κs a e f x y p q = told-once openingTold opening-of opening-told p q
 
@@ -115,11 +124,17 @@ write-tpc-report κs a e f x y p q = written-once p q
 pub write-channel-switch : OneOutcome 1 Write-channel-switch.Kinds.ps Write-channel-switch.Kinds.r Write-channel-switch.Reads.Post (λ κs e. now (e .1 .0))
 write-channel-switch κs a e f x y p q = written-once p q
 
-pub requests-survey : OneResult 1 Requests-survey.Kinds.ps Requests-survey.Kinds.r Requests-survey.Reads.Post
-requests-survey κs a e f x y p q = once p q
+pub kind-id : OneResult 0 Kind-id.Kinds.ps Kind-id.Kinds.r Kind-id.Reads.Post
+kind-id κs a e f x y p q = once p q
 
-pub reports-survey : OneResult 1 Reports-survey.Kinds.ps Reports-survey.Kinds.r Reports-survey.Reads.Post
-reports-survey κs a e f x y p q = once p q
+pub kind-action : OneResult 0 Kind-action.Kinds.ps Kind-action.Kinds.r Kind-action.Reads.Post
+kind-action κs a e f x y p q = once p q
+
+pub kind-has-tokens-once : OneResult 0 Kind-has-tokens-once.Kinds.ps Kind-has-tokens-once.Kinds.r Kind-has-tokens-once.Reads.Post
+kind-has-tokens-once κs a e f x y p q = once p q
+
+pub survey : OneResult 1 Survey.Kinds.ps Survey.Kinds.r Survey.Reads.Post
+survey κs a e f x y p q = once p q
 
 pub requests-append : OneOutcome 1 Requests-append.Kinds.ps Requests-append.Kinds.r Requests-append.Reads.Post (λ κs e. now (e .0))
 requests-append κs a e f x y p q = written-once p q
@@ -147,6 +162,13 @@ request-at κs a e f x y p q = told-once requestTold request-of request-told p q
 
 pub request-in : OneResult 1 Request-in.Kinds.ps Request-in.Kinds.r Request-in.Reads.Post
 request-in κs a e f x y p q = told-once requestTold request-of request-told p q
+
+asked : (x y : Asked) → x .reading ≡ y .reading → x .request ≡ y .request → x ≡ y
+asked x y e f = ap₂ (λ (a : Reading) (b : RequestReading.Reading). record { reading = a; request = b }) e f
+
+pub read-request : OneResult 1 Read-request.Kinds.ps Read-request.Kinds.r Read-request.Reads.Post
+read-request κs a e f x y p q =
+    asked x y (told-once frameTold reading-of reading-told (p .0) (q .0)) (told-once requestTold request-of request-told (p .1) (q .1))
 
 pub report-at : OneResult 1 Report-at.Kinds.ps Report-at.Kinds.r Report-at.Reads.Post
 report-at κs a e f x y p q = once p q

@@ -122,14 +122,14 @@ module _ (own master : List ℕ) (six-own : length own ≡ 6) (six-master : leng
     pub asked : dueMeans own master f ≡ accepted (requests token elements)
     pub owed : andThen (nth index elements) (reportFor clock readings) ≡ accepted report
     pub may : reportMay report ≡ true
-    pub octets : os ≡ replyFrame own master (bodyOctets reportSort 1 token (report ∷ []))
+    pub octets : os ≡ replyFrame own master (bodyOctets reportSort token (report ∷ []))
 
   carried : (f : List ℕ) (clock index : ℕ) (readings : Readings) (os : List ℕ) → measurementReply own master clock index readings f ≡ accepted os → Carried f clock index readings os
   unfolding measurementReply
   carried f clock index readings os e = by-due (dueMeans own master f) refl e
     where
       by-report : (token : ℕ) (rs : List Request) → dueMeans own master f ≡ accepted (requests token rs) → (o : Outcome Report) → andThen (nth index rs) (reportFor clock readings) ≡ o
-          → andThen o (λ x. judged (not (reportMay x) ⇒ Refusal.Impossible ∷ []) (replyFrame own master (bodyOctets reportSort 1 token (x ∷ [])))) ≡ accepted os
+          → andThen o (λ x. judged (not (reportMay x) ⇒ Refusal.Impossible ∷ []) (replyFrame own master (bodyOctets reportSort token (x ∷ [])))) ≡ accepted os
           → Carried f clock index readings os
       by-report token rs d (refused r) h g = absurd (never g)
       by-report token rs d (accepted x) h g =

@@ -20,8 +20,8 @@ once may os buffer = record { used = wrote may os 0 buffer; octets = left may os
 
 -- what the calls make of a buffer, by what each writer promises
 unfoldable pub bodyCalls : Body → List ℕ → Buffer
-bodyCalls (requests token rs) buffer = appends requestSort 0 token (not (eqb token 0)) rs 0 buffer
-bodyCalls (reports token rs) buffer = appends reportSort 1 token true rs 0 buffer
+bodyCalls (requests token rs) buffer = appends requestSort token rs 0 buffer
+bodyCalls (reports token rs) buffer = appends reportSort token rs 0 buffer
 bodyCalls (tpcRequest token) buffer = once (not (eqb token 0)) (tpcRequestBody token) buffer
 bodyCalls (tpcReport token t) buffer = once true (tpcReportBody token t) buffer
 bodyCalls (switch s) buffer = once (switchMay s) (switchBody s) buffer

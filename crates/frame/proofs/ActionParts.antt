@@ -7,22 +7,21 @@ use native.Mathlib.Omega.{arith}
 use borrow.Author.Tests.{le-ltb, ne-eqb, ltb-false, eqb-true, eqb-false, not-true, not-false}
 use lib.Dec.{ltb, eqb}
 use lib.ListN.{length, drop}
-use Rattle.action.specs.Openings.{Opens, switching, with, opensWith, forbidsZeroToken}
+use Rattle.action.specs.Openings.{fixedFields, switchFixedFields, Opens, switching, with, opensWith, forbidsToken}
 use Rattle.single_body.specs.Singles.{single}
 use Rattle.answer.specs.Checks.{Outcome, refused, accepted, pick, _⇒_, checked, judged, andThen}
 use Rattle.answer.specs.declared.Refusal.{Refusal}
 use Rattle.answer.proofs.Booleans.{clash}
-use Rattle.answer.proofs.Judged.{never, passed, stands, kept}
+use Rattle.answer.proofs.Judged.{never, passed, stands, kept, followed}
 use Rattle.element.specs.ChannelSwitch.{switchMeans}
 use Rattle.element.specs.TpcReport.{tpcReportMeans}
 use Rattle.element.specs.TpcRequest.{tpcRequestMeans}
-use Rattle.measurement_body.specs.Lists.{recordsIn}
+use Rattle.measurement_body.specs.Lists.{measurementsIn}
 use Rattle.measurement_body.specs.Reports.{reportSort}
 use Rattle.measurement_body.specs.Requests.{requestSort}
 use Rattle.octets.specs.Numbers.{octet}
 use Rattle.walk.specs.Elements.{elementsIn}
 use Rattle.frame.specs.Actions.{Body, requests, reports, tpcRequest, tpcReport, switch, afterOpening, actionMeans}
-use Rattle.frame.proofs.SingleTrip.{followed}
 
 -- the fixed fields of a body
 abbrev pub lead : Body → List ℕ
@@ -34,14 +33,14 @@ lead (switch s) = 0 ∷ 4 ∷ []
 
 -- a body's token may stand, and a run holds its records
 abbrev pub Holds : Body → List ℕ → Type 0
-Holds (requests token rs) run = (not (eqb token 0) ≡ true) × (recordsIn requestSort run ≡ accepted rs)
-Holds (reports token rs) run = recordsIn reportSort run ≡ accepted rs
+Holds (requests token rs) run = (not (eqb token 0) ≡ true) × (measurementsIn requestSort run ≡ accepted rs)
+Holds (reports token rs) run = measurementsIn reportSort run ≡ accepted rs
 Holds (tpcRequest token) run = (not (eqb token 0) ≡ true) × (single 34 tpcRequestMeans (elementsIn run) ≡ accepted tt)
 Holds (tpcReport token t) run = single 35 tpcReportMeans (elementsIn run) ≡ accepted t
 Holds (switch s) run = single 37 switchMeans (elementsIn run) ≡ accepted s
 
 module _ (run : List ℕ) where
-  opens : (action token : ℕ) → action ≤ 3 → (forbidsZeroToken action && eqb token 0) ≡ false → opensWith (0 ∷ action ∷ token ∷ run) ≡ accepted (with action token)
+  opens : (action token : ℕ) → action ≤ 3 → forbidsToken action token ≡ false → opensWith (0 ∷ action ∷ token ∷ run) ≡ accepted (with action token)
   unfolding opensWith checked
   opens action token h k =
       let n = length (0 ∷ action ∷ token ∷ run) in
@@ -73,13 +72,13 @@ pub record Parts (c : List ℕ) (body : Body) : Type 0 where
 
 -- what an opening says of the octets
 abbrev Begins : List ℕ → Opens → Type 0
-Begins c switching = c ≡ 0 ∷ 4 ∷ drop 2 c
-Begins c (with action token) = (c ≡ 0 ∷ action ∷ token ∷ drop 3 c) × (action ≤ 3) × ((forbidsZeroToken action && eqb token 0) ≡ false)
+Begins c switching = c ≡ 0 ∷ 4 ∷ drop switchFixedFields c
+Begins c (with action token) = (c ≡ 0 ∷ action ∷ token ∷ drop fixedFields c) × (action ≤ 3) × (forbidsToken action token ≡ false)
 
 module _ (y : ℕ) where
   -- after category 0 and an action up to 4
   by-action : (r : List ℕ) (o : Opens) (t : Bool) → eqb y 4 ≡ t → y ≤ 4
-      → pick t (accepted switching) (judged (ltb (length (0 ∷ y ∷ r)) 3 ⇒ Refusal.TooShort ∷ (forbidsZeroToken y && eqb (octet 2 (0 ∷ y ∷ r)) 0) ⇒ Refusal.ForbiddenValue ∷ []) (with y (octet 2 (0 ∷ y ∷ r)))) ≡ accepted o
+      → pick t (accepted switching) (judged (ltb (length (0 ∷ y ∷ r)) fixedFields ⇒ Refusal.TooShort ∷ forbidsToken y (octet 2 (0 ∷ y ∷ r)) ⇒ Refusal.ForbiddenValue ∷ []) (with y (octet 2 (0 ∷ y ∷ r)))) ≡ accepted o
       → Begins (0 ∷ y ∷ r) o
   by-action r o true u h e =
       let k : switching ≡ o = cc in
@@ -108,13 +107,13 @@ module _ (c : List ℕ) (body : Body) where
   made make (accepted a) k e = let g : make a ≡ body = cc in subst (Parts c) g (k a refl)
 
   by-opening : (o : Opens) → Begins c o → afterOpening c o ≡ accepted body → Parts c body
-  by-opening switching b e = made switch _ (λ s h. record { run = drop 2 c; front = b; holds = h }) e
+  by-opening switching b e = made switch _ (λ s h. record { run = drop switchFixedFields c; front = b; holds = h }) e
   by-opening (with zero token) b e =
-      made (requests token) _ (λ rs h. record { run = drop 3 c; front = b .0; holds = (ap not (b .2), h) }) e
-  by-opening (with (suc zero) token) b e = made (reports token) _ (λ rs h. record { run = drop 3 c; front = b .0; holds = h }) e
+      made (requests token) _ (λ rs h. record { run = drop fixedFields c; front = b .0; holds = (ap not (b .2), h) }) e
+  by-opening (with (suc zero) token) b e = made (reports token) _ (λ rs h. record { run = drop fixedFields c; front = b .0; holds = h }) e
   by-opening (with (suc (suc zero)) token) b e =
-      made (λ u. tpcRequest token) _ (λ u h. record { run = drop 3 c; front = b .0; holds = (ap not (b .2), h) }) e
-  by-opening (with (suc (suc (suc zero))) token) b e = made (tpcReport token) _ (λ t h. record { run = drop 3 c; front = b .0; holds = h }) e
+      made (λ u. tpcRequest token) _ (λ u h. record { run = drop fixedFields c; front = b .0; holds = (ap not (b .2), h) }) e
+  by-opening (with (suc (suc (suc zero))) token) b e = made (tpcReport token) _ (λ t h. record { run = drop fixedFields c; front = b .0; holds = h }) e
   by-opening (with (suc (suc (suc (suc n)))) token) b e = absurd (omega arith)
 
   pub parts : actionMeans c ≡ accepted body → Parts c body

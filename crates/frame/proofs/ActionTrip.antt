@@ -15,24 +15,23 @@ use Rattle.measurement_element.specs.MeasurementRequest.{RequestFits}
 use Rattle.element.specs.TpcReport.{tpcReportMeans, tpcReportContents, tpcReportMay, tpcReportOctets, TpcReportFits}
 use Rattle.element.specs.TpcRequest.{tpcRequestMeans, tpcRequestOctets}
 use Rattle.element.proofs.RoundTrips.{tpc-request-trip, tpc-report-trip, switch-trip}
-use Rattle.measurement_body.specs.Lists.{AllFit, recordsIn, mayList, allOctets, allInterpreted, allClear}
+use Rattle.measurement_body.specs.Lists.{AllFit, measurementsIn, mayList, allOctets, allInterpreted, allClear}
 use Rattle.measurement_body.specs.Reports.{reportSort}
 use Rattle.measurement_body.specs.Requests.{requestSort}
-use Rattle.measurement_body.proofs.ListTrip.{list-trip}
-use Rattle.measurement_body.proofs.ReportLists.{reports-trip}
-use Rattle.measurement_body.proofs.RequestLists.{requests-trip}
-use Rattle.measurement_body.proofs.RunLaws.{octets-after}
+use Rattle.measurement_body.proofs.MeasurementLists.{measurements-trip}
+use Rattle.measurement_body.specs.declared.kinds.Kind.{Kind}
+use Rattle.walk.proofs.RunLaws.{octets-after}
 use Rattle.octets.specs.Numbers.{Octets}
 use Rattle.walk.specs.Elements.{elementsIn}
 use Rattle.frame.specs.Actions.{Body, requests, reports, tpcRequest, tpcReport, switch, actionMeans, actionOctets, actionMay, actionInterpreted, actionClear, ActionFits}
 use Rattle.frame.proofs.ActionParts.{lead, Holds, reads, parts}
 use Rattle.frame.proofs.SingleTrip.{single-trip}
 
-request-list : RoundTrip (recordsIn requestSort) (allOctets requestSort) (mayList requestSort) (AllFit RequestFits) (allInterpreted requestSort) (λ run. allClear requestSort (elementsIn run))
-request-list = list-trip requestSort RequestFits requests-trip
+request-list : RoundTrip (measurementsIn requestSort) (allOctets requestSort) (mayList requestSort) (AllFit RequestFits) (allInterpreted requestSort) (λ run. allClear requestSort (elementsIn run))
+request-list = measurements-trip Kind.Requests
 
-report-list : RoundTrip (recordsIn reportSort) (allOctets reportSort) (mayList reportSort) (AllFit ReportFits) (allInterpreted reportSort) (λ run. allClear reportSort (elementsIn run))
-report-list = list-trip reportSort ReportFits reports-trip
+report-list : RoundTrip (measurementsIn reportSort) (allOctets reportSort) (mayList reportSort) (AllFit ReportFits) (allInterpreted reportSort) (λ run. allClear reportSort (elementsIn run))
+report-list = measurements-trip Kind.Reports
 
 one-request : RoundTrip (λ run. single 34 tpcRequestMeans (elementsIn run)) (λ u. tpcRequestOctets) (λ u. true) (λ u. Unit {0}) (λ u. true) (λ run. true)
 one-request = single-trip 34 tpcRequestMeans (λ u. []) (λ u. true) (λ u. Unit {0}) tpc-request-trip

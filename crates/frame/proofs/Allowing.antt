@@ -6,8 +6,8 @@ use Prim.Native.Nat.{ℕ}
 use lib.Dec.{eqb}
 use lib.ListN.{drop}
 use lib.Seq.{take-at}
-use Rattle.action.specs.Openings.{Opens, switching, with, opensWith}
-use Rattle.single_body.specs.Singles.{single, sole, alone}
+use Rattle.action.specs.Openings.{fixedFields, switchFixedFields, Opens, switching, with, opensWith}
+use Rattle.single_body.specs.Singles.{single}
 use Rattle.answer.proofs.Yielding.{Yields, of-refusal, of-value, either-way, after-value}
 use Rattle.answer.specs.Checks.{Outcome, refused, accepted}
 use Rattle.beacon.proofs.Allowing.{switch-allowed, beacon-allowed}
@@ -18,13 +18,14 @@ use Rattle.element.specs.TpcRequest.{tpcRequestMeans}
 use Rattle.element.specs.declared.channel_switch.ChannelSwitch.{ChannelSwitch}
 use Rattle.header.specs.Headers.{headerMeans}
 use Rattle.header.specs.declared.management.Subtype.{Subtype}
-use Rattle.measurement_body.specs.Lists.{recordsIn}
+use Rattle.measurement_body.specs.Lists.{measurementsIn}
 use Rattle.measurement_body.specs.Reports.{reportSort}
 use Rattle.measurement_body.specs.Requests.{requestSort}
 use Rattle.walk.specs.Elements.{Elements, end, cutHeader, cutContents, more, elementsIn}
+use Rattle.walk.specs.Required.{required, nothingLeft}
 use Rattle.frame.specs.Actions.{Body, afterOpening, actionMeans}
 use Rattle.frame.specs.Allowed.{FrameAllowed, KindAllowed, ReceivedAllowed}
-use Rattle.frame.specs.Frames.{action, Sent, kindOf, frameMeans}
+use Rattle.frame.specs.Frames.{bodyOf, action, Sent, kindOf, frameMeans}
 use Rattle.frame.specs.Laid.{frameOf, quietsOf, frameLaid}
 
 -- ---- the body of an announcement
@@ -32,17 +33,17 @@ use Rattle.frame.specs.Laid.{frameOf, quietsOf, frameLaid}
 Allowed-switch : ChannelSwitch → Type 0
 Allowed-switch w = switchForbids w ≡ false
 
-alone-allowed : (es : Elements) (w : ChannelSwitch) → Allowed-switch w → Yields Allowed-switch (alone es w)
-alone-allowed end w h = of-value Allowed-switch h
-alone-allowed cutHeader w h = of-refusal Allowed-switch _
-alone-allowed (cutContents id) w h = of-refusal Allowed-switch _
-alone-allowed (more id c es) w h = of-refusal Allowed-switch _
+left-allowed : (es : Elements) (w : ChannelSwitch) → Allowed-switch w → Yields Allowed-switch (nothingLeft es w)
+left-allowed end w h = of-value Allowed-switch h
+left-allowed cutHeader w h = of-refusal Allowed-switch _
+left-allowed (cutContents id) w h = of-refusal Allowed-switch _
+left-allowed (more id c es) w h = of-refusal Allowed-switch _
 
 single-allowed : (es : Elements) → Yields Allowed-switch (single 37 switchMeans es)
 unfolding single Allowed-switch
 single-allowed es =
-    after-value _ (sole 37 es) _
-    (λ s e. after-value _ (switchMeans (s .contents)) _ (λ w f. alone-allowed (s .rest) w (switch-allowed (s .contents) w f)))
+    after-value _ (required 37 es) _
+    (λ s e. after-value _ (switchMeans (s .contents)) _ (λ w f. left-allowed (s .rest) w (switch-allowed (s .contents) w f)))
 
 -- ---- any body, and any frame
 
@@ -53,12 +54,12 @@ module _ (b : ℕ) where
   after-allowed : (body : List ℕ) (o : Opens) → Yields BodyAllowed (afterOpening body o)
   unfolding Yields Allowed-switch BodyAllowed
   after-allowed body switching =
-      after-value BodyAllowed (single 37 switchMeans (elementsIn (drop 2 body))) _ (λ w e. of-value BodyAllowed (single-allowed (elementsIn (drop 2 body)) w e))
+      after-value BodyAllowed (single 37 switchMeans (elementsIn (drop switchFixedFields body))) _ (λ w e. of-value BodyAllowed (single-allowed (elementsIn (drop switchFixedFields body)) w e))
   after-allowed body (with k token) =
-      either-way BodyAllowed (eqb k 0) _ _ (after-value BodyAllowed (recordsIn requestSort (drop 3 body)) _ (λ rs e. of-value BodyAllowed tt))
-      (either-way BodyAllowed (eqb k 1) _ _ (after-value BodyAllowed (recordsIn reportSort (drop 3 body)) _ (λ rs e. of-value BodyAllowed tt))
-      (either-way BodyAllowed (eqb k 2) _ _ (after-value BodyAllowed (single 34 tpcRequestMeans (elementsIn (drop 3 body))) _ (λ u e. of-value BodyAllowed tt))
-      (after-value BodyAllowed (single 35 tpcReportMeans (elementsIn (drop 3 body))) _ (λ t e. of-value BodyAllowed tt))))
+      either-way BodyAllowed (eqb k 0) _ _ (after-value BodyAllowed (measurementsIn requestSort (drop fixedFields body)) _ (λ rs e. of-value BodyAllowed tt))
+      (either-way BodyAllowed (eqb k 1) _ _ (after-value BodyAllowed (measurementsIn reportSort (drop fixedFields body)) _ (λ rs e. of-value BodyAllowed tt))
+      (either-way BodyAllowed (eqb k 2) _ _ (after-value BodyAllowed (single 34 tpcRequestMeans (elementsIn (drop fixedFields body))) _ (λ u e. of-value BodyAllowed tt))
+      (after-value BodyAllowed (single 35 tpcReportMeans (elementsIn (drop fixedFields body))) _ (λ t e. of-value BodyAllowed tt))))
 
   body-allowed : (body : List ℕ) → Yields BodyAllowed (actionMeans body)
   unfolding actionMeans
@@ -74,8 +75,8 @@ module _ (b : ℕ) where
   unfolding frameMeans Yields
   frame-allowed own ap' f =
       after-value (λ (x : Sent). KindAllowed b (x .kind)) (headerMeans own ap' f) _
-      (λ h e. after-value (λ (x : Sent). KindAllowed b (x .kind)) (kindOf b (h .subtype) (drop 24 f)) _
-      (λ k g. of-value (λ (x : Sent). KindAllowed b (x .kind)) (kind-allowed (h .subtype) (drop 24 f) k g)))
+      (λ h e. after-value (λ (x : Sent). KindAllowed b (x .kind)) (kindOf b (h .subtype) (bodyOf f)) _
+      (λ k g. of-value (λ (x : Sent). KindAllowed b (x .kind)) (kind-allowed (h .subtype) (bodyOf f) k g)))
 
   received-allowed : (o : Outcome Sent) → ((x : Sent) → o ≡ accepted x → KindAllowed b (x .kind)) → ReceivedAllowed b (frameLaid o)
   received-allowed (refused r) h = tt

@@ -1,20 +1,19 @@
 -- What an answer that stands beside its value says of the outcome. Assumes nothing.
 use mathlib.Core.Path.{_≡_, refl, sym, ap, _∙_}
-use mathlib.Core.Bool.{Bool}
 use mathlib.Core.List.{List}
 use Prim.Native.Nat.{ℕ}
 use native.Mathlib.Omega.{arith}
+use lib.ListN.{drop}
+use Rattle.action.specs.Openings.{fixedFields}
 use Rattle.answer.specs.Checks.{Outcome, refused, accepted}
 use Rattle.answer.specs.declared.Answer.{Answer}
 use Rattle.answer.specs.declared.Refusal.{Refusal}
 use Rattle.beacon.specs.Beacons.{Told}
 use Rattle.beacon.specs.Laid.{laid}
 use Rattle.beacon.specs.declared.Heard.{Heard}
-use Rattle.measurement_element.specs.declared.measurement_report.Report.{Report}
-use Rattle.measurement_element.specs.declared.measurement_request.Request.{Request}
-use Rattle.measurement_body.specs.Surveys.{requestsSurveyed, reportsSurveyed}
-use Rattle.measurement_body.specs.declared.reports.Surveyed as Reports
-use Rattle.measurement_body.specs.declared.requests.Surveyed as Requests
+use Rattle.measurement_body.specs.Lists.{Sort, measurementsIn}
+use Rattle.measurement_body.specs.Surveys.{surveyedAs, surveyed}
+use Rattle.measurement_body.specs.declared.surveying.Surveyed.{Surveyed}
 
 unlike : {X : Type 0} {r : Refusal} → Answer.Accepted ≡ Answer.Refused r → X
 unlike e = absurd (let z : _≡_ {A = ℕ} 0 1 = cc in omega arith)
@@ -38,21 +37,14 @@ module _ {A W : Type 0} (lays : Outcome A → W) (answer : W → Answer) (no : (
       let p = accepted-by o (ap answer (sym l) ∙ e) in
       (p .0, p .1, l ∙ ap lays (p .1))
 
-module _ (i t : ℕ) (clear : Bool) where
-  pub requests-refused : (o : Outcome (List Request)) (v : Requests.Surveyed) (r : Refusal) → v ≡ requestsSurveyed i t clear o → v .answer ≡ Answer.Refused r → refused r ≡ o
-  requests-refused = refused-as (requestsSurveyed i t clear) (λ v. v .answer) (λ r. refl) (λ a. refl)
+-- a survey of a body of either kind
+module _ {A : Type 0} (s : Sort A) (i t : ℕ) (body : List ℕ) where
+  pub survey-refused : (v : Surveyed) (r : Refusal) → v ≡ surveyed s i t body → v .answer ≡ Answer.Refused r → refused r ≡ measurementsIn s (drop fixedFields body)
+  survey-refused = refused-as (surveyedAs s i t body) (λ v. v .answer) (λ r. refl) (λ a. refl) (measurementsIn s (drop fixedFields body))
 
-  pub requests-accepted : (o : Outcome (List Request)) (v : Requests.Surveyed) → v ≡ requestsSurveyed i t clear o → v .answer ≡ Answer.Accepted
-      → (rs : List Request) × (o ≡ accepted rs) × (v ≡ requestsSurveyed i t clear (accepted rs))
-  requests-accepted = accepted-as (requestsSurveyed i t clear) (λ v. v .answer) (λ r. refl) (λ a. refl)
-
-module _ (i : ℕ) (clear : Bool) where
-  pub reports-refused : (o : Outcome (List Report)) (v : Reports.Surveyed) (r : Refusal) → v ≡ reportsSurveyed i clear o → v .answer ≡ Answer.Refused r → refused r ≡ o
-  reports-refused = refused-as (reportsSurveyed i clear) (λ v. v .answer) (λ r. refl) (λ a. refl)
-
-  pub reports-accepted : (o : Outcome (List Report)) (v : Reports.Surveyed) → v ≡ reportsSurveyed i clear o → v .answer ≡ Answer.Accepted
-      → (rs : List Report) × (o ≡ accepted rs) × (v ≡ reportsSurveyed i clear (accepted rs))
-  reports-accepted = accepted-as (reportsSurveyed i clear) (λ v. v .answer) (λ r. refl) (λ a. refl)
+  pub survey-accepted : (v : Surveyed) → v ≡ surveyed s i t body → v .answer ≡ Answer.Accepted
+      → (xs : List A) × (measurementsIn s (drop fixedFields body) ≡ accepted xs) × (v ≡ surveyedAs s i t body (accepted xs))
+  survey-accepted = accepted-as (surveyedAs s i t body) (λ v. v .answer) (λ r. refl) (λ a. refl) (measurementsIn s (drop fixedFields body))
 
 pub heard-refused : (o : Outcome Told) (v : Heard) (r : Refusal) → v ≡ laid o → v .answer ≡ Answer.Refused r → refused r ≡ o
 heard-refused = refused-as laid (λ v. v .answer) (λ r. refl) (λ a. refl)

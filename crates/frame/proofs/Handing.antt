@@ -4,17 +4,17 @@ use mathlib.Core.Bool.{Bool, true, false}
 use mathlib.Core.List.{List, []}
 use Prim.Native.Nat.{ℕ, _≤_}
 use borrow.Author.Tests.{ltb-false}
-use lib.ListN.{length, drop}
+use lib.ListN.{length}
 use Rattle.answer.specs.Checks.{Outcome, refused, accepted, andThen}
 use Rattle.answer.specs.declared.Refusal.{Refusal}
 use Rattle.answer.proofs.Judged.{never, passed}
 use Rattle.beacon.specs.Beacons.{Told, beaconMeans}
 use Rattle.beacon.specs.Laid.{laid}
 use Rattle.beacon.specs.declared.Heard.{Heard}
-use Rattle.header.specs.Headers.{Head, headerMeans}
+use Rattle.header.specs.Headers.{headerLength, Head, headerMeans}
 use Rattle.header.proofs.Heard.{has-header}
 use Rattle.frame.specs.Actions.{Body}
-use Rattle.frame.specs.Frames.{Kind, beacon, probeResponse, action, kindOf, sent, frameMeans}
+use Rattle.frame.specs.Frames.{bodyOf, Kind, beacon, probeResponse, action, kindOf, sent, frameMeans}
 use Rattle.frame.specs.Laid.{actionFrame, bodyFrame, received, frameLaid, noticeSubtype}
 use Rattle.frame.specs.declared.Frame.{Frame}
 use Rattle.frame.specs.declared.Reading.{Reading}
@@ -75,10 +75,10 @@ module _ (toAll : Bool) where
 
 module _ (own ap' : List ℕ) (b : ℕ) (f : List ℕ) where
   pub framed : (o : Outcome Head) → o ≡ headerMeans own ap' f
-      → andThen o (λ h. sent (h .toAll) (kindOf b (h .subtype) (drop 24 f))) ≡ frameMeans own ap' b f
+      → andThen o (λ h. sent (h .toAll) (kindOf b (h .subtype) (bodyOf f))) ≡ frameMeans own ap' b f
   unfolding frameMeans
-  framed o e = ap (λ (x : Outcome Head). andThen x (λ h. sent (h .toAll) (kindOf b (h .subtype) (drop 24 f)))) e
+  framed o e = ap (λ (x : Outcome Head). andThen x (λ h. sent (h .toAll) (kindOf b (h .subtype) (bodyOf f)))) e
 
   -- a frame whose header is read has one
-  pub headed : (h : Head) → accepted h ≡ headerMeans own ap' f → 24 ≤ length f
+  pub headed : (h : Head) → accepted h ≡ headerMeans own ap' f → headerLength ≤ length f
   headed h e = has-header own ap' f h (sym e)

@@ -3,143 +3,176 @@ use mathlib.Core.Path.{_≡_, refl, sym, ap, subst, _∙_}
 use mathlib.Core.Bool.{Bool, true, false}
 use mathlib.Core.List.{List}
 use Prim.Native.Nat.{ℕ}
-use borrow.Author.Tests.{eqb-true}
-use lib.Dec.{eqb}
-use lib.ListN.{drop}
-use Rattle.action.specs.Openings.{Opens, switching, with, opensWith}
-use Rattle.single_body.specs.Singles.{single}
-use Rattle.answer.specs.Checks.{Outcome, refused, accepted, pick, andThen}
-use Rattle.answer.specs.declared.Refusal.{Refusal}
-use Rattle.answer.proofs.Booleans.{clash}
+use lib.ListN.{length, drop}
+use Rattle.action.specs.Openings.{fixedFields, with}
 use Rattle.answer.proofs.Judged.{never}
-use Rattle.beacon.specs.Beacons.{Told}
-use Rattle.element.specs.ChannelSwitch.{switchMeans}
-use Rattle.measurement_element.specs.MeasurementRequest.{requestTold}
-use Rattle.element.specs.TpcReport.{tpcReportMeans}
-use Rattle.element.specs.TpcRequest.{tpcRequestMeans}
-use Rattle.measurement_element.specs.declared.measurement_report.Report.{Report}
-use Rattle.measurement_element.specs.declared.measurement_request.Request.{Request}
-use Rattle.measurement_body.specs.Lists.{recordsIn, nth}
+use Rattle.answer.specs.Checks.{Outcome, refused, accepted, andThen}
+use Rattle.answer.specs.declared.Refusal.{Refusal}
+use Rattle.beacon.specs.Beacons.{Told, beaconMeans}
+use Rattle.header.specs.Headers.{Head, headerMeans}
+use Rattle.header.specs.declared.management.Subtype.{Subtype}
+use Rattle.measurement_body.proofs.PlacesRead.{Reads, place-reads}
+use Rattle.measurement_body.specs.Kinds.{Measurement, sortOf}
+use Rattle.measurement_body.specs.Lists.{Sort, measurementsIn, nth}
 use Rattle.measurement_body.specs.Reports.{reportSort}
 use Rattle.measurement_body.specs.Requests.{requestSort}
-use Rattle.measurement_body.specs.Surveys.{requestRead}
-use Rattle.walk.specs.Elements.{elementsIn}
+use Rattle.measurement_body.specs.Surveys.{placeIn, surveyedAs}
+use Rattle.measurement_body.specs.declared.kinds.Kind as Measurements
+use Rattle.measurement_body.specs.declared.surveying.Place.{Place}
+use Rattle.measurement_body.specs.declared.surveying.Surveyed.{Surveyed}
+use Rattle.measurement_element.specs.MeasurementReport.{reportMeans}
+use Rattle.measurement_element.specs.MeasurementRequest.{requestMeans}
+use Rattle.measurement_element.specs.declared.measurement_report.Report.{Report}
+use Rattle.measurement_element.specs.declared.measurement_request.Request.{Request}
 use Rattle.frame.specs.Actions.{Body, requests, reports, tpcRequest, tpcReport, switch, afterOpening, actionMeans}
-use Rattle.frame.specs.Frames.{beacon, probeResponse, action, sent, requestIn, reportIn, elementOf}
-use Rattle.frame.specs.Laid.{frameTold, bodyFrame, opensAs, refusalOf, noticeRefusal}
+use Rattle.frame.specs.CodeTerms.Located.{unplaced, placed, located, locatedIn, PlaceWithin, meansAt, readThere}
+use Rattle.frame.specs.Frames.{bodyOf, Kind, beacon, probeResponse, action, kindOf, sent, frameMeans, requestIn, reportIn, ofKind, elementOf}
+use Rattle.frame.specs.Laid.{actionFrame, frameTold, bodyFrame, frameLaid, noticeSubtype}
 use Rattle.frame.specs.declared.Reading.{Reading}
-use Rattle.frame.proofs.Openings.{opened}
+use Rattle.frame.specs.declared.Received.{Received}
+use Rattle.frame.specs.declared.bodies.Located.{Located}
+use Rattle.frame.proofs.ActionParts.{parts}
+use Rattle.frame.proofs.Handing.{framed}
 
--- ---- a body of the wanted action
-
-token-of : (w : ℕ) (o : Outcome Opens) → opensAs w o ≡ true → (t : ℕ) × (o ≡ accepted (with w t))
-token-of w (refused r) e = clash (sym e)
-token-of w (accepted switching) e = clash (sym e)
-token-of w (accepted (with k t)) e = (t, ap (λ (x : ℕ). accepted (with x t)) (eqb-true k w e))
-
-pub wanted : (w : ℕ) (body : List ℕ) → opensAs w (opensWith body) ≡ true → (t : ℕ) × (opensWith body ≡ accepted (with w t))
-wanted w body e = token-of w (opensWith body) e
-
-module _ (body : List ℕ) (t i : ℕ) where
-  pub requests-at : opensWith body ≡ accepted (with 0 t) → (o : Outcome (List Request)) → o ≡ recordsIn requestSort (drop 3 body)
-      → andThen o (nth i) ≡ andThen (actionMeans body) (requestIn i)
-  requests-at e o r =
-      by o
-      ∙ ap (λ (x : Outcome (List Request)). andThen (andThen x (λ rs. accepted (requests t rs))) (requestIn i)) r
-      ∙ ap (λ (x : Outcome Body). andThen x (requestIn i)) (opened body (accepted (with 0 t)) (sym e))
-    where
-      by : (x : Outcome (List Request)) → andThen x (nth i) ≡ andThen (andThen x (λ rs. accepted (requests t rs))) (requestIn i)
-      by (refused q) = refl
-      by (accepted rs) = refl
-
-  pub reports-at : opensWith body ≡ accepted (with 1 t) → (o : Outcome (List Report)) → o ≡ recordsIn reportSort (drop 3 body)
-      → andThen o (nth i) ≡ andThen (actionMeans body) (reportIn i)
-  reports-at e o r =
-      by o
-      ∙ ap (λ (x : Outcome (List Report)). andThen (andThen x (λ rs. accepted (reports t rs))) (reportIn i)) r
-      ∙ ap (λ (x : Outcome Body). andThen x (reportIn i)) (opened body (accepted (with 1 t)) (sym e))
-    where
-      by : (x : Outcome (List Report)) → andThen x (nth i) ≡ andThen (andThen x (λ rs. accepted (reports t rs))) (reportIn i)
-      by (refused q) = refl
-      by (accepted rs) = refl
-
--- ---- a body of another action
-
--- every body that an outcome accepts has no such elements
-module _ {A : Type 0} (elementIn : Body → Outcome A) where
-  Bare : Outcome Body → Type 0
-  Bare o = (b : Body) → o ≡ accepted b → elementIn b ≡ refused Refusal.Impossible
-
-  bare-built : {X : Type 0} (x : Outcome X) (made : X → Body) → ((a : X) → elementIn (made a) ≡ refused Refusal.Impossible)
-      → Bare (andThen x (λ a. accepted (made a)))
-  unfolding Bare
-  bare-built (refused r) made h b e = absurd (never e)
-  bare-built (accepted a) made h b e = let y : made a ≡ b = cc in ap elementIn (sym y) ∙ h a
-
-  bare-pick : (t : Bool) (x y : Outcome Body) → (t ≡ true → Bare x) → (t ≡ false → Bare y) → Bare (pick t x y)
-  bare-pick true x y f g = f refl
-  bare-pick false x y f g = g refl
-
-  bare-refused : (r : Refusal) → Bare (refused r)
-  unfolding Bare
-  bare-refused r b e = absurd (never e)
-
-  no-element : (o : Outcome Body) (reading : Reading) → frameTold reading ≡ bodyFrame o → Bare o → refused (refusalOf reading) ≡ andThen o elementIn
-  unfolding Bare
-  no-element (refused q) (Reading.Refused r) e h = cc
-  no-element (refused q) (Reading.Is f) e h = absurd (never (sym e))
-  no-element (accepted b) (Reading.Refused r) e h = absurd (never e)
-  no-element (accepted b) (Reading.Is f) e h = sym (h b refl)
+-- ---- what is found of a body
 
 module _ (body : List ℕ) (i : ℕ) where
-  not-requests : (o : Outcome Opens) → opensAs 0 o ≡ false → Bare (requestIn i) (andThen o (afterOpening body))
-  not-requests (refused r) e = bare-refused (requestIn i) r
-  not-requests (accepted switching) e = bare-built (requestIn i) (single 37 switchMeans (elementsIn (drop 2 body))) switch (λ a. refl)
-  not-requests (accepted (with k t)) e =
-      bare-pick (requestIn i) (eqb k 0) _ _ (λ h. clash (sym h ∙ e))
-      (λ _. bare-pick (requestIn i) (eqb k 1) _ _ (λ _. bare-built (requestIn i) (recordsIn reportSort (drop 3 body)) (reports t) (λ a. refl))
-      (λ _. bare-pick (requestIn i) (eqb k 2) _ _ (λ _. bare-built (requestIn i) (single 34 tpcRequestMeans (elementsIn (drop 3 body))) (λ u. tpcRequest t) (λ a. refl))
-      (λ _. bare-built (requestIn i) (single 35 tpcReportMeans (elementsIn (drop 3 body))) (tpcReport t) (λ a. refl))))
+  -- its reading is its frame
+  pub located-frame : (o : Outcome Body) → frameTold (located i body o .reading) ≡ bodyFrame o
+  located-frame (refused r) = refl
+  located-frame (accepted (requests t rs)) = refl
+  located-frame (accepted (reports t rs)) = refl
+  located-frame (accepted (tpcRequest t)) = refl
+  located-frame (accepted (tpcReport t r)) = refl
+  located-frame (accepted (switch s)) = refl
 
-  not-reports : (o : Outcome Opens) → opensAs 1 o ≡ false → Bare (reportIn i) (andThen o (afterOpening body))
-  not-reports (refused r) e = bare-refused (reportIn i) r
-  not-reports (accepted switching) e = bare-built (reportIn i) (single 37 switchMeans (elementsIn (drop 2 body))) switch (λ a. refl)
-  not-reports (accepted (with k t)) e =
-      bare-pick (reportIn i) (eqb k 0) _ _ (λ _. bare-built (reportIn i) (recordsIn requestSort (drop 3 body)) (requests t) (λ a. refl))
-      (λ _. bare-pick (reportIn i) (eqb k 1) _ _ (λ h. clash (sym h ∙ e))
-      (λ _. bare-pick (reportIn i) (eqb k 2) _ _ (λ _. bare-built (reportIn i) (single 34 tpcRequestMeans (elementsIn (drop 3 body))) (λ u. tpcRequest t) (λ a. refl))
-      (λ _. bare-built (reportIn i) (single 35 tpcReportMeans (elementsIn (drop 3 body))) (tpcReport t) (λ a. refl))))
+  -- a body of one element has no place
+  pub one-element : {X : Type 0} (x : Outcome X) (make : X → Body) → ((a : X) → located i body (accepted (make a)) ≡ unplaced (Reading.Is (actionFrame (make a))))
+      → {reading : Reading} → frameTold reading ≡ bodyFrame (andThen x (λ a. accepted (make a)))
+      → unplaced reading ≡ located i body (andThen x (λ a. accepted (make a)))
+  one-element x make none {reading} e = by x reading e
+    where
+      by : (x : Outcome _) (reading : Reading) → frameTold reading ≡ bodyFrame (andThen x (λ a. accepted (make a)))
+          → unplaced reading ≡ located i body (andThen x (λ a. accepted (make a)))
+      by (refused r) (Reading.Refused q) h = let same : q ≡ r = cc in ap (λ (y : Refusal). unplaced (Reading.Refused y)) same
+      by (refused r) (Reading.Is f) h = absurd (never (sym h))
+      by (accepted a) (Reading.Refused q) h = absurd (never h)
+      by (accepted a) (Reading.Is f) h = let same : f ≡ actionFrame (make a) = cc in ap (λ (y : _). unplaced (Reading.Is y)) same ∙ sym (none a)
 
-  pub no-request : (reading : Reading) → frameTold reading ≡ bodyFrame (actionMeans body) → opensAs 0 (opensWith body) ≡ false
-      → refused (refusalOf reading) ≡ andThen (actionMeans body) (requestIn i)
-  no-request reading e h =
-      no-element (requestIn i) (actionMeans body) reading e
-      (subst (Bare (requestIn i)) (opened body (opensWith body) refl) (not-requests (opensWith body) h))
+  -- a body of measurement elements has those of its survey
+  module _ (token : ℕ) where
+    made : (k : Measurements.Kind) → List (Measurement k) → Body
+    made Measurements.Kind.Requests xs = requests token xs
+    made Measurements.Kind.Reports xs = reports token xs
 
-  pub no-report : (reading : Reading) → frameTold reading ≡ bodyFrame (actionMeans body) → opensAs 1 (opensWith body) ≡ false
-      → refused (refusalOf reading) ≡ andThen (actionMeans body) (reportIn i)
-  no-report reading e h =
-      no-element (reportIn i) (actionMeans body) reading e
-      (subst (Bare (reportIn i)) (opened body (opensWith body) refl) (not-reports (opensWith body) h))
+    of-kind : (k : Measurements.Kind) {o : Outcome (List (Measurement k))} → measurementsIn (sortOf k) (drop fixedFields body) ≡ o
+        → located i body (andThen o (λ xs. accepted (made k xs))) ≡ located i body (afterOpening body (with (sortOf k .action) token))
+    unfolding made
+    of-kind Measurements.Kind.Requests e = ap (λ (o : Outcome (List Request)). located i body (andThen o (λ xs. accepted (requests token xs)))) (sym e)
+    of-kind Measurements.Kind.Reports e = ap (λ (o : Outcome (List Report)). located i body (andThen o (λ xs. accepted (reports token xs)))) (sym e)
 
--- ---- from a body to its frame
+    pub measured-refused : (k : Measurements.Kind) {r : Refusal} → refused r ≡ measurementsIn (sortOf k) (drop fixedFields body)
+        → unplaced (Reading.Refused r) ≡ located i body (afterOpening body (with (sortOf k .action) token))
+    measured-refused k e = of-kind k (sym e)
 
-module _ {A : Type 0} (elementIn : ℕ → Body → Outcome A) (i : ℕ) (toAll : Bool) where
-  pub of-action : (o : Outcome Body) → andThen o (elementIn i) ≡ elementOf elementIn i (sent toAll (andThen o (λ a. accepted (action a))))
-  unfolding elementOf
+    found : (k : Measurements.Kind) (xs : List (Measurement k)) → placed k token (length xs) (placeIn i body) ≡ located i body (accepted (made k xs))
+    unfolding made
+    found Measurements.Kind.Requests xs = refl
+    found Measurements.Kind.Reports xs = refl
+
+    pub measured : (k : Measurements.Kind) (t : ℕ) (xs : List (Measurement k)) {v : Surveyed} → measurementsIn (sortOf k) (drop fixedFields body) ≡ accepted xs
+        → v ≡ surveyedAs (sortOf k) i t body (accepted xs)
+        → placed k token (v .count) (v .place) ≡ located i body (afterOpening body (with (sortOf k .action) token))
+    measured k t xs e l = ap (λ (v : Surveyed). placed k token (v .count) (v .place)) l ∙ found k xs ∙ of-kind k e
+
+  -- ---- what is read at a place
+
+  at-place : {A : Type 0} (s : Sort A) {o : Outcome A} (p : Place) → Reads s body o p → (PlaceWithin body p) × (meansAt (s .means) body p ≡ o)
+  at-place s Place.Absent r = (tt, sym r)
+  at-place s (Place.Contents start stop) r = ((r .0, r .1), r .2)
+
+  at-index : {A : Type 0} (s : Sort A) (xs : List A) → measurementsIn s (drop fixedFields body) ≡ accepted xs
+      → (PlaceWithin body (placeIn i body)) × (meansAt (s .means) body (placeIn i body) ≡ nth i xs)
+  at-index s xs e = at-place s (placeIn i body) (place-reads s body xs e i)
+
+  -- the places lie in the body, and the element there is the one at the index
+  pub record There (l : Located) (request : Outcome Request) (report : Outcome Report) : Type 0 where
+    pub request-within : PlaceWithin body (l .request)
+    pub report-within : PlaceWithin body (l .report)
+    pub request-is : readThere requestMeans body (l .reading) (l .request) ≡ request
+    pub report-is : readThere reportMeans body (l .reading) (l .report) ≡ report
+
+  there-by : (o : Outcome Body) → actionMeans body ≡ o → There (located i body o) (andThen o (requestIn i)) (andThen o (reportIn i))
+  there-by (refused r) e = record { request-within = tt; report-within = tt; request-is = refl; report-is = refl }
+  there-by (accepted (requests t rs)) e =
+      let h = parts body (requests t rs) e in
+      let p = at-index requestSort rs (ap (λ (x : List ℕ). measurementsIn requestSort (drop fixedFields x)) (h .front) ∙ h .holds .1) in
+      record { request-within = p .0; report-within = tt; request-is = p .1; report-is = refl }
+  there-by (accepted (reports t rs)) e =
+      let h = parts body (reports t rs) e in
+      let p = at-index reportSort rs (ap (λ (x : List ℕ). measurementsIn reportSort (drop fixedFields x)) (h .front) ∙ h .holds) in
+      record { request-within = tt; report-within = p .0; request-is = refl; report-is = p .1 }
+  there-by (accepted (tpcRequest t)) e = record { request-within = tt; report-within = tt; request-is = refl; report-is = refl }
+  there-by (accepted (tpcReport t r)) e = record { request-within = tt; report-within = tt; request-is = refl; report-is = refl }
+  there-by (accepted (switch s)) e = record { request-within = tt; report-within = tt; request-is = refl; report-is = refl }
+
+  pub in-body : There (located i body (actionMeans body)) (andThen (actionMeans body) (requestIn i)) (andThen (actionMeans body) (reportIn i))
+  in-body = there-by (actionMeans body) refl
+
+  -- ---- in a body of any subtype
+
+  pub of-action : (o : Outcome Body) → located i body o ≡ locatedIn i body (andThen o (λ a. accepted (action a)))
   of-action (refused r) = refl
   of-action (accepted b) = refl
 
-  pub of-beacon : (o : Outcome Told) → refused (noticeRefusal o) ≡ elementOf elementIn i (sent toAll (andThen o (λ t. accepted (beacon t))))
-  unfolding elementOf
-  of-beacon (refused r) = refl
-  of-beacon (accepted t) = refl
+  pub of-notice : (b : ℕ) (probe : Bool) → unplaced (frameLaid (sent false (kindOf b (noticeSubtype probe) body)) .reading) ≡ locatedIn i body (kindOf b (noticeSubtype probe) body)
+  of-notice b true = by (beaconMeans b body)
+    where
+      by : (o : Outcome Told) → unplaced (frameLaid (sent false (andThen o (λ t. accepted (probeResponse t)))) .reading) ≡ locatedIn i body (andThen o (λ t. accepted (probeResponse t)))
+      by (refused r) = refl
+      by (accepted t) = refl
+  of-notice b false = by (beaconMeans b body)
+    where
+      by : (o : Outcome Told) → unplaced (frameLaid (sent false (andThen o (λ t. accepted (beacon t)))) .reading) ≡ locatedIn i body (andThen o (λ t. accepted (beacon t)))
+      by (refused r) = refl
+      by (accepted t) = refl
 
-  pub of-probe : (o : Outcome Told) → refused (noticeRefusal o) ≡ elementOf elementIn i (sent toAll (andThen o (λ t. accepted (probeResponse t))))
-  unfolding elementOf
-  of-probe (refused r) = refl
-  of-probe (accepted t) = refl
+  module _ (b : ℕ) where
+    abbrev InKind : Outcome Kind → Type 0
+    InKind o = There (locatedIn i body o) (andThen o (ofKind requestIn i)) (andThen o (ofKind reportIn i))
 
-pub told-read : (o : Outcome Request) → requestTold (requestRead o) ≡ o
-told-read (refused r) = refl
-told-read (accepted q) = refl
+    of-body : (o : Outcome Body) → There (located i body o) (andThen o (requestIn i)) (andThen o (reportIn i)) → InKind (andThen o (λ a. accepted (action a)))
+    of-body (refused r) t = t
+    of-body (accepted x) t = t
+
+    pub in-kind : (t : Subtype) → InKind (kindOf b t body)
+    in-kind Subtype.Action = of-body (actionMeans body) in-body
+    in-kind Subtype.Beacon = by (beaconMeans b body)
+      where
+        by : (o : Outcome Told) → InKind (andThen o (λ t. accepted (beacon t)))
+        by (refused r) = record { request-within = tt; report-within = tt; request-is = refl; report-is = refl }
+        by (accepted t) = record { request-within = tt; report-within = tt; request-is = refl; report-is = refl }
+    in-kind Subtype.ProbeResponse = by (beaconMeans b body)
+      where
+        by : (o : Outcome Told) → InKind (andThen o (λ t. accepted (probeResponse t)))
+        by (refused r) = record { request-within = tt; report-within = tt; request-is = refl; report-is = refl }
+        by (accepted t) = record { request-within = tt; report-within = tt; request-is = refl; report-is = refl }
+
+-- ---- from a body to its frame
+
+module _ {A : Type 0} (elementIn : ℕ → Body → Outcome A) (i : ℕ) where
+  of-kinds : (toAll : Bool) (o : Outcome Kind) → andThen o (ofKind elementIn i) ≡ elementOf elementIn i (sent toAll o)
+  unfolding elementOf
+  of-kinds toAll (refused r) = refl
+  of-kinds toAll (accepted k) = refl
+
+  module _ (own ap' : List ℕ) (b : ℕ) (f : List ℕ) where
+    pub no-header : {r : Refusal} → refused r ≡ headerMeans own ap' f → refused r ≡ elementOf elementIn i (frameMeans own ap' b f)
+    unfolding elementOf
+    no-header e = ap (elementOf elementIn i) (framed own ap' b f _ e)
+
+    pub after-header : (h : Head) {body : List ℕ} → accepted h ≡ headerMeans own ap' f → body ≡ bodyOf f
+        → andThen (kindOf b (h .subtype) body) (ofKind elementIn i) ≡ elementOf elementIn i (frameMeans own ap' b f)
+    after-header h e k =
+        ap (λ (x : List ℕ). andThen (kindOf b (h .subtype) x) (ofKind elementIn i)) k
+        ∙ of-kinds (h .toAll) (kindOf b (h .subtype) (bodyOf f)) ∙ ap (elementOf elementIn i) (framed own ap' b f _ e)

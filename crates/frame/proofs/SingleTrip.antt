@@ -3,22 +3,17 @@ use mathlib.Core.Path.{_≡_, refl, sym, ap, subst, _∙_}
 use mathlib.Core.Bool.{Bool, true}
 use mathlib.Core.List.{List, [], _∷_, _++_, append-nil}
 use Prim.Native.Nat.{ℕ, suc}
-use borrow.Author.Tests.{eq-eqb, eqb-true, not-false}
-use lib.Dec.{eqb}
 use lib.ListN.{length}
-use Rattle.single_body.specs.Singles.{Sole, sole, alone, single}
-use Rattle.answer.specs.Checks.{Outcome, refused, accepted, checked, andThen}
-use Rattle.answer.proofs.Judged.{never, passed, kept, stands}
+use Rattle.single_body.specs.Singles.{single}
+use Rattle.answer.specs.Checks.{Outcome, accepted}
+use Rattle.answer.proofs.Judged.{never, followed}
 use Rattle.octets.specs.Elements.{element, RoundTrip}
-use Rattle.measurement_body.proofs.RunLaws.{front, none, split, empty}
+use Rattle.walk.proofs.Requiring.{whole}
+use Rattle.walk.proofs.Requiring as Requiring
+use Rattle.walk.proofs.RunLaws.{front, none, split, empty}
 use Rattle.octets.specs.Numbers.{Octets}
 use Rattle.walk.specs.Elements.{Elements, end, cutHeader, cutContents, more, elementsIn}
-
--- what follows an accepted value was accepted too
-pub followed : {A B : Type 0} (o : Outcome A) (next : A → Outcome B) (b : B) → andThen o next ≡ accepted b
-    → (a : A) × (o ≡ accepted a) × (next a ≡ accepted b)
-followed (refused r) next b e = absurd (never e)
-followed (accepted a) next b e = (a, refl, e)
+use Rattle.walk.specs.Required.{required, nothingLeft}
 
 module _ {A : Type 0} (id : ℕ) (means : List ℕ → Outcome A) where
   -- one element, of this ID, with these contents, and nothing after it
@@ -27,38 +22,28 @@ module _ {A : Type 0} (id : ℕ) (means : List ℕ → Outcome A) where
     only : es ≡ more id contents end
     says : means contents ≡ accepted a
 
-  last : (es : Elements) (x a : A) → alone es x ≡ accepted a → (es ≡ end) × (x ≡ a)
+  last : (es : Elements) (x a : A) → nothingLeft es x ≡ accepted a → (es ≡ end) × (x ≡ a)
   last end x a e = (refl, cc)
   last cutHeader x a e = absurd (never e)
   last (cutContents i) x a e = absurd (never e)
   last (more i c es) x a e = absurd (never e)
 
-  opened : (es : Elements) (s : Sole) → sole id es ≡ accepted s → es ≡ more id (s .contents) (s .rest)
-  unfolding sole
-  opened end s e = absurd (never e)
-  opened cutHeader s e = absurd (never e)
-  opened (cutContents i) s e = absurd (never (stands _ (passed _ _ _ e .1)))
-  opened (more i c es) s e =
-      let p = passed _ _ _ e in
-      let k : record { contents = c; rest = es } ≡ s = kept _ (p .1) in
-      ap (λ (n : ℕ). more n c es) (eqb-true i id (not-false (eqb i id) (p .0))) ∙ ap (λ (x : Sole). more id (x .contents) (x .rest)) k
-
   one : (es : Elements) (a : A) → single id means es ≡ accepted a → One es a
   unfolding single
   one es a e =
-      let p = followed (sole id es) _ a e in
+      let p = followed (required id es) _ a e in
       let s = p .0 in
-      let q = followed (means (s .contents)) (alone (s .rest)) a (p .2) in
+      let q = followed (means (s .contents)) (nothingLeft (s .rest)) a (p .2) in
       let r = last (s .rest) (q .0) a (q .2) in
       record {
         contents = s .contents;
-        only = opened es s (p .1) ∙ ap (more id (s .contents)) (r .0);
+        only = whole id es s (p .1) ∙ ap (more id (s .contents)) (r .0);
         says = q .1 ∙ ap accepted (r .1);
       }
 
   reads : (c : List ℕ) (a : A) → means c ≡ accepted a → single id means (more id c end) ≡ accepted a
-  unfolding single sole checked
-  reads c a e = simp (eq-eqb id id refl, e)
+  unfolding single
+  reads c a e = simp (Requiring.there id c end, e)
 
   module _ (contents : A → List ℕ) (may : A → Bool) (Fits : A → Type 0) (t : RoundTrip means contents may Fits (λ a. true) (λ c. true)) where
     -- the elements of what is written

@@ -6,7 +6,7 @@ use Prim.Native.Nat.{ℕ}
 use lib.IntN.{pos, negsuc}
 use lib.ListN.{replicate}
 use Rattle.action.specs.Openings.{opensWith}
-use Rattle.single_body.specs.Singles.{sole, single}
+use Rattle.single_body.specs.Singles.{single}
 use Rattle.answer.specs.Checks.{Outcome, refused, accepted, checked}
 use Rattle.answer.specs.declared.Refusal.{Refusal}
 use Rattle.beacon.specs.Beacons.{tells, elementMeans, takes, says, beaconMeans}
@@ -26,9 +26,9 @@ use Rattle.measurement_element.specs.declared.measurement_request.Matter as Req
 use Rattle.measurement_element.specs.declared.measurement_request.Request.{Request}
 use Rattle.element.specs.declared.quiet.Quiet.{Quiet}
 use Rattle.header.specs.Headers.{foreignHeader, foreignAddress, toAll, headerMeans, managementMeans, addressMeans}
-use Rattle.measurement_body.specs.Lists.{listed, recordsIn, nth}
-use Rattle.measurement_body.specs.Requests.{used}
+use Rattle.measurement_body.specs.Lists.{used, nextIn, listed, measurementsIn, nth}
 use Rattle.walk.specs.Elements.{elementsAfter, elementsIn}
+use Rattle.walk.specs.Required.{required}
 use Rattle.frame.specs.Actions.{requests, reports, tpcRequest, tpcReport, switch, actionMeans}
 use Rattle.frame.specs.Frames.{Kind, beacon, probeResponse, action, Sent, frameMeans, requestIn, reportIn, elementOf}
 
@@ -76,7 +76,7 @@ abbrev asks : ℕ → Request
 asks token = record { token = token; kind = 0; matter = Requests.Matter.Enable true false }
 
 pub a-measurement-request : heard (actionFrame (0 ∷ 0 ∷ 7 ∷ asked 1)) ≡ to-own (action (requests 7 (asks 1 ∷ [])))
-unfolding frameMeans headerMeans managementMeans addressMeans foreignHeader foreignAddress toAll checked actionMeans opensWith recordsIn listed elementsIn elementsAfter requestMeans used
+unfolding frameMeans headerMeans managementMeans addressMeans foreignHeader foreignAddress toAll checked actionMeans opensWith measurementsIn listed nextIn required elementsIn elementsAfter requestMeans used
 a-measurement-request = refl
 
 -- a report of "incapable"
@@ -87,17 +87,17 @@ abbrev says-unable : ℕ → Report
 says-unable token = record { token = token; kind = 1; matter = Reports.Matter.NotMeasured Reason.Incapable; densities = noDensities }
 
 pub a-measurement-report : heard (actionFrame (0 ∷ 1 ∷ 7 ∷ unable 1)) ≡ to-own (action (reports 7 (says-unable 1 ∷ [])))
-unfolding frameMeans headerMeans managementMeans addressMeans foreignHeader foreignAddress toAll checked actionMeans opensWith recordsIn listed elementsIn elementsAfter reportMeans
+unfolding frameMeans headerMeans managementMeans addressMeans foreignHeader foreignAddress toAll checked actionMeans opensWith measurementsIn listed nextIn required elementsIn elementsAfter reportMeans
 a-measurement-report = refl
 
 pub a-tpc-request : heard (actionFrame (0 ∷ 2 ∷ 7 ∷ 34 ∷ 0 ∷ [])) ≡ to-own (action (tpcRequest 7))
-unfolding frameMeans headerMeans managementMeans addressMeans foreignHeader foreignAddress toAll checked actionMeans opensWith single sole elementsIn elementsAfter tpcRequestMeans fixed
+unfolding frameMeans headerMeans managementMeans addressMeans foreignHeader foreignAddress toAll checked actionMeans opensWith single required elementsIn elementsAfter tpcRequestMeans fixed
 a-tpc-request = refl
 
 -- 20 dBm, and a margin of −1 dB
 pub a-tpc-report : heard (actionFrame (0 ∷ 3 ∷ 0 ∷ 35 ∷ 2 ∷ 20 ∷ 255 ∷ []))
     ≡ to-own (action (tpcReport 0 (record { power = pos 20; margin = negsuc 0 })))
-unfolding frameMeans headerMeans managementMeans addressMeans foreignHeader foreignAddress toAll checked actionMeans opensWith single sole elementsIn elementsAfter tpcReportMeans fixed
+unfolding frameMeans headerMeans managementMeans addressMeans foreignHeader foreignAddress toAll checked actionMeans opensWith single required elementsIn elementsAfter tpcReportMeans fixed
 a-tpc-report = refl
 
 -- a switch to channel 44, by its count
@@ -108,7 +108,7 @@ abbrev to-switch : ℕ → ChannelSwitch
 to-switch count = record { mode = 1; channel = 44; count = count }
 
 pub a-switch : (count : ℕ) → heard (switched count) ≡ to-own (action (switch (to-switch count)))
-unfolding frameMeans headerMeans managementMeans addressMeans foreignHeader foreignAddress toAll checked actionMeans opensWith single sole elementsIn elementsAfter switchMeans fixed
+unfolding frameMeans headerMeans managementMeans addressMeans foreignHeader foreignAddress toAll checked actionMeans opensWith single required elementsIn elementsAfter switchMeans fixed
 a-switch count = refl
 
 -- ---- told apart
@@ -124,12 +124,12 @@ count-counts m n e =
 
 -- one element, two, or three
 pub two-requests : heard (actionFrame ((0 ∷ 0 ∷ 7 ∷ []) ++ asked 5 ++ asked 1)) ≡ to-own (action (requests 7 (asks 5 ∷ asks 1 ∷ [])))
-unfolding frameMeans headerMeans managementMeans addressMeans foreignHeader foreignAddress toAll checked actionMeans opensWith recordsIn listed elementsIn elementsAfter requestMeans used
+unfolding frameMeans headerMeans managementMeans addressMeans foreignHeader foreignAddress toAll checked actionMeans opensWith measurementsIn listed nextIn required elementsIn elementsAfter requestMeans used
 two-requests = refl
 
 pub three-requests : heard (actionFrame ((0 ∷ 0 ∷ 7 ∷ []) ++ asked 5 ++ asked 1 ++ asked 3))
     ≡ to-own (action (requests 7 (asks 5 ∷ asks 1 ∷ asks 3 ∷ [])))
-unfolding frameMeans headerMeans managementMeans addressMeans foreignHeader foreignAddress toAll checked actionMeans opensWith recordsIn listed elementsIn elementsAfter requestMeans used
+unfolding frameMeans headerMeans managementMeans addressMeans foreignHeader foreignAddress toAll checked actionMeans opensWith measurementsIn listed nextIn required elementsIn elementsAfter requestMeans used
 three-requests = refl
 
 -- by index: the last, one past it, and one that is no report
@@ -151,7 +151,7 @@ no-report = simp two-requests
 
 -- a token used twice
 pub used-twice : heard (actionFrame ((0 ∷ 0 ∷ 7 ∷ []) ++ asked 5 ++ asked 5)) ≡ refused Refusal.Repeated
-unfolding frameMeans headerMeans managementMeans addressMeans foreignHeader foreignAddress toAll checked actionMeans opensWith recordsIn listed elementsIn elementsAfter requestMeans used
+unfolding frameMeans headerMeans managementMeans addressMeans foreignHeader foreignAddress toAll checked actionMeans opensWith measurementsIn listed nextIn required elementsIn elementsAfter requestMeans used
 used-twice = refl
 
 -- two Quiet elements of a beacon: both are kept, in their order
@@ -168,5 +168,5 @@ two-quiets = refl
 
 -- the same frame to all ones is told from one to the station
 pub to-all : heard (frame 208 (replicate 6 255) (0 ∷ 2 ∷ 7 ∷ 34 ∷ 0 ∷ [])) ≡ accepted (record { toAll = true; kind = action (tpcRequest 7) })
-unfolding frameMeans headerMeans managementMeans addressMeans foreignHeader foreignAddress toAll checked actionMeans opensWith single sole elementsIn elementsAfter tpcRequestMeans fixed
+unfolding frameMeans headerMeans managementMeans addressMeans foreignHeader foreignAddress toAll checked actionMeans opensWith single required elementsIn elementsAfter tpcRequestMeans fixed
 to-all = refl

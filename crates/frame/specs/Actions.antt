@@ -5,7 +5,7 @@ use mathlib.Core.List.{List}
 use Prim.Native.Nat.{ℕ}
 use lib.Dec.{eqb}
 use lib.ListN.{drop}
-use Rattle.action.specs.Openings.{Opens, switching, with, opensWith}
+use Rattle.action.specs.Openings.{fixedFields, switchFixedFields, Opens, switching, with, opensWith}
 use Rattle.single_body.specs.Singles.{single, tpcRequestBody, tpcReportBody, switchBody}
 use Rattle.answer.specs.Checks.{Outcome, accepted, pick, andThen}
 use Rattle.element.specs.ChannelSwitch.{switchMeans, switchMay}
@@ -18,7 +18,7 @@ use Rattle.measurement_element.specs.declared.measurement_report.Report.{Report
 use Rattle.measurement_element.specs.declared.measurement_request.Request.{Request}
 use Rattle.element.specs.declared.tpc_report.TpcReport.{TpcReport}
 use Rattle.measurement_body.specs.Bodies.{bodyOctets}
-use Rattle.measurement_body.specs.Lists.{AllFit, recordsIn, mayList, allInterpreted, allClear}
+use Rattle.measurement_body.specs.Lists.{AllFit, measurementsIn, mayList, allInterpreted, allClear}
 use Rattle.measurement_body.specs.Reports.{reportSort}
 use Rattle.measurement_body.specs.Requests.{requestSort}
 use Rattle.octets.specs.Numbers.{octet}
@@ -34,12 +34,12 @@ pub data Body : Type 0 where
 
 -- what follows the fixed fields
 abbrev pub afterOpening : List ℕ → Opens → Outcome Body
-afterOpening body switching = andThen (single 37 switchMeans (elementsIn (drop 2 body))) (λ s. accepted (switch s))
+afterOpening body switching = andThen (single 37 switchMeans (elementsIn (drop switchFixedFields body))) (λ s. accepted (switch s))
 afterOpening body (with action token) =
-    pick (eqb action 0) (andThen (recordsIn requestSort (drop 3 body)) (λ rs. accepted (requests token rs)))
-    (pick (eqb action 1) (andThen (recordsIn reportSort (drop 3 body)) (λ rs. accepted (reports token rs)))
-    (pick (eqb action 2) (andThen (single 34 tpcRequestMeans (elementsIn (drop 3 body))) (λ u. accepted (tpcRequest token)))
-    (andThen (single 35 tpcReportMeans (elementsIn (drop 3 body))) (λ t. accepted (tpcReport token t)))))
+    pick (eqb action 0) (andThen (measurementsIn requestSort (drop fixedFields body)) (λ rs. accepted (requests token rs)))
+    (pick (eqb action 1) (andThen (measurementsIn reportSort (drop fixedFields body)) (λ rs. accepted (reports token rs)))
+    (pick (eqb action 2) (andThen (single 34 tpcRequestMeans (elementsIn (drop fixedFields body))) (λ u. accepted (tpcRequest token)))
+    (andThen (single 35 tpcReportMeans (elementsIn (drop fixedFields body))) (λ t. accepted (tpcReport token t)))))
 
 unfoldable pub actionMeans : List ℕ → Outcome Body
 actionMeans body = andThen (opensWith body) (afterOpening body)
@@ -47,8 +47,8 @@ actionMeans body = andThen (opensWith body) (afterOpening body)
 -- ---- written
 
 unfoldable pub actionOctets : Body → List ℕ
-actionOctets (requests token rs) = bodyOctets requestSort 0 token rs
-actionOctets (reports token rs) = bodyOctets reportSort 1 token rs
+actionOctets (requests token rs) = bodyOctets requestSort token rs
+actionOctets (reports token rs) = bodyOctets reportSort token rs
 actionOctets (tpcRequest token) = tpcRequestBody token
 actionOctets (tpcReport token t) = tpcReportBody token t
 actionOctets (switch s) = switchBody s
@@ -71,8 +71,8 @@ actionInterpreted (switch s) = true
 -- no reserved bit is set: only measurement elements have any
 unfoldable pub actionClear : List ℕ → Bool
 actionClear body =
-    pick (eqb (octet 1 body) 0) (allClear requestSort (elementsIn (drop 3 body)))
-    (pick (eqb (octet 1 body) 1) (allClear reportSort (elementsIn (drop 3 body))) true)
+    pick (eqb (octet 1 body) 0) (allClear requestSort (elementsIn (drop fixedFields body)))
+    (pick (eqb (octet 1 body) 1) (allClear reportSort (elementsIn (drop fixedFields body))) true)
 
 -- ---- the fields fit their types
 

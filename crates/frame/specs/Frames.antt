@@ -9,10 +9,13 @@ use Rattle.answer.specs.declared.Refusal.{Refusal}
 use Rattle.beacon.specs.Beacons.{Told, beaconMeans}
 use Rattle.measurement_element.specs.declared.measurement_report.Report.{Report}
 use Rattle.measurement_element.specs.declared.measurement_request.Request.{Request}
-use Rattle.header.specs.Headers.{headerMeans}
+use Rattle.header.specs.Headers.{headerLength, headerMeans}
 use Rattle.header.specs.declared.management.Subtype.{Subtype}
 use Rattle.measurement_body.specs.Lists.{nth}
 use Rattle.frame.specs.Actions.{Body, requests, reports, tpcRequest, tpcReport, switch, actionMeans}
+
+abbrev pub bodyOf : List ℕ → List ℕ
+bodyOf f = drop headerLength f
 
 -- Beacon, Probe Response, and the five action bodies
 pub data Kind : Type 0 where
@@ -36,7 +39,7 @@ sent toAll o = andThen o (λ k. accepted (record { toAll = toAll; kind = k }))
 unfoldable pub frameMeans : List ℕ → List ℕ → ℕ → List ℕ → Outcome Sent
 frameMeans own ap b f =
     andThen (headerMeans own ap f)
-    (λ h. sent (h .toAll) (kindOf b (h .subtype) (drop 24 f)))
+    (λ h. sent (h .toAll) (kindOf b (h .subtype) (bodyOf f)))
 
 -- ---- a measurement element by its index from 0; past the last, or on another kind: 16
 

@@ -2,11 +2,8 @@
 use mathlib.Core.Bool.{Bool, true, false}
 use mathlib.Core.List.{List, []}
 use Prim.Native.Nat.{ℕ}
-use lib.Dec.{eqb}
 use lib.ListN.{length}
-use Rattle.action.specs.Openings.{Opens, switching, with}
 use Rattle.answer.specs.Checks.{Outcome, refused, accepted, andThen}
-use Rattle.answer.specs.declared.Refusal.{Refusal}
 use Rattle.beacon.specs.Beacons.{Told}
 use Rattle.beacon.specs.Laid.{slots}
 use Rattle.element.specs.declared.quiet.Quiet.{Quiet}
@@ -57,16 +54,3 @@ frameLaid (accepted s) = received (Reading.Is (frameOf (s .kind))) (s .toAll) (q
 abbrev pub noticeSubtype : Bool → Subtype
 noticeSubtype true = Subtype.ProbeResponse
 noticeSubtype false = Subtype.Beacon
-
-abbrev pub opensAs : ℕ → Outcome Opens → Bool
-opensAs wanted (refused r) = false
-opensAs wanted (accepted switching) = false
-opensAs wanted (accepted (with kind token)) = eqb kind wanted
-
-abbrev pub refusalOf : Reading → Refusal
-refusalOf (Reading.Refused r) = r
-refusalOf (Reading.Is f) = Refusal.Impossible
-
-abbrev pub noticeRefusal : Outcome Told → Refusal
-noticeRefusal (refused r) = r
-noticeRefusal (accepted t) = Refusal.Impossible

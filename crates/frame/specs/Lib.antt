@@ -1,4 +1,5 @@
 pub mod Actions
 pub mod Allowed
+pub mod CodeTerms
 pub mod Frames
 pub mod Laid

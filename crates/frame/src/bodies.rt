@@ -1,10 +1,10 @@
 // Action bodies: how they begin, then the elements of that action.
 ghost use mathlib.Core.Path.{_≡_};
-ghost use Prim.Native.Nat.{_≤_};
-ghost use lib.ListN.{length};
 ghost use Rattle.action.specs.Openings.{switching, with};
 ghost use Rattle.frame.specs.Actions.{afterOpening, actionMeans};
+ghost use Rattle.frame.specs.CodeTerms.Located.{unplaced, placed, located};
 ghost use Rattle.frame.specs.Laid.{frameTold, bodyFrame};
+ghost use Rattle.measurement_body.specs.Kinds.{sortOf};
 use crate::Frame;
 use crate::Reading;
 use action::Opening;
@@ -12,36 +12,56 @@ use answer::Answer;
 use element::channel_switch;
 use element::tpc_report;
 use element::tpc_request;
+use measurement_body::Kind;
+use measurement_body::Place;
 
-// Action 0: one or more elements 38.
-fn read_requests(body: &[u8], token: u8) -> Reading
-    requires { ⌜ 3 ≤ length (now body) ⌝ }
-    ensures { λ r. ⌜ frameTold r ≡ bodyFrame (afterOpening (now (body .entry)) (with 0 token)) ⌝ }
+// A body that was read, and where the contents of its request or its report at an index lie: absent past the last, and in a body of
+// another kind.
+pub struct Located {
+    pub reading: Reading,
+    pub request: Place,
+    pub report: Place,
+}
+
+// A reading with no element to be asked for.
+pub fn unplaced(reading: Reading) -> Located
+    ensures { λ r. ⌜ r ≡ unplaced reading ⌝ }
 {
-    let found = measurement_body::requests::survey(&body[3..], 0, 0);
-    let answer = found.answer;
-    match answer {
-        Answer::Refused(refusal) => Reading::Refused(refusal),
-        Answer::Accepted => Reading::Is(Frame::MeasurementRequest {
-            token,
-            count: found.count,
-        }),
+    Located {
+        reading,
+        request: Place::Absent,
+        report: Place::Absent,
     }
 }
 
-// Action 1: one or more elements 39.
-fn read_reports(body: &[u8], token: u8) -> Reading
-    requires { ⌜ 3 ≤ length (now body) ⌝ }
-    ensures { λ r. ⌜ frameTold r ≡ bodyFrame (afterOpening (now (body .entry)) (with 1 token)) ⌝ }
+// A measurement frame, and the place that was found in it.
+fn placed(kind: Kind, token: u8, count: usize, place: Place) -> Located
+    ensures { λ r. ⌜ r ≡ placed kind token count place ⌝ }
 {
-    let found = measurement_body::reports::survey(&body[3..], 0);
+    match kind {
+        Kind::Requests => Located {
+            reading: Reading::Is(Frame::MeasurementRequest { token, count }),
+            request: place,
+            report: Place::Absent,
+        },
+        Kind::Reports => Located {
+            reading: Reading::Is(Frame::MeasurementReport { token, count }),
+            request: Place::Absent,
+            report: place,
+        },
+    }
+}
+
+// Actions 0 and 1: one or more elements 38 or 39.
+fn read_measurements(body: &[u8], kind: Kind, token: u8, index: usize) -> Located
+    ensures { λ r. ⌜ r ≡ located index (now (body .entry)) (afterOpening (now (body .entry)) (with (sortOf kind .action) token)) ⌝ }
+{
+    let found = measurement_body::survey(body, kind, index, 0);
     let answer = found.answer;
+    let place = found.place;
     match answer {
-        Answer::Refused(refusal) => Reading::Refused(refusal),
-        Answer::Accepted => Reading::Is(Frame::MeasurementReport {
-            token,
-            count: found.count,
-        }),
+        Answer::Refused(refusal) => unplaced(Reading::Refused(refusal)),
+        Answer::Accepted => placed(kind, token, found.count, place),
     }
 }
 
@@ -75,18 +95,26 @@ fn read_switch(body: &[u8]) -> Reading
     }
 }
 
+// The body of an action frame, and the place of its measurement element at an index, in one walk.
+pub fn read_at(body: &[u8], index: usize) -> Located
+    ensures { λ r. ⌜ r ≡ located index (now (body .entry)) (actionMeans (now (body .entry))) ⌝ }
+{
+    match action::open(body) {
+        Opening::Refused(refusal) => unplaced(Reading::Refused(refusal)),
+        Opening::Switch => unplaced(read_switch(body)),
+        Opening::Token { action, token } => match action {
+            0 => read_measurements(body, Kind::Requests, token, index),
+            1 => read_measurements(body, Kind::Reports, token, index),
+            2 => unplaced(read_tpc_request(body, token)),
+            _ => unplaced(read_tpc_report(body, token)),
+        },
+    }
+}
+
 // The body of an action frame, as the frame that it makes.
 pub fn read_body(body: &[u8]) -> Reading
     ensures { λ r. ⌜ frameTold r ≡ bodyFrame (actionMeans (now (body .entry))) ⌝ }
 {
-    match action::open(body) {
-        Opening::Refused(refusal) => Reading::Refused(refusal),
-        Opening::Switch => read_switch(body),
-        Opening::Token { action, token } => match action {
-            0 => read_requests(body, token),
-            1 => read_reports(body, token),
-            2 => read_tpc_request(body, token),
-            _ => read_tpc_report(body, token),
-        },
-    }
+    let found = read_at(body, 0);
+    found.reading
 }

@@ -1,73 +1,92 @@
 // A measurement element of a frame by its index from 0 (document 01: one past the last, or any on another kind, is 16).
 ghost use mathlib.Core.Path.{_≡_};
-ghost use Rattle.action.specs.Openings.{opensWith};
 ghost use Rattle.answer.specs.Checks.{andThen};
-ghost use Rattle.measurement_element.specs.MeasurementReport.{reportLaid};
-ghost use Rattle.measurement_element.specs.MeasurementRequest.{requestTold};
 ghost use Rattle.frame.specs.Actions.{actionMeans};
-ghost use Rattle.frame.specs.Frames.{frameMeans, requestIn, reportIn, elementOf};
-ghost use Rattle.frame.specs.Laid.{opensAs, refusalOf, noticeRefusal};
-ghost use Rattle.beacon.specs.Beacons.{beaconMeans};
+ghost use Rattle.frame.specs.CodeTerms.Located.{PlaceWithin, readThere, locatedIn};
+ghost use Rattle.frame.specs.Frames.{kindOf, frameMeans, requestIn, reportIn, elementOf};
+ghost use Rattle.frame.specs.Laid.{frameTold, bodyFrame};
+ghost use Rattle.measurement_element.specs.MeasurementReport.{reportMeans, reportLaid};
+ghost use Rattle.measurement_element.specs.MeasurementRequest.{requestTold, requestMeans};
 use crate::Reading;
 use crate::bodies;
-use action::Opening;
-use answer::Answer;
+use crate::bodies::Located;
 use answer::Refusal;
 use header::Header;
 use header::Subtype;
+use measurement_body::Place;
 use measurement_element::measurement_report;
 use measurement_element::measurement_request;
 
-// Whether a body is one of this action, as far as its fixed fields go.
-fn opens_as(body: &[u8], wanted: u8) -> bool
-    ensures { λ r. ⌜ r ≡ opensAs wanted (opensWith (now (body .entry))) ⌝ }
+// An action body, and its request at an index.
+pub struct Asked {
+    pub reading: Reading,
+    pub request: measurement_request::Reading,
+}
+
+// The request at a place of a body that was read so: a refused body keeps its refusal, and no place is 16.
+fn request_there(body: &[u8], reading: Reading, place: Place) -> measurement_request::Reading
+    requires { ⌜ PlaceWithin (now body) place ⌝ }
+    ensures { λ r. ⌜ requestTold r ≡ readThere requestMeans (now (body .entry)) reading place ⌝ }
 {
-    match action::open(body) {
-        Opening::Refused(_) => false,
-        Opening::Switch => false,
-        Opening::Token { action, token: _ } => action == wanted,
+    match reading {
+        Reading::Refused(refusal) => measurement_request::Reading::Refused(refusal),
+        Reading::Is(_) => match place {
+            Place::Absent => measurement_request::Reading::Refused(Refusal::Impossible),
+            Place::Contents { start, end } => measurement_request::read(&body[start..end]),
+        },
     }
 }
 
-// The refusal where a frame has no such elements: its own, or 16.
-fn refusal_of(reading: Reading) -> Refusal
-    ensures { λ r. ⌜ r ≡ refusalOf reading ⌝ }
+// The same of a report.
+fn report_there(body: &[u8], reading: Reading, place: Place) -> measurement_report::Reading
+    requires { ⌜ PlaceWithin (now body) place ⌝ }
+    ensures { λ r. ⌜ r ≡ reportLaid (readThere reportMeans (now (body .entry)) reading place) ⌝ }
 {
     match reading {
-        Reading::Refused(refusal) => refusal,
-        Reading::Is(_) => Refusal::Impossible,
+        Reading::Refused(refusal) => measurement_report::refused(refusal),
+        Reading::Is(_) => match place {
+            Place::Absent => measurement_report::refused(Refusal::Impossible),
+            Place::Contents { start, end } => measurement_report::read(&body[start..end]),
+        },
     }
+}
+
+// An action body and its request at an index, in one walk.
+pub fn read_request(body: &[u8], index: usize) -> Asked
+    ensures { λ r. ⌜ frameTold (r .reading) ≡ bodyFrame (actionMeans (now (body .entry))) ⌝ }
+    ensures { λ r. ⌜ requestTold (r .request) ≡ andThen (actionMeans (now (body .entry))) (requestIn index) ⌝ }
+{
+    let found = bodies::read_at(body, index);
+    let reading = found.reading;
+    let place = found.request;
+    let request = request_there(body, reading, place);
+    Asked { reading, request }
 }
 
 // The request at an index of an action body.
 pub fn request_in(body: &[u8], index: usize) -> measurement_request::Reading
     ensures { λ r. ⌜ requestTold r ≡ andThen (actionMeans (now (body .entry))) (requestIn index) ⌝ }
 {
-    if !opens_as(body, measurement_body::requests::ACTION) {
-        let reading = bodies::read_body(body);
-        return measurement_request::Reading::Refused(refusal_of(reading));
-    }
-    let found = measurement_body::requests::survey(&body[3..], index, 0);
-    let answer = found.answer;
-    match answer {
-        Answer::Refused(refusal) => measurement_request::Reading::Refused(refusal),
-        Answer::Accepted => found.held,
-    }
+    let asked = read_request(body, index);
+    asked.request
 }
 
-// The report at an index of an action body.
-fn report_in(body: &[u8], index: usize) -> measurement_report::Reading
-    ensures { λ r. ⌜ r ≡ reportLaid (andThen (actionMeans (now (body .entry))) (reportIn index)) ⌝ }
+// A body of any subtype, and where its element at an index lies: beacons and probe responses have none.
+fn locate(body: &[u8], subtype: Subtype, interval: u16, index: usize) -> Located
+    ensures { λ r. ⌜ r ≡ locatedIn index (now (body .entry)) (kindOf interval subtype (now (body .entry))) ⌝ }
 {
-    if !opens_as(body, measurement_body::reports::ACTION) {
-        let reading = bodies::read_body(body);
-        return measurement_report::refused(refusal_of(reading));
-    }
-    let found = measurement_body::reports::survey(&body[3..], index);
-    let answer = found.answer;
-    match answer {
-        Answer::Refused(refusal) => measurement_report::refused(refusal),
-        Answer::Accepted => found.held,
+    match subtype {
+        Subtype::Action => bodies::read_at(body, index),
+        Subtype::Beacon => {
+            let heard = crate::read_notice(body, interval, false, false);
+            let reading = heard.reading;
+            bodies::unplaced(reading)
+        }
+        Subtype::ProbeResponse => {
+            let heard = crate::read_notice(body, interval, true, false);
+            let reading = heard.reading;
+            bodies::unplaced(reading)
+        }
     }
 }
 
@@ -84,18 +103,11 @@ pub fn request_at(
     match header::read(frame, own, ap) {
         Header::Refused(refusal) => measurement_request::Reading::Refused(refusal),
         Header::Is { subtype, to_all: _ } => {
-            let body = &frame[24..];
-            match subtype {
-                Subtype::Action => request_in(body, index),
-                Subtype::Beacon => measurement_request::Reading::Refused(notice_refusal(
-                    body,
-                    interval,
-                )),
-                Subtype::ProbeResponse => measurement_request::Reading::Refused(notice_refusal(
-                    body,
-                    interval,
-                )),
-            }
+            let body = &frame[header::LENGTH..];
+            let found = locate(body, subtype, interval, index);
+            let reading = found.reading;
+            let place = found.request;
+            request_there(body, reading, place)
         }
     }
 }
@@ -113,27 +125,11 @@ pub fn report_at(
     match header::read(frame, own, ap) {
         Header::Refused(refusal) => measurement_report::refused(refusal),
         Header::Is { subtype, to_all: _ } => {
-            let body = &frame[24..];
-            match subtype {
-                Subtype::Action => report_in(body, index),
-                Subtype::Beacon => measurement_report::refused(notice_refusal(body, interval)),
-                Subtype::ProbeResponse => measurement_report::refused(notice_refusal(
-                    body,
-                    interval,
-                )),
-            }
+            let body = &frame[header::LENGTH..];
+            let found = locate(body, subtype, interval, index);
+            let reading = found.reading;
+            let place = found.report;
+            report_there(body, reading, place)
         }
-    }
-}
-
-// The refusal where a beacon or a probe response is asked for an element: its own, or 16.
-fn notice_refusal(body: &[u8], interval: u16) -> Refusal
-    ensures { λ r. ⌜ r ≡ noticeRefusal (beaconMeans interval (now (body .entry))) ⌝ }
-{
-    let heard = beacon::read(body, interval);
-    let answer = heard.answer;
-    match answer {
-        Answer::Refused(refusal) => refusal,
-        Answer::Accepted => Refusal::Impossible,
     }
 }

@@ -3,6 +3,8 @@ mod bodies;
 mod index;
 
 pub use bodies::read_body;
+pub use index::Asked;
+pub use index::read_request;
 pub use index::report_at;
 pub use index::request_at;
 pub use index::request_in;
@@ -107,7 +109,7 @@ pub fn read(frame: &[u8], own: [u8; 6], ap: [u8; 6], interval: u16) -> Received
             subtype,
             to_all: broadcast,
         } => {
-            let body = &frame[24..];
+            let body = &frame[header::LENGTH..];
             match subtype {
                 Subtype::Beacon => read_notice(body, interval, false, broadcast),
                 Subtype::ProbeResponse => read_notice(body, interval, true, broadcast),

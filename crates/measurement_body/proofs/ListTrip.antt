@@ -5,18 +5,19 @@ use mathlib.Core.Bool.{true, false, not, _&&_}
 use mathlib.Core.List.{List, [], _∷_, _++_, append-nil}
 use Prim.Native.Nat.{ℕ, suc, _<_}
 use native.Mathlib.Omega.{arith}
-use borrow.Author.Tests.{lt-ltb, ltb-true, eqb-true, eqb-false, ne-eqb, eq-eqb, not-true, not-false}
+use borrow.Author.Tests.{lt-ltb, ltb-true, eqb-false, ne-eqb, not-true}
 use lib.Dec.{ltb, eqb}
 use lib.ListN.{length, length-append}
 use lib.Seq.{append-snoc}
-use Rattle.answer.specs.Checks.{Outcome, refused, accepted, checked, andThen}
+use Rattle.answer.specs.Checks.{accepted}
 use Rattle.answer.proofs.Booleans.{clash, both}
-use Rattle.answer.proofs.Judged.{passed, kept}
 use Rattle.octets.specs.Elements.{element, RoundTrip}
 use Rattle.octets.specs.Numbers.{Octets}
 use Rattle.walk.specs.Elements.{Elements, end, cutHeader, cutContents, more, elementsIn}
-use Rattle.measurement_body.specs.Lists.{AllFit, Sort, listed, recordsIn, allClear, allInterpreted, allOctets, mayAll, mayList}
-use Rattle.measurement_body.proofs.RunLaws.{front, none, split, empty, octets-front, octets-after}
+use Rattle.measurement_body.specs.Lists.{AllFit, Sort, repeats, listed, measurementsIn, allClear, allInterpreted, allOctets, mayAll, mayList}
+use Rattle.walk.proofs.Requiring as Requiring
+use Rattle.measurement_body.proofs.Listing.{onward, lists, ended, not-cut-header, not-cut-contents}
+use Rattle.walk.proofs.RunLaws.{front, none, split, empty, octets-front, octets-after}
 
 -- what is asked of one element: demand 2, where its octets lie, and that what may be written is interpreted and clear
 pub record Trip {A : Type 0} (s : Sort A) (Fits : A → Type 0) : Type 0 where
@@ -29,14 +30,14 @@ pub record Trip {A : Type 0} (s : Sort A) (Fits : A → Type 0) : Type 0 where
 module _ {A : Type 0} (s : Sort A) (Fits : A → Type 0) (t : Trip s Fits) where
   -- what a list that may be written says of its first record
   pub first : (before : List A) (a : A) (xs : List A) → mayAll s before (a ∷ xs) ≡ true
-      → (s .may a ≡ true) × (s .repeats a before ≡ false) × (mayAll s (before ++ (a ∷ [])) xs ≡ true)
+      → (s .may a ≡ true) × (repeats s a before ≡ false) × (mayAll s (before ++ (a ∷ [])) xs ≡ true)
   unfolding mayAll
   first before a xs m =
-      let p = both (s .may a) (not (s .repeats a before) && mayAll s (before ++ (a ∷ [])) xs) m in
-      let q = both (not (s .repeats a before)) (mayAll s (before ++ (a ∷ [])) xs) (p .1) in
-      (p .0, not-true (s .repeats a before) (q .0), q .1)
+      let p = both (s .may a) (not (repeats s a before) && mayAll s (before ++ (a ∷ [])) xs) m in
+      let q = both (not (repeats s a before)) (mayAll s (before ++ (a ∷ [])) xs) (p .1) in
+      (p .0, not-true (repeats s a before) (q .0), q .1)
 
-  pub may-first : (before : List A) (a : A) (xs : List A) → s .may a ≡ true → s .repeats a before ≡ false → mayAll s (before ++ (a ∷ [])) xs ≡ true
+  pub may-first : (before : List A) (a : A) (xs : List A) → s .may a ≡ true → repeats s a before ≡ false → mayAll s (before ++ (a ∷ [])) xs ≡ true
       → mayAll s before (a ∷ xs) ≡ true
   unfolding mayAll
   may-first before a xs m r h = simp (m, r) h
@@ -49,14 +50,13 @@ module _ {A : Type 0} (s : Sort A) (Fits : A → Type 0) (t : Trip s Fits) where
 
   -- ---- there
 
-  read-on : (a : A) (c : List ℕ) (es : Elements) (before : List A) → s .means c ≡ accepted a → s .repeats a before ≡ false
+  read-on : (a : A) (c : List ℕ) (es : Elements) (before : List A) → s .means c ≡ accepted a → repeats s a before ≡ false
       → listed s (more (s .id) c es) before ≡ listed s es (before ++ (a ∷ []))
-  unfolding listed checked
-  read-on a c es before m r = simp (eq-eqb (s .id) (s .id) refl, m, r)
+  read-on a c es before m r = onward s (more (s .id) c es) (record { contents = c; rest = es }) (Requiring.there (s .id) c es) before m r
 
   there : (xs before : List A) → AllFit Fits xs → mayAll s before xs ≡ true → 0 < length (before ++ xs)
       → listed s (elementsIn (allOctets s xs)) before ≡ accepted (before ++ xs)
-  unfolding allOctets listed checked
+  unfolding allOctets listed
   there [] before f m h =
       let some : eqb (length before) 0 ≡ false = ne-eqb (length before) 0 (λ z. omega (arith, length-append before [])) in
       simp (none, some) (ap accepted (sym (append-nil before)))
@@ -67,8 +67,8 @@ module _ {A : Type 0} (s : Sort A) (Fits : A → Type 0) (t : Trip s Fits) where
       ∙ there xs (before ++ (a ∷ [])) (f .1) (p .2) (subst (λ (l : List A). 0 < length l) (sym (append-snoc before a xs)) h)
       ∙ ap accepted (append-snoc before a xs)
 
-  pub list-there : (xs : List A) → AllFit Fits xs → mayList s xs ≡ true → recordsIn s (allOctets s xs) ≡ accepted xs
-  unfolding mayList recordsIn
+  pub list-there : (xs : List A) → AllFit Fits xs → mayList s xs ≡ true → measurementsIn s (allOctets s xs) ≡ accepted xs
+  unfolding mayList measurementsIn
   list-there xs f m =
       let p = both (ltb 0 (length xs)) (mayAll s [] xs) m in
       there xs [] f (p .1) (ltb-true 0 (length xs) (p .0))
@@ -90,34 +90,6 @@ module _ {A : Type 0} (s : Sort A) (Fits : A → Type 0) (t : Trip s Fits) where
 
   -- ---- back
 
-  -- what follows an accepted value was accepted too
-  after : {B C : Type 0} (o : Outcome B) (next : B → Outcome C) (c : C) → andThen o next ≡ accepted c
-      → (b : B) × (o ≡ accepted b) × (next b ≡ accepted c)
-  after (refused r) next c e = absurd (let z : _≡_ {A = ℕ} 0 1 = cc in omega arith)
-  after (accepted b) next c e = (b, refl, e)
-
-  -- what an accepted list says of the element in front
-  record Heads (id : ℕ) (x : List ℕ) (es : Elements) (before l : List A) : Type 0 where
-    own : id ≡ s .id
-    one : A
-    says : s .means x ≡ accepted one
-    new : s .repeats one before ≡ false
-    on : listed s es (before ++ (one ∷ [])) ≡ accepted l
-
-  heads : (id : ℕ) (x : List ℕ) (es : Elements) (before l : List A) → listed s (more id x es) before ≡ accepted l → Heads id x es before l
-  unfolding listed
-  heads id x es before l h =
-      let p = after _ _ _ h in
-      let q = after (s .means x) _ _ (p .2) in
-      let r = after _ _ _ (q .2) in
-      record {
-        own = eqb-true id (s .id) (not-false (eqb id (s .id)) (passed _ _ _ (p .1) .0));
-        one = q .0;
-        says = q .1;
-        new = passed _ _ _ (r .1) .0;
-        on = r .2;
-      }
-
   -- the records of a run after those before it, which make up the list
   record Rest (run : List ℕ) (before l : List A) : Type 0 where
     tail : List A
@@ -134,10 +106,10 @@ module _ {A : Type 0} (s : Sort A) (Fits : A → Type 0) (t : Trip s Fits) where
 
   back : (es : Elements) (run : List ℕ) (before l : List A) → elementsIn run ≡ es → Octets run → allInterpreted s l ≡ true → allClear s es ≡ true
       → listed s es before ≡ accepted l → Rest run before l
-  unfolding listed allClear allOctets mayAll
+  unfolding allClear allOctets mayAll
   back end run before l e o i c h =
-      let p = passed _ _ _ h in
-      let k : before ≡ l = kept _ (p .1) in
+      let p = ended s before l h in
+      let k = p .1 in
       record {
         tail = [];
         whole = sym (append-nil before ∙ k);
@@ -145,10 +117,10 @@ module _ {A : Type 0} (s : Sort A) (Fits : A → Type 0) (t : Trip s Fits) where
         may = refl;
         some = lt-ltb 0 (length l) (omega (arith, ap length k, eqb-false (length before) 0 (p .0)));
       }
-  back cutHeader run before l e o i c h = absurd (let z : _≡_ {A = ℕ} 0 1 = cc in omega arith)
-  back (cutContents id) run before l e o i c h = clash (passed _ _ _ (passed _ _ _ h .1) .0)
+  back cutHeader run before l e o i c h = absurd (not-cut-header s before l h)
+  back (cutContents id) run before l e o i c h = absurd (not-cut-contents s id before l h)
   back (more id x es) run before l e o i c h =
-      let g = heads id x es before l h in
+      let g = lists s id x es before l h in
       let a = g .one in
       let y = split run id x es e in
       let clear = both (s .clear x) (allClear s es) c in
@@ -168,10 +140,10 @@ module _ {A : Type 0} (s : Sort A) (Fits : A → Type 0) (t : Trip s Fits) where
         some = z .some;
       }
 
-  module _ (run : List ℕ) (xs : List A) (o : Octets run) (h : recordsIn s run ≡ accepted xs) (i : allInterpreted s xs ≡ true)
+  module _ (run : List ℕ) (xs : List A) (o : Octets run) (h : measurementsIn s run ≡ accepted xs) (i : allInterpreted s xs ≡ true)
       (c : allClear s (elementsIn run) ≡ true) where
     rest : Rest run [] xs
-    unfolding recordsIn
+    unfolding measurementsIn
     rest = back (elementsIn run) run [] xs refl o i c h
 
     pub list-back : (mayList s xs ≡ true) × (allOctets s xs ≡ run)
@@ -187,13 +159,12 @@ module _ {A : Type 0} (s : Sort A) (Fits : A → Type 0) (t : Trip s Fits) where
     fit : Octets run → AllFit Fits tail
 
   ends : (es : Elements) (run : List ℕ) (before l : List A) → elementsIn run ≡ es → listed s es before ≡ accepted l → Ends run before l
-  unfolding listed
   ends end run before l e h =
-      record { tail = []; whole = sym (append-nil before ∙ kept _ (passed _ _ _ h .1)); fit = λ o. tt }
-  ends cutHeader run before l e h = absurd (let z : _≡_ {A = ℕ} 0 1 = cc in omega arith)
-  ends (cutContents id) run before l e h = clash (passed _ _ _ (passed _ _ _ h .1) .0)
+      record { tail = []; whole = sym (append-nil before ∙ ended s before l h .1); fit = λ o. tt }
+  ends cutHeader run before l e h = absurd (not-cut-header s before l h)
+  ends (cutContents id) run before l e h = absurd (not-cut-contents s id before l h)
   ends (more id x es) run before l e h =
-      let g = heads id x es before l h in
+      let g = lists s id x es before l h in
       let a = g .one in
       let y = split run id x es e in
       let z = ends es (y .rest) (before ++ (a ∷ [])) l (y .after) (g .on) in
@@ -208,8 +179,8 @@ module _ {A : Type 0} (s : Sort A) (Fits : A → Type 0) (t : Trip s Fits) where
             );
       }
 
-  pub list-fits : (run : List ℕ) (xs : List A) → Octets run → recordsIn s run ≡ accepted xs → AllFit Fits xs
-  unfolding recordsIn
+  pub list-fits : (run : List ℕ) (xs : List A) → Octets run → measurementsIn s run ≡ accepted xs → AllFit Fits xs
+  unfolding measurementsIn
   list-fits run xs o h =
       let z = ends (elementsIn run) run [] xs refl h in
       subst (AllFit Fits) (sym (z .whole)) (z .fit o)
@@ -221,14 +192,14 @@ module _ {A : Type 0} (s : Sort A) (Fits : A → Type 0) (t : Trip s Fits) where
 
   -- the element in front says the record that the list goes on with
   leads : (x run : List ℕ) (before xs : List A) (a : A) → listed s (more (s .id) x (elementsIn run)) before ≡ accepted (before ++ (a ∷ xs))
-      → (s .means x ≡ accepted a) × (s .repeats a before ≡ false) × (listed s (elementsIn run) (before ++ (a ∷ [])) ≡ accepted (before ++ (a ∷ xs)))
+      → (s .means x ≡ accepted a) × (repeats s a before ≡ false) × (listed s (elementsIn run) (before ++ (a ∷ [])) ≡ accepted (before ++ (a ∷ xs)))
   leads x run before xs a h =
-      let g = heads (s .id) x (elementsIn run) before (before ++ (a ∷ xs)) h in
+      let g = lists s (s .id) x (elementsIn run) before (before ++ (a ∷ xs)) h in
       let b = g .one in
       let z = ends (elementsIn run) run (before ++ (b ∷ [])) (before ++ (a ∷ xs)) refl (g .on) in
       let e : b ≡ a = sym (same before a b xs (z .tail) (z .whole ∙ append-snoc before b (z .tail))) in (
         g .says ∙ ap accepted e,
-        subst (λ (y : A). s .repeats y before ≡ false) e (g .new),
+        subst (λ (y : A). repeats s y before ≡ false) e (g .new),
         subst (λ (y : A). listed s (elementsIn run) (before ++ (y ∷ [])) ≡ accepted (before ++ (a ∷ xs))) e (g .on),
       )
 
@@ -244,16 +215,16 @@ module _ {A : Type 0} (s : Sort A) (Fits : A → Type 0) (t : Trip s Fits) where
 
   -- an accepted list has one record or more
   some : (xs : List A) → listed s (elementsIn (allOctets s xs)) [] ≡ accepted xs → ltb 0 (length xs) ≡ true
-  unfolding listed allOctets
+  unfolding allOctets
   some [] h =
       let g : listed s end [] ≡ accepted [] = ap (λ (es : Elements). listed s es []) (sym none) ∙ h in
-      clash (passed _ _ _ g .0)
+      clash (ended s [] [] g .0)
   some (a ∷ xs) h = lt-ltb 0 (length (a ∷ xs)) (omega arith)
 
-  list-exact : (xs : List A) → AllFit Fits xs → recordsIn s (allOctets s xs) ≡ accepted xs → allInterpreted s xs ≡ true → mayList s xs ≡ true
-  unfolding recordsIn mayList
+  list-exact : (xs : List A) → AllFit Fits xs → measurementsIn s (allOctets s xs) ≡ accepted xs → allInterpreted s xs ≡ true → mayList s xs ≡ true
+  unfolding measurementsIn mayList
   list-exact xs f h i = simp (some xs h, exact xs [] f i h)
 
   -- demand 2 for a run
-  pub list-trip : RoundTrip (recordsIn s) (allOctets s) (mayList s) (AllFit Fits) (allInterpreted s) (λ run. allClear s (elementsIn run))
+  pub list-trip : RoundTrip (measurementsIn s) (allOctets s) (mayList s) (AllFit Fits) (allInterpreted s) (λ run. allClear s (elementsIn run))
   list-trip = record { there = list-there; back = list-back; exact = list-exact; fits = list-fits }

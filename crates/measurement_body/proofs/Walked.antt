@@ -1,103 +1,171 @@
--- One walk of a run: listing the rest from a place on, after what was read so far, is listing the whole. Assumes nothing.
-use mathlib.Core.Path.{_≡_, refl, sym, ap, _∙_}
-use mathlib.Core.Bool.{Bool, true, false, _&&_}
+-- One walk of a body: listing the rest from a place on, after what was read so far, is listing the whole. Assumes nothing.
+use mathlib.Core.Path.{_≡_, refl, sym, ap, subst, _∙_}
+use mathlib.Core.Bool.{Bool, true, false, _&&_, _||_}
 use mathlib.Core.List.{List, [], _∷_, _++_}
-use Prim.Native.Nat.{ℕ, zero, suc, _+_, _≤_}
+use Prim.Native.Nat.{ℕ, _+_, _-_, _<_, _≤_}
 use native.Mathlib.Omega.{arith}
-use borrow.Author.Tests.{eq-eqb, ne-eqb}
-use lib.Dec.{eqb, eqb·zero-suc, eqb·suc-zero, eqb·suc-suc}
-use lib.ListN.{length, drop, length-append, drop-of-length-le}
-use Rattle.answer.specs.Checks.{Outcome, refused, accepted, pick, checked}
+use borrow.Author.Tests.{ne-eqb, eqb-true, eqb-false, ltb-true, ltb-false}
+use lib.Dec.{ltb, eqb}
+use lib.ListN.{length, take, drop, getD, set, replicate, length-append, length-drop}
+use Rattle.action.specs.Openings.{fixedFields}
+use Rattle.answer.proofs.Booleans.{neither, or-go}
+use Rattle.answer.specs.Checks.{Outcome, refused, accepted, pick}
+use Rattle.answer.specs.declared.Answer.{Answer}
 use Rattle.answer.specs.declared.Refusal.{Refusal}
-use Rattle.walk.specs.Elements.{Elements, end, elementsAfter, elementsIn}
-use Rattle.measurement_body.specs.Lists.{Sort, listed, recordsIn, allClear, allInterpreted, nth}
-use Rattle.measurement_body.specs.Steps.{Stops, Onward}
+use Rattle.walk.proofs.Requiring.{Lies, whole, long}
+use Rattle.walk.proofs.RunLaws.{empty}
+use Rattle.walk.proofs.Walking.{at-end}
+use Rattle.walk.specs.CodeTerms.Required.{between}
+use Rattle.walk.specs.Elements.{Elements, end, more, elementsIn}
+use Rattle.walk.specs.Required.{required}
+use Rattle.measurement_body.specs.Lists.{Sort, used, repeats, listed, measurementsIn, allClear, allInterpreted}
+use Rattle.measurement_body.specs.Surveys.{placeIn, notSurveyed, surveyedAs, surveyed}
+use Rattle.measurement_body.specs.declared.surveying.Place.{Place}
+use Rattle.measurement_body.specs.declared.surveying.Surveyed.{Surveyed}
 use Rattle.measurement_body.proofs.Conjunctions.{and-true, and-assoc, and-swap}
+use Rattle.measurement_body.proofs.Judgements.{Holds}
+use Rattle.measurement_body.proofs.Listing.{stops, misread, repeated, onward, clear-in-front}
+use Rattle.measurement_body.proofs.Marking.{Marked, none, one-more}
+use Rattle.measurement_body.proofs.Placing.{Placed, unmet, final, placed-on}
 
--- ---- one record more
-
-pub nth-snoc : {A : Type 0} (l : List A) (a : A) (i : ℕ) → nth i (l ++ (a ∷ [])) ≡ pick (eqb (length l) i) (accepted a) (nth i l)
-unfolding nth
-nth-snoc [] a zero = refl
-nth-snoc [] a (suc i) = simp (eqb·zero-suc i)
-nth-snoc (x ∷ l) a zero = simp (eqb·suc-zero (length l))
-nth-snoc (x ∷ l) a (suc i) = simp (eqb·suc-suc (length l) i) (nth-snoc l a i)
-
-pub interpreted-snoc : {A : Type 0} (s : Sort A) (l : List A) (a : A) → allInterpreted s (l ++ (a ∷ [])) ≡ (allInterpreted s l && s .interpreted a)
+interpreted-snoc : {A : Type 0} (s : Sort A) (l : List A) (a : A) → allInterpreted s (l ++ (a ∷ [])) ≡ (allInterpreted s l && s .interpreted a)
 unfolding allInterpreted
 interpreted-snoc s [] a = and-true (s .interpreted a)
 interpreted-snoc s (x ∷ l) a =
     ap (λ (b : Bool). s .interpreted x && b) (interpreted-snoc s l a) ∙ and-assoc (s .interpreted x) (allInterpreted s l) (s .interpreted a)
 
-pick-under : {A B : Type 0} (f : A → B) (b : Bool) (x y : A) → f (pick b x y) ≡ pick b (f x) (f y)
-pick-under f true x y = refl
-pick-under f false x y = refl
-
--- ---- where the walk stands: the records in front of `at` are those before; `lay` gives an outcome the form that the code keeps
-
-pub record Walked {A H : Type 0} (s : Sort A) (lay : Outcome A → H) (run : List ℕ) (index count at : ℕ) (held : H) (plain : Bool)
-    (before : List A) : Type 0 where
-  pub same : listed s (elementsIn (drop at run)) before ≡ recordsIn s run
+-- where the walk stands: the records in front of `at` are those before, and their tokens are marked
+pub record Walked {A : Type 0} (s : Sort A) (body : List ℕ) (index : ℕ) (marks : List Bool) (count at : ℕ) (place : Place) (plain more : Bool) : Type 0 where
+  pub before : List A
+  pub same : listed s (elementsIn (drop at body)) before ≡ measurementsIn s (drop fixedFields body)
+  pub marked : Marked s marks before
   pub counted : count ≡ length before
   pub few : count ≤ at
-  pub kept : held ≡ lay (nth index before)
+  pub placed : Placed (placeIn index body) (elementsIn (drop at body)) index count at place
   pub clear : Bool
-  pub cleared : allClear s (elementsIn run) ≡ (clear && allClear s (elementsIn (drop at run)))
+  pub cleared : allClear s (elementsIn (drop fixedFields body)) ≡ (clear && allClear s (elementsIn (drop at body)))
   pub plainly : plain ≡ (clear && allInterpreted s before)
+  -- one element has to come, and others may
+  pub goes : more ≡ (eqb count 0 || ltb at (length body))
 
-pub start : {A H : Type 0} (s : Sort A) (lay : Outcome A → H) (run : List ℕ) (index : ℕ)
-    → Walked s lay run index 0 0 (lay (refused Refusal.Impossible)) true []
-unfolding recordsIn allInterpreted nth
-start s lay run index =
-    record { same = refl; counted = refl; few = omega arith; kept = refl; clear = true; cleared = refl; plainly = refl }
+pub start : {A : Type 0} (s : Sort A) (body : List ℕ) (index : ℕ) → Walked s body index (replicate 256 false) 0 fixedFields Place.Absent true true
+unfolding measurementsIn allInterpreted
+start s body index =
+    record {
+      before = [];
+      same = refl;
+      marked = none s;
+      counted = refl;
+      few = omega arith;
+      placed = unmet (elementsIn (drop fixedFields body)) index fixedFields;
+      clear = true;
+      cleared = refl;
+      plainly = refl;
+      goes = refl;
+    }
 
-module _ {A H : Type 0} {s : Sort A} {lay : Outcome A → H} {run : List ℕ} {index count at : ℕ} {held : H} {plain : Bool}
-    {before : List A} (w : Walked s lay run index count at held plain before) where
-  pub stopped : (r : Refusal) → Stops s run at r → recordsIn s run ≡ refused r
-  stopped r h = sym (w .same) ∙ h before
+module _ {A : Type 0} {s : Sort A} {body : List ℕ} {index : ℕ} {marks : List Bool} {count at : ℕ} {place : Place} {plain more : Bool}
+    (w : Walked s body index marks count at place plain more) where
+  as-whole : {o : Outcome (List A)} → listed s (elementsIn (drop at body)) (w .before) ≡ o → measurementsIn s (drop fixedFields body) ≡ o
+  as-whole e = sym (w .same) ∙ e
 
-  module _ (a : A) (next : ℕ) (clear : Bool) (o : Onward s run at a next clear) where
-    pub repeated : s .repeats a before ≡ true → recordsIn s run ≡ refused Refusal.Repeated
-    unfolding checked
-    repeated h = sym (w .same) ∙ o .lists before ∙ simp h
+  -- ---- an element that has to be there
 
-    pub further : s .repeats a before ≡ false
-        → Walked s lay run index (count + 1) next (pick (eqb count index) (lay (accepted a)) held) (plain && (clear && s .interpreted a)) (before ++ (a ∷ []))
-    unfolding checked
-    further h =
-        record {
-          same = sym (sym (w .same) ∙ o .lists before ∙ simp h);
-          counted = simp length-append (omega (arith, w .counted));
-          few = omega (arith, w .few, o .ahead);
-          kept =
-              rw (w .counted, w .kept) (sym (pick-under lay (eqb (length before) index) (accepted a) (nth index before)))
-              ∙ ap lay (sym (nth-snoc before a index));
-          clear = w .clear && clear;
-          cleared =
-              w .cleared ∙ ap (λ (b : Bool). w .clear && b) (o .clears)
-              ∙ and-assoc (w .clear) clear (allClear s (elementsIn (drop next run)));
-          plainly =
-              ap (λ (b : Bool). b && (clear && s .interpreted a)) (w .plainly)
-              ∙ and-swap (w .clear) (allInterpreted s before) clear (s .interpreted a)
-              ∙ ap (λ (b : Bool). w .clear && clear && b) (sym (interpreted-snoc s before a));
-        }
+  pub absent : (id : ℕ) → id ≡ s .id → more ≡ true → {r : Refusal} → required id (elementsIn (drop at body)) ≡ refused r
+      → measurementsIn s (drop fixedFields body) ≡ refused r
+  absent id own m e =
+      as-whole
+      (stops s (elementsIn (drop at body)) (w .before) (λ h. none-before (past h))
+      (ap (λ (n : ℕ). required n (elementsIn (drop at body))) (sym own) ∙ e))
+    where
+      past : elementsIn (drop at body) ≡ end → length body ≤ at
+      past h = omega (arith, length-drop at body, ap length (empty (drop at body) h))
 
-  module _ (past : length run ≤ at) where
-    none-left : elementsIn (drop at run) ≡ end
-    unfolding elementsIn elementsAfter
-    none-left = simp (drop-of-length-le run past)
+      none-before : length body ≤ at → length (w .before) ≡ 0
+      none-before h = by (eqb count 0) refl
+        where
+          by : (t : Bool) → eqb count 0 ≡ t → length (w .before) ≡ 0
+          by true z = sym (w .counted) ∙ eqb-true count 0 z
+          by false z =
+              let some : ltb at (length body) ≡ true = sym (or-go (eqb count 0) z) ∙ sym (w .goes) ∙ m in
+              absurd (omega (arith, ltb-true at (length body) some))
 
-    pub no-record : count ≡ 0 → recordsIn s run ≡ refused Refusal.ElementsUnfit
-    unfolding listed checked
-    no-record z =
-        sym (w .same) ∙ ap (λ (es : Elements). listed s es before) none-left ∙ simp (eq-eqb (length before) 0 (sym (w .counted) ∙ z))
+  -- ---- one that is there
 
-    pub all-read : (count ≡ 0 → ⊥) → recordsIn s run ≡ accepted before
-    unfolding listed checked
-    all-read z =
-        sym (w .same) ∙ ap (λ (es : Elements). listed s es before) none-left
-        ∙ simp (ne-eqb (length before) 0 (λ e. z (w .counted ∙ e)))
+  module _ {start stop : ℕ} (l : Lies body at (s .id) start stop) where
+    abbrev contents : List ℕ
+    contents = take (stop - start) (drop start body)
 
-    pub all-clear : allClear s (elementsIn run) ≡ w .clear
+    pub unfit : {r : Refusal} → s .means contents ≡ refused r → measurementsIn s (drop fixedFields body) ≡ refused r
+    unfit m = as-whole (misread s (elementsIn (drop at body)) (between body start stop) (l .stands) (w .before) m)
+
+    module _ {token : ℕ} {is-plain : Bool} (h : Holds s contents token is-plain) (small : token < 256) where
+      -- whether it repeats one before it, by its mark
+      marked-by : {t : Bool} → (s .once && getD marks token false) ≡ t → repeats s (h .one) (w .before) ≡ t
+      marked-by e =
+          ap (λ (k : ℕ). s .once && used s k (w .before)) (sym (h .tokened))
+          ∙ ap (λ (b : Bool). s .once && b) (sym (w .marked .at token small))
+          ∙ e
+
+      pub again : (s .once && getD marks token false) ≡ true → measurementsIn s (drop fixedFields body) ≡ refused Refusal.Repeated
+      again e = as-whole (repeated s (elementsIn (drop at body)) (between body start stop) (l .stands) (w .before) (h .says) (marked-by e))
+
+      pub further : (s .once && getD marks token false) ≡ false
+          → Walked s body index (set marks token true) (count + 1) stop (pick (eqb count index) (Place.Contents start stop) place) (plain && is-plain) (ltb stop (length body))
+      further e =
+          let es = elementsIn (drop at body) in
+          let here = between body start stop in
+          let a = h .one in
+          let c = s .clear contents in
+          record {
+            before = w .before ++ (a ∷ []);
+            same = sym (onward s es here (l .stands) (w .before) (h .says) (marked-by e)) ∙ w .same;
+            marked = one-more s (w .marked) a token (h .tokened) small;
+            counted = simp length-append (omega (arith, w .counted));
+            few = omega (arith, w .few, l .begins, l .ordered);
+            placed =
+                placed-on (l .begins) (omega (arith, long l, l .begins, l .ordered))
+                (subst (λ (x : Elements). Placed (placeIn index body) x index count at place) (whole (s .id) es here (l .stands)) (w .placed));
+            clear = w .clear && c;
+            cleared =
+                w .cleared ∙ ap (λ (b : Bool). w .clear && b) (clear-in-front s es here (l .stands))
+                ∙ and-assoc (w .clear) c (allClear s (elementsIn (drop stop body)));
+            plainly =
+                ap (λ (b : Bool). b && is-plain) (w .plainly)
+                ∙ ap (λ (b : Bool). w .clear && allInterpreted s (w .before) && b) (h .plainly)
+                ∙ and-swap (w .clear) (allInterpreted s (w .before)) c (s .interpreted a)
+                ∙ ap (λ (b : Bool). w .clear && c && b) (sym (interpreted-snoc s (w .before) a));
+            goes = sym (simp (ne-eqb (count + 1) 0 (λ z. omega arith)));
+          }
+
+  -- ---- the end of the run
+
+  module _ (over : more ≡ false) where
+    tests : (eqb count 0 ≡ false) × (ltb at (length body) ≡ false)
+    tests = neither (eqb count 0) (ltb at (length body)) (sym (w .goes) ∙ over)
+
+    none-left : elementsIn (drop at body) ≡ end
+    none-left = at-end body at (ltb-false at (length body) (tests .1))
+
+    all-read : measurementsIn s (drop fixedFields body) ≡ accepted (w .before)
+    unfolding listed
+    all-read =
+        as-whole
+        (ap (λ (es : Elements). listed s es (w .before)) none-left
+        ∙ simp (ne-eqb (length (w .before)) 0 (λ e. eqb-false count 0 (tests .0) (w .counted ∙ e))))
+
+    all-clear : allClear s (elementsIn (drop fixedFields body)) ≡ w .clear
     unfolding allClear
     all-clear = w .cleared ∙ ap (λ (es : Elements). w .clear && allClear s es) none-left ∙ and-true (w .clear)
+
+    found : place ≡ placeIn index body
+    found = final (subst (λ (x : Elements). Placed (placeIn index body) x index count at place) none-left (w .placed))
+
+    pub read : (token : ℕ) → token < 256
+        → record { answer = Answer.Accepted; count = count; place = place; hit = getD marks token false; plain = plain } ≡ surveyed s index token body
+    read token small = rw (all-read, all-clear, w .counted, w .plainly, found, w .marked .at token small)
+
+-- a refusal, as it is handed out
+pub refused-as : {A : Type 0} (s : Sort A) (index token : ℕ) (body : List ℕ) {x : Surveyed} {r : Refusal} → x ≡ notSurveyed r
+    → measurementsIn s (drop fixedFields body) ≡ refused r → x ≡ surveyed s index token body
+refused-as s index token body h e = h ∙ ap (surveyedAs s index token body) (sym e)

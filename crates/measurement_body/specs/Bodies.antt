@@ -1,48 +1,51 @@
 -- Bodies of one or more measurement elements, written one element at a time (01, "Octets": 0, action, token, elements). What is
 -- there already is a body of the same action and token with nothing uninterpreted and no reserved bit set, or nothing.
-use mathlib.Core.Path.{_≡_}
 use mathlib.Core.Bool.{Bool, false, not, _&&_, _||_}
 use mathlib.Core.List.{List, [], _∷_, _++_}
-use Prim.Native.Nat.{ℕ, _+_, _≤_}
+use Prim.Native.Nat.{ℕ, _+_}
 use lib.Dec.{ltb, leb, eqb}
-use lib.ListN.{length, take, drop}
+use lib.ListN.{length, drop}
+use Rattle.action.specs.Openings.{fixedFields, forbidsToken}
 use Rattle.answer.specs.Checks.{Outcome, refused, accepted, pick}
 use Rattle.octets.specs.Numbers.{octet}
 use Rattle.walk.specs.Elements.{elementsIn}
-use Rattle.measurement_body.specs.Lists.{Sort, recordsIn, allClear, allInterpreted, allOctets}
+use Rattle.measurement_body.specs.Lists.{Sort, repeats, measurementsIn, allClear, allInterpreted, allOctets}
 
 -- how many octets a body may have (01, "Answer numbers": a frame has at most 2,336 octets, and 24 of them are the header)
 abbrev pub longestBody : ℕ
 longestBody = 2312
 
--- a body's octets
-abbrev pub bodyOctets : {A : Type 0} → Sort A → ℕ → ℕ → List A → List ℕ
-bodyOctets s action token xs = (0 ∷ action ∷ token ∷ []) ++ allOctets s xs
+-- how a body begins
+abbrev pub opening : ℕ → ℕ → List ℕ
+opening action token = 0 ∷ action ∷ token ∷ []
 
 -- whether what is there begins a body of this action and token
 abbrev pub begins : ℕ → ℕ → List ℕ → Bool
 begins action token there =
-    ltb 2 (length there) && (eqb (octet 0 there) 0 && (eqb (octet 1 there) action && eqb (octet 2 there) token))
+    leb fixedFields (length there) && (eqb (octet 0 there) 0 && (eqb (octet 1 there) action && eqb (octet 2 there) token))
 
--- whether the record may stand after those of a run
-abbrev pub joins : {A : Type 0} → Sort A → A → Outcome (List A) → Bool
-joins s a (refused r) = false
-joins s a (accepted before) = allInterpreted s before && not (s .repeats a before)
+module _ {A : Type 0} (s : Sort A) where
+  -- a body's octets
+  abbrev pub bodyOctets : ℕ → List A → List ℕ
+  bodyOctets token xs = opening (s .action) token ++ allOctets s xs
 
-module _ {A : Type 0} (s : Sort A) (action token : ℕ) (a : A) where
-  -- the octets that are put after what is there: with nothing there, the body's first three too
-  unfoldable pub appended : List ℕ → List ℕ
-  appended there = pick (eqb (length there) 0) (0 ∷ action ∷ token ∷ []) [] ++ s .octets a
+  -- whether a body may have this token
+  abbrev pub mayOpen : ℕ → Bool
+  mayOpen token = not (forbidsToken (s .action) token)
 
-  -- whether the record may be written after what is there; `start` says that the token may start a body
-  unfoldable pub mayAppend : Bool → List ℕ → Bool
-  mayAppend start there =
-      s .may a && (start && (leb (length there + length (appended there)) longestBody &&
-      (eqb (length there) 0 || (begins action token there
-      && (allClear s (elementsIn (drop 3 there)) && joins s a (recordsIn s (drop 3 there)))))))
+  -- whether a record may stand after those of a run
+  abbrev pub joins : A → Outcome (List A) → Bool
+  joins a (refused r) = false
+  joins a (accepted before) = allInterpreted s before && not (repeats s a before)
 
--- ---- the code's own term, which no public promise cites: octets that lie in front of others
+  module _ (token : ℕ) (a : A) (there : List ℕ) where
+    -- the octets that are put after what is there: with nothing there, the body's first three too
+    unfoldable pub appended : List ℕ
+    appended = pick (eqb (length there) 0) (opening (s .action) token) [] ++ s .octets a
 
-pub record Fronts (os bytes : List ℕ) : Type 0 where
-  pub fits : length os ≤ length bytes
-  pub front : take (length os) bytes ≡ os
+    -- whether the record may be written after what is there
+    unfoldable pub mayAppend : Bool
+    mayAppend =
+        s .may a && (mayOpen token && (leb (length there + length appended) longestBody &&
+        (eqb (length there) 0 || (begins (s .action) token there
+        && (allClear s (elementsIn (drop fixedFields there)) && joins a (measurementsIn s (drop fixedFields there)))))))

@@ -19,13 +19,13 @@ abbrev pub afterPut : Outcome ℕ → ℕ → List ℕ → (ℕ → List ℕ →
 afterPut (refused r) used buffer next = record { used = refused r; octets = buffer }
 afterPut (accepted n) used buffer next = next (used + n) buffer
 
-module _ {A : Type 0} (s : Sort A) (action token : ℕ) (start : Bool) where
+module _ {A : Type 0} (s : Sort A) (token : ℕ) where
   -- what `append` promises of its test and its octets
   abbrev pub mayPut : A → ℕ → List ℕ → Bool
-  mayPut a used buffer = leb used (length buffer) && mayAppend s action token a start (take used buffer)
+  mayPut a used buffer = leb used (length buffer) && mayAppend s token a (take used buffer)
 
   abbrev pub put : A → ℕ → List ℕ → List ℕ
-  put a used buffer = appended s action token a (take used buffer)
+  put a used buffer = appended s token a (take used buffer)
 
   unfoldable pub appends : List A → ℕ → List ℕ → Buffer
   appends [] used buffer = record { used = accepted used; octets = buffer }

@@ -1,40 +1,58 @@
--- One or more elements of one ID, in a run (01, "Octets": actions 0 and 1 have one or more of 38 or 39). For each element: absent
--- (7), header cut (6), wrong element (7), contents cut (6), length and value (8, 9), repeat (10).
-use mathlib.Core.Bool.{Bool, true, not, _&&_}
+-- One or more elements of one ID, in a run (01, "Octets": actions 0 and 1 have one or more of 38 or 39). For each element: the one that
+-- has to be there (7, 6), its length and value (8, 9), repeat (10).
+use mathlib.Core.Bool.{Bool, true, false, not, _&&_, _||_}
 use mathlib.Core.List.{List, [], _∷_, _++_}
 use Prim.Native.Nat.{ℕ, zero, suc}
 use lib.Dec.{ltb, eqb}
 use lib.ListN.{length}
-use Rattle.answer.specs.Checks.{Outcome, refused, accepted, _⇒_, judged, andThen}
+use Rattle.answer.specs.Checks.{Outcome, refused, accepted, pick, _⇒_, judged, andThen}
 use Rattle.answer.specs.declared.Refusal.{Refusal}
 use Rattle.walk.specs.Elements.{Elements, end, cutHeader, cutContents, more, elementsIn}
+use Rattle.walk.specs.Required.{required}
 
--- what a list of such elements goes by: their ID, what contents mean, whether contents have no reserved bit set, whether a record
--- repeats one before it, whether it holds no uninterpreted contents, which records may be written, and their octets
+-- what a list of such elements goes by
 pub record Sort (A : Type 0) : Type 0 where
+  -- the ID of its elements, and the action of its bodies
   pub id : ℕ
+  pub action : ℕ
+  -- what contents mean, and whether no reserved bit is set in them
   pub means : List ℕ → Outcome A
   pub clear : List ℕ → Bool
-  pub repeats : A → List A → Bool
+  -- a record's measurement token, and whether no two may have the same
+  pub token : A → ℕ
+  pub once : Bool
+  -- whether a record holds no uninterpreted contents, whether it may be written, and its octets
   pub interpreted : A → Bool
   pub may : A → Bool
   pub octets : A → List ℕ
 
 module _ {A : Type 0} (s : Sort A) where
-  -- the records in the run, after those that came before
+  -- whether a measurement token is used
+  unfoldable pub used : ℕ → List A → Bool
+  used t [] = false
+  used t (a ∷ xs) = eqb (s .token a) t || used t xs
+
+  -- whether a record repeats one before it
+  abbrev pub repeats : A → List A → Bool
+  repeats a before = s .once && used (s .token a) before
+
+  -- the record that has to come next, after those that came before
+  unfoldable pub nextIn : Elements → List A → Outcome A
+  nextIn es before =
+      andThen (required (s .id) es)
+      (λ e. andThen (s .means (e .contents))
+      (λ a. judged (repeats a before ⇒ Refusal.Repeated ∷ []) a))
+
+  -- the records in the run, after those that came before: where there is none yet, one has to come
   unfoldable pub listed : Elements → List A → Outcome (List A)
-  listed end before = judged (eqb (length before) 0 ⇒ Refusal.ElementsUnfit ∷ []) before
-  listed cutHeader before = refused Refusal.ElementCut
-  listed (cutContents id) before = judged (not (eqb id (s .id)) ⇒ Refusal.ElementsUnfit ∷ true ⇒ Refusal.ElementCut ∷ []) before
-  listed (more id c es) before =
-      andThen (judged (not (eqb id (s .id)) ⇒ Refusal.ElementsUnfit ∷ []) (tt {0}))
-      (λ u. andThen (s .means c)
-      (λ a. andThen (judged (s .repeats a before ⇒ Refusal.Repeated ∷ []) (tt {0}))
-      (λ v. listed es (before ++ (a ∷ [])))))
+  listed end before = pick (eqb (length before) 0) (andThen (nextIn end before) (λ a. accepted (a ∷ []))) (accepted before)
+  listed cutHeader before = andThen (nextIn cutHeader before) (λ a. accepted (before ++ (a ∷ [])))
+  listed (cutContents id) before = andThen (nextIn (cutContents id) before) (λ a. accepted (before ++ (a ∷ [])))
+  listed (more id c es) before = andThen (nextIn (more id c es) before) (λ a. listed es (before ++ (a ∷ [])))
 
   -- the records in a run
-  unfoldable pub recordsIn : List ℕ → Outcome (List A)
-  recordsIn run = listed (elementsIn run) []
+  unfoldable pub measurementsIn : List ℕ → Outcome (List A)
+  measurementsIn run = listed (elementsIn run) []
 
   -- no reserved bit is set in any of the elements
   unfoldable pub allClear : Elements → Bool
@@ -56,7 +74,7 @@ module _ {A : Type 0} (s : Sort A) where
   -- each may be written, and repeats none before it
   unfoldable pub mayAll : List A → List A → Bool
   mayAll before [] = true
-  mayAll before (a ∷ xs) = s .may a && (not (s .repeats a before) && mayAll (before ++ (a ∷ [])) xs)
+  mayAll before (a ∷ xs) = s .may a && (not (repeats a before) && mayAll (before ++ (a ∷ [])) xs)
 
   -- a list that may be written has one record or more
   unfoldable pub mayList : List A → Bool

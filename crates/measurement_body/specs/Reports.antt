@@ -8,9 +8,11 @@ abbrev pub reportSort : Sort Report
 reportSort =
     record {
       id = 39;
+      action = 1;
       means = reportMeans;
       clear = reportClear;
-      repeats = λ r before. false;
+      token = λ r. r .token;
+      once = false;
       interpreted = reportInterpreted;
       may = reportMay;
       octets = reportOctets;

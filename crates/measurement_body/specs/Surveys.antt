@@ -1,48 +1,44 @@
--- What one walk of a run finds out: how many records there are, the one at an index, whether one has a certain token, and whether
--- the run is plain, with nothing uninterpreted and no reserved bit set. A refusal leaves one fixed value.
+-- What one walk of a body finds out: how many elements there are, where the contents of the one at an index lie, whether one has a
+-- certain token, and whether the body is plain, with nothing uninterpreted and no reserved bit set. A refusal leaves one fixed value.
 use mathlib.Core.Bool.{Bool, false, _&&_}
 use mathlib.Core.List.{List}
-use Prim.Native.Nat.{ℕ}
-use lib.ListN.{length}
+use Prim.Native.Nat.{ℕ, zero, suc, _+_}
+use lib.ListN.{length, drop}
+use Rattle.action.specs.Openings.{fixedFields}
 use Rattle.answer.specs.Checks.{Outcome, refused, accepted}
 use Rattle.answer.specs.declared.Answer.{Answer}
 use Rattle.answer.specs.declared.Refusal.{Refusal}
-use Rattle.measurement_element.specs.MeasurementReport.{reportLaid}
-use Rattle.measurement_element.specs.declared.measurement_report.Report.{Report}
-use Rattle.measurement_element.specs.declared.measurement_request.Reading as RequestReading
-use Rattle.measurement_element.specs.declared.measurement_request.Request.{Request}
-use Rattle.measurement_body.specs.Lists.{allInterpreted, nth}
-use Rattle.measurement_body.specs.Reports.{reportSort}
-use Rattle.measurement_body.specs.Requests.{requestSort, used}
-use Rattle.measurement_body.specs.declared.reports.Surveyed as Reports
-use Rattle.measurement_body.specs.declared.requests.Surveyed as Requests
+use Rattle.walk.specs.Elements.{Elements, end, cutHeader, cutContents, more, elementsIn}
+use Rattle.measurement_body.specs.Lists.{Sort, used, measurementsIn, allClear, allInterpreted}
+use Rattle.measurement_body.specs.declared.surveying.Place.{Place}
+use Rattle.measurement_body.specs.declared.surveying.Surveyed.{Surveyed}
 
--- the answer that an outcome stands for
-abbrev pub requestRead : Outcome Request → RequestReading.Reading
-requestRead (refused r) = RequestReading.Reading.Refused r
-requestRead (accepted q) = RequestReading.Reading.Is q
+-- where the contents of the element at an index lie, with so many octets before the elements: an element is two octets and its contents
+unfoldable pub placeAfter : ℕ → ℕ → Elements → Place
+placeAfter before i end = Place.Absent
+placeAfter before i cutHeader = Place.Absent
+placeAfter before i (cutContents id) = Place.Absent
+placeAfter before zero (more id c es) = Place.Contents (before + 2) (before + 2 + length c)
+placeAfter before (suc i) (more id c es) = placeAfter (before + 2 + length c) i es
 
--- of requests; `clear` says that no reserved bit is set in the run
-abbrev pub requestsSurveyed : ℕ → ℕ → Bool → Outcome (List Request) → Requests.Surveyed
-requestsSurveyed index token clear (refused r) =
-    record { answer = Answer.Refused r; count = 0; held = requestRead (refused Refusal.Impossible); hit = false; plain = false }
-requestsSurveyed index token clear (accepted rs) =
-    record {
-      answer = Answer.Accepted;
-      count = length rs;
-      held = requestRead (nth index rs);
-      hit = used token rs;
-      plain = clear && allInterpreted requestSort rs;
-    }
+-- where they lie in a body
+abbrev pub placeIn : ℕ → List ℕ → Place
+placeIn i body = placeAfter fixedFields i (elementsIn (drop fixedFields body))
 
--- of reports
-abbrev pub reportsSurveyed : ℕ → Bool → Outcome (List Report) → Reports.Surveyed
-reportsSurveyed index clear (refused r) =
-    record { answer = Answer.Refused r; count = 0; held = reportLaid (refused Refusal.Impossible); plain = false }
-reportsSurveyed index clear (accepted rs) =
-    record {
-      answer = Answer.Accepted;
-      count = length rs;
-      held = reportLaid (nth index rs);
-      plain = clear && allInterpreted reportSort rs;
-    }
+abbrev pub notSurveyed : Refusal → Surveyed
+notSurveyed r = record { answer = Answer.Refused r; count = 0; place = Place.Absent; hit = false; plain = false }
+
+module _ {A : Type 0} (s : Sort A) (index token : ℕ) (body : List ℕ) where
+  abbrev pub surveyedAs : Outcome (List A) → Surveyed
+  surveyedAs (refused r) = notSurveyed r
+  surveyedAs (accepted xs) =
+      record {
+        answer = Answer.Accepted;
+        count = length xs;
+        place = placeIn index body;
+        hit = used s token xs;
+        plain = allClear s (elementsIn (drop fixedFields body)) && allInterpreted s xs;
+      }
+
+  abbrev pub surveyed : Surveyed
+  surveyed = surveyedAs (measurementsIn s (drop fixedFields body))

@@ -5,6 +5,8 @@ use mathlib.Core.Path.{_≡_, ap, _∙_}
 use Prim.Native.Nat.{ℕ, _+_}
 use native.Mathlib.Omega.{arith}
 use lib.ListN.{length, length-append, drop-of-length-le}
+use Rattle.frame.specs.Frames.{}
+use Rattle.header.specs.Headers.{headerLength}
 use Rattle.octets.specs.Numbers.{octet}
 use Rattle.octets.specs.Writing.{left}
 use Rattle.octets.proofs.JoinSplit.{all-from}
@@ -16,7 +18,7 @@ use Rattle.reply.specs.Frames.{replyHead}
 pub six : (xs : List ℕ) → length xs ≡ 6 → octet 0 xs ∷ octet 1 xs ∷ octet 2 xs ∷ octet 3 xs ∷ octet 4 xs ∷ octet 5 xs ∷ [] ≡ xs
 six xs h = all-from 6 xs h
 
-pub head-length : (own ap' : List ℕ) → length own ≡ 6 → length ap' ≡ 6 → length (replyHead own ap') ≡ 24
+pub head-length : (own ap' : List ℕ) → length own ≡ 6 → length ap' ≡ 6 → length (replyHead own ap') ≡ headerLength
 head-length own ap' o a = simp (length-append, o, a)
 
 -- ---- a body that is built in a buffer of its own

@@ -19,6 +19,7 @@ use Rattle.measurement_body.specs.Reports.{reportSort}
 use Rattle.octets.specs.Writing.{told, wrote, left, Written}
 use Rattle.octets.specs.declared.writing.Wrote.{Wrote}
 use Rattle.octets.proofs.Overwriting.{written-as}
+use Rattle.reply.specs.CodeTerms.Asked.{longestReplyBody}
 use Rattle.octets.proofs.Storing.{not-answer, room-answer, front-left, filled-front}
 
 and-true : (b : Bool) → (b && true) ≡ b
@@ -34,28 +35,28 @@ refused-as e w = record { answers = ap refused e ∙ w .answers; leaves = w .lea
 module _ (token : ℕ) (x : Report) where
   -- the body as it is meant
   abbrev pub body : List ℕ
-  body = bodyOctets reportSort 1 token (x ∷ [])
+  body = bodyOctets reportSort token (x ∷ [])
 
-  first-octets : appended reportSort 1 token x [] ≡ body
+  first-octets : appended reportSort token x [] ≡ body
   unfolding appended allOctets
   first-octets = ap (λ (xs : List ℕ). 0 ∷ 1 ∷ token ∷ xs) (sym (append-nil (reportOctets x)))
 
-  pub short-body : length (x .densities) ≡ 8 → length body ≤ 27
+  pub short-body : length (x .densities) ≡ 8 → length body ≤ longestReplyBody
   unfolding allOctets
   short-body eight =
       omega
       (arith, ap (λ (xs : List ℕ). length xs) (append-nil (reportOctets x)), counted (x .token) (x .kind) (x .densities) eight (x .matter), within (x .matter) .1)
 
   -- a body of one report is short enough
-  first-short : length (x .densities) ≡ 8 → leb (0 + length (appended reportSort 1 token x [])) longestBody ≡ true
-  first-short eight = le-leb (0 + length (appended reportSort 1 token x [])) longestBody (omega (arith, ap length first-octets, short-body eight))
+  first-short : length (x .densities) ≡ 8 → leb (0 + length (appended reportSort token x [])) longestBody ≡ true
+  first-short eight = le-leb (0 + length (appended reportSort token x [])) longestBody (omega (arith, ap length first-octets, short-body eight))
 
-  first-may : length (x .densities) ≡ 8 → mayAppend reportSort 1 token x true [] ≡ reportMay x
+  first-may : length (x .densities) ≡ 8 → mayAppend reportSort token x [] ≡ reportMay x
   unfolding mayAppend
   first-may eight = simp (first-short eight) (and-true (reportMay x))
 
-  module _ (eight : length (x .densities) ≡ 8) (buffer exit : List ℕ) (answer : Wrote) (size : length buffer ≡ 27)
-      (w : Written (mayAppend reportSort 1 token x true []) (appended reportSort 1 token x []) 0 buffer answer exit) where
+  module _ (eight : length (x .densities) ≡ 8) (buffer exit : List ℕ) (answer : Wrote) (size : length buffer ≡ longestReplyBody)
+      (w : Written (mayAppend reportSort token x []) (appended reportSort token x []) 0 buffer answer exit) where
     as-meant : Written (reportMay x) body 0 buffer answer exit
     as-meant = written-as (first-may eight) first-octets w
 
@@ -67,9 +68,9 @@ module _ (token : ℕ) (x : Report) where
     unwritten r e = by-may (reportMay x) refl
       where
         by-may : (m : Bool) → reportMay x ≡ m → (reportMay x ≡ false) × (r ≡ Refusal.Impossible)
-        by-may true f = absurd (never (sym (ap told e) ∙ as-meant .answers ∙ enough f))
+        by-may true f = absurd (never (sym (ap headerTold e) ∙ as-meant .answers ∙ enough f))
         by-may false f =
-            let same : refused r ≡ refused Refusal.Impossible = sym (ap told e) ∙ as-meant .answers ∙ not-answer body 0 buffer f in
+            let same : refused r ≡ refused Refusal.Impossible = sym (ap headerTold e) ∙ as-meant .answers ∙ not-answer body 0 buffer f in
             (f, cc)
 
     -- else the first octets of the buffer are the body
@@ -77,9 +78,9 @@ module _ (token : ℕ) (x : Report) where
     built n e = by-may (reportMay x) refl
       where
         by-may : (m : Bool) → reportMay x ≡ m → (reportMay x ≡ true) × (n ≡ length body) × (take n exit ≡ body)
-        by-may false f = absurd (never (sym (not-answer body 0 buffer f) ∙ sym (as-meant .answers) ∙ ap told e))
+        by-may false f = absurd (never (sym (not-answer body 0 buffer f) ∙ sym (as-meant .answers) ∙ ap headerTold e))
         by-may true f =
-            let same : accepted n ≡ accepted (length body) = sym (ap told e) ∙ as-meant .answers ∙ enough f in
+            let same : accepted n ≡ accepted (length body) = sym (ap headerTold e) ∙ as-meant .answers ∙ enough f in
             let count : n ≡ length body = cc in
             let leaves = as-meant .leaves ∙ ap (λ (m : Bool). left m body 0 buffer) f ∙ front-left body buffer (omega (arith, size, short-body eight)) in
             (f, count, filled-front body buffer exit leaves n count)

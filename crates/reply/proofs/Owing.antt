@@ -4,71 +4,83 @@ use mathlib.Core.List.{List}
 use mathlib.Core.Path.{_≡_, refl, sym, ap, _∙_}
 use Prim.Native.Nat.{ℕ, _≤_}
 use borrow.Author.Tests.{ltb-false}
-use lib.ListN.{length, drop}
+use lib.ListN.{length}
 use Rattle.answer.proofs.Judged.{never, passed}
 use Rattle.answer.specs.Checks.{Outcome, refused, accepted, andThen}
 use Rattle.answer.specs.declared.Refusal.{Refusal}
 use Rattle.frame.specs.Actions.{Body, requests, reports, tpcRequest, tpcReport, switch, actionMeans}
+use Rattle.frame.specs.Frames.{bodyOf, requestIn}
 use Rattle.frame.specs.Laid.{actionFrame, bodyFrame}
 use Rattle.frame.specs.declared.Frame.{Frame}
-use Rattle.header.specs.Headers.{Head, headerMeans}
+use Rattle.measurement_body.specs.Lists.{nth}
+use Rattle.measurement_element.specs.MeasurementRequest.{requestTold}
+use Rattle.measurement_element.specs.declared.measurement_request.Reading.{Reading}
+use Rattle.measurement_element.specs.declared.measurement_request.Request.{Request}
+use Rattle.header.specs.Headers.{headerLength, Head, headerMeans}
 use Rattle.header.proofs.Heard.{has-header}
 use Rattle.header.specs.declared.management.Subtype.{Subtype}
-use Rattle.reply.specs.Due.{orNone, bySubtype, afterHeader, dueMeans, dueOf}
+use Rattle.reply.specs.CodeTerms.Asked.{requestReading, dueOf}
+use Rattle.reply.specs.Due.{orNone, bySubtype, afterHeader, dueMeans}
 use Rattle.reply.specs.declared.due.Due.{Due}
 
 -- ---- a body
 
--- what each kind of frame is due
-abbrev pub frameDue : Frame → Due
-frameDue (Frame.Beacon n) = Due.Refused Refusal.NoReplyDue
-frameDue (Frame.ProbeResponse n) = Due.Refused Refusal.NoReplyDue
-frameDue (Frame.MeasurementRequest token count) = Due.Measurement token
-frameDue (Frame.MeasurementReport token count) = Due.Refused Refusal.NoReplyDue
-frameDue (Frame.TpcRequest token) = Due.Tpc token
-frameDue (Frame.TpcReport token report) = Due.Refused Refusal.NoReplyDue
-frameDue (Frame.ChannelSwitch w) = Due.Refused Refusal.NoReplyDue
+-- what each kind of frame is due; `request` is its element at the index
+abbrev pub frameDue : Reading → Frame → Due
+frameDue request (Frame.Beacon n) = Due.Refused Refusal.NoReplyDue
+frameDue request (Frame.ProbeResponse n) = Due.Refused Refusal.NoReplyDue
+frameDue request (Frame.MeasurementRequest token count) = Due.Measurement token request
+frameDue request (Frame.MeasurementReport token count) = Due.Refused Refusal.NoReplyDue
+frameDue request (Frame.TpcRequest token) = Due.Tpc token
+frameDue request (Frame.TpcReport token report) = Due.Refused Refusal.NoReplyDue
+frameDue request (Frame.ChannelSwitch w) = Due.Refused Refusal.NoReplyDue
 
-body-due : (body : Body) → frameDue (actionFrame body) ≡ dueOf (accepted body)
-body-due (requests token rs) = refl
-body-due (reports token rs) = refl
-body-due (tpcRequest token) = refl
-body-due (tpcReport token t) = refl
-body-due (switch w) = refl
+read-as : (x : Reading) (o : Outcome Request) → requestTold x ≡ o → x ≡ requestReading o
+read-as (Reading.Refused r) o e = ap requestReading e
+read-as (Reading.Is q) o e = ap requestReading e
 
-kind-due : (o : Outcome Body) (f : Frame) → accepted f ≡ bodyFrame o → frameDue f ≡ dueOf (orNone o)
-kind-due (refused r) f e = absurd (never (sym e))
-kind-due (accepted body) f e = ap frameDue (let same : f ≡ actionFrame body = cc in same) ∙ body-due body
+module _ (i : ℕ) (x : Reading) where
+  body-due : (body : Body) → requestTold x ≡ requestIn i body → frameDue x (actionFrame body) ≡ dueOf i (accepted body)
+  body-due (requests token rs) e = ap (Due.Measurement token) (read-as x (nth i rs) e)
+  body-due (reports token rs) e = refl
+  body-due (tpcRequest token) e = refl
+  body-due (tpcReport token t) e = refl
+  body-due (switch w) e = refl
 
-none-due : (o : Outcome Body) (r : Refusal) → refused r ≡ bodyFrame o → Due.Refused Refusal.NoReplyDue ≡ dueOf (orNone o)
-none-due (refused q) r e = refl
-none-due (accepted body) r e = absurd (never e)
+  kind-due : (o : Outcome Body) (f : Frame) → requestTold x ≡ andThen o (requestIn i) → accepted f ≡ bodyFrame o → frameDue x f ≡ dueOf i (orNone o)
+  kind-due (refused r) f q e = absurd (never (sym e))
+  kind-due (accepted body) f q e = ap (frameDue x) (let same : f ≡ actionFrame body = cc in same) ∙ body-due body q
 
-module _ (body : List ℕ) where
-  pub frame-due : (f : Frame) → accepted f ≡ bodyFrame (actionMeans body) → frameDue f ≡ dueOf (orNone (actionMeans body))
-  frame-due f e = kind-due (actionMeans body) f e
+  none-due : (o : Outcome Body) (r : Refusal) → refused r ≡ bodyFrame o → Due.Refused Refusal.NoReplyDue ≡ dueOf i (orNone o)
+  none-due (refused q) r e = refl
+  none-due (accepted body) r e = absurd (never e)
 
-  pub broken-due : (r : Refusal) → refused r ≡ bodyFrame (actionMeans body) → Due.Refused Refusal.NoReplyDue ≡ dueOf (orNone (actionMeans body))
-  broken-due r e = none-due (actionMeans body) r e
+  module _ (body : List ℕ) where
+    pub frame-due : requestTold x ≡ andThen (actionMeans body) (requestIn i) → (f : Frame) → accepted f ≡ bodyFrame (actionMeans body)
+        → frameDue x f ≡ dueOf i (orNone (actionMeans body))
+    frame-due q f e = kind-due (actionMeans body) f q e
+
+    pub broken-due : (r : Refusal) → refused r ≡ bodyFrame (actionMeans body) → Due.Refused Refusal.NoReplyDue ≡ dueOf i (orNone (actionMeans body))
+    broken-due r e = none-due (actionMeans body) r e
 
 -- ---- after the header
 
-module _ (own ap' f : List ℕ) where
-  pub header-refused : (r : Refusal) → refused r ≡ headerMeans own ap' f → Due.Refused r ≡ dueOf (dueMeans own ap' f)
+module _ (i : ℕ) (own ap' f : List ℕ) where
+  pub header-refused : (r : Refusal) → refused r ≡ headerMeans own ap' f → Due.Refused r ≡ dueOf i (dueMeans own ap' f)
   unfolding dueMeans
-  header-refused r e = ap (λ (o : Outcome Head). dueOf (andThen o (afterHeader f))) e
+  header-refused r e = ap (λ (o : Outcome Head). dueOf i (andThen o (afterHeader f))) e
 
   module _ (s : Subtype) (toAll : Bool) (e : accepted (record { subtype = s; toAll = toAll }) ≡ headerMeans own ap' f) where
-    after : dueOf (afterHeader f (record { subtype = s; toAll = toAll })) ≡ dueOf (dueMeans own ap' f)
+    after : dueOf i (afterHeader f (record { subtype = s; toAll = toAll })) ≡ dueOf i (dueMeans own ap' f)
     unfolding dueMeans
-    after = ap (λ (o : Outcome Head). dueOf (andThen o (afterHeader f))) e
+    after = ap (λ (o : Outcome Head). dueOf i (andThen o (afterHeader f))) e
 
-    pub to-all : toAll ≡ true → Due.Refused Refusal.NoReplyDue ≡ dueOf (dueMeans own ap' f)
-    to-all t = sym (ap (λ (x : Bool). dueOf (afterHeader f (record { subtype = s; toAll = x }))) t) ∙ after
+    pub to-all : toAll ≡ true → Due.Refused Refusal.NoReplyDue ≡ dueOf i (dueMeans own ap' f)
+    to-all t = sym (ap (λ (x : Bool). dueOf i (afterHeader f (record { subtype = s; toAll = x }))) t) ∙ after
 
-    pub by-kind : toAll ≡ false → dueOf (bySubtype s (drop 24 f)) ≡ dueOf (dueMeans own ap' f)
-    by-kind t = sym (ap (λ (x : Bool). dueOf (afterHeader f (record { subtype = s; toAll = x }))) t) ∙ after
+    pub by-kind : toAll ≡ false → dueOf i (bySubtype s (bodyOf f)) ≡ dueOf i (dueMeans own ap' f)
+    by-kind t = sym (ap (λ (x : Bool). dueOf i (afterHeader f (record { subtype = s; toAll = x }))) t) ∙ after
 
   -- a frame whose header is read has one
-  pub headed : (h : Head) → accepted h ≡ headerMeans own ap' f → 24 ≤ length f
+  pub headed : (h : Head) → accepted h ≡ headerMeans own ap' f → headerLength ≤ length f
   headed h e = has-header own ap' f h (sym e)

@@ -2,13 +2,12 @@
 -- body too"). `own` is the station's address and `ap` its AP's.
 use mathlib.Core.List.{List}
 use Prim.Native.Nat.{ℕ}
-use lib.ListN.{drop}
 use Rattle.answer.specs.Checks.{Outcome, refused, accepted, pick, andThen}
 use Rattle.answer.specs.declared.Refusal.{Refusal}
-use Rattle.frame.specs.Actions.{Body, requests, reports, tpcRequest, tpcReport, switch, actionMeans}
+use Rattle.frame.specs.Actions.{Body, actionMeans}
+use Rattle.frame.specs.Frames.{bodyOf}
 use Rattle.header.specs.Headers.{Head, headerMeans}
 use Rattle.header.specs.declared.management.Subtype.{Subtype}
-use Rattle.reply.specs.declared.due.Due.{Due}
 
 -- a broken body is due none
 abbrev pub orNone : Outcome Body → Outcome Body
@@ -22,18 +21,8 @@ bySubtype Subtype.Action body = orNone (actionMeans body)
 
 -- after the header: not to all ones, and an action frame
 abbrev pub afterHeader : List ℕ → Head → Outcome Body
-afterHeader f h = pick (h .toAll) (refused Refusal.NoReplyDue) (bySubtype (h .subtype) (drop 24 f))
+afterHeader f h = pick (h .toAll) (refused Refusal.NoReplyDue) (bySubtype (h .subtype) (bodyOf f))
 
 -- the body that a frame asks the station with
 unfoldable pub dueMeans : List ℕ → List ℕ → List ℕ → Outcome Body
 dueMeans own ap f = andThen (headerMeans own ap f) (afterHeader f)
-
--- ---- the code's own term, which no public promise cites: the request by its token
-
-abbrev pub dueOf : Outcome Body → Due
-dueOf (refused r) = Due.Refused r
-dueOf (accepted (requests token rs)) = Due.Measurement token
-dueOf (accepted (reports token rs)) = Due.Refused Refusal.NoReplyDue
-dueOf (accepted (tpcRequest token)) = Due.Tpc token
-dueOf (accepted (tpcReport token t)) = Due.Refused Refusal.NoReplyDue
-dueOf (accepted (switch w)) = Due.Refused Refusal.NoReplyDue

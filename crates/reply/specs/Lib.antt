@@ -1,3 +1,4 @@
+pub mod CodeTerms
 pub mod Due
 pub mod Frames
 pub mod Replies

@@ -37,7 +37,7 @@ module _ (own ap : List ℕ) where
   abbrev pub measurementAnswer : ℕ → ℕ → Readings → Body → Outcome (List ℕ)
   measurementAnswer clock index readings (requests token rs) =
       andThen (andThen (nth index rs) (reportFor clock readings))
-      (λ x. judged (not (reportMay x) ⇒ Refusal.Impossible ∷ []) (replyFrame own ap (bodyOctets reportSort 1 token (x ∷ []))))
+      (λ x. judged (not (reportMay x) ⇒ Refusal.Impossible ∷ []) (replyFrame own ap (bodyOctets reportSort token (x ∷ []))))
   measurementAnswer clock index readings (reports token rs) = refused Refusal.NoReplyDue
   measurementAnswer clock index readings (tpcRequest token) = refused Refusal.Impossible
   measurementAnswer clock index readings (tpcReport token t) = refused Refusal.NoReplyDue

@@ -9,14 +9,20 @@ ghost use Rattle.measurement_element.specs.MeasurementReport.{reportMay};
 ghost use Rattle.measurement_body.specs.Bodies.{bodyOctets};
 ghost use Rattle.measurement_body.specs.Reports.{reportSort};
 ghost use Rattle.octets.specs.Writing.{Written};
+ghost use Rattle.reply.specs.CodeTerms.Asked.{longestReplyBody};
 ghost use Rattle.reply.specs.Frames.{replyHead, replyFrame};
 use answer::Refusal;
 use element::tpc_report::TpcReport;
 use measurement_element::measurement_report::Report;
 use octets::Wrote;
 
+// How many octets the body of a TPC Report has, and at most that of a Measurement Report of one element.
+const TPC_REPORT_BODY: usize = 7;
+
+const LONGEST_REPLY_BODY: usize = 27;
+
 // An action frame to the AP: flags, duration and sequence control are 0.
-fn head(own: [u8; 6], ap: [u8; 6]) -> [u8; 24]
+fn head(own: [u8; 6], ap: [u8; 6]) -> [u8; header::LENGTH]
     ensures { λ r. ⌜ r ≡ replyHead own ap ⌝ }
 {
     [
@@ -49,16 +55,16 @@ fn head(own: [u8; 6], ap: [u8; 6]) -> [u8; 24]
 
 // Refuses a buffer that is too short (13) before anything is put, so that no half frame is ever left.
 fn put_frame(own: [u8; 6], ap: [u8; 6], body: &[u8], buffer: &mut [u8]) -> Wrote
-    requires { ⌜ length (now body) ≤ 27 ⌝ }
+    requires { ⌜ length (now body) ≤ longestReplyBody ⌝ }
     ensures { λ r. ⌜ Written true (replyFrame own ap (now (body .entry))) 0 (now (buffer .entry)) r (now (buffer .exit)) ⌝ }
 {
-    let size = 24 + body.len();
+    let size = header::LENGTH + body.len();
     if buffer.len() < size {
         return Wrote::Refused(Refusal::BufferShort);
     }
     let head = head(own, ap);
     octets::put(true, &head, buffer, 0);
-    octets::put(true, body, buffer, 24);
+    octets::put(true, body, buffer, header::LENGTH);
     Wrote::Length(size)
 }
 
@@ -72,16 +78,16 @@ pub fn put_tpc_report(
 ) -> Wrote
     ensures { λ r. ⌜ Written true (replyFrame own ap (tpcReportBody token report)) 0 (now (buffer .entry)) r (now (buffer .exit)) ⌝ }
 {
-    let mut body = [0u8; 7];
+    let mut body = [0u8; TPC_REPORT_BODY];
     single_body::write_tpc_report(token, report, &mut body, 0);
     put_frame(own, ap, &body, buffer)
 }
 
 // A Measurement Report frame of one element.
 pub fn put_report(own: [u8; 6], ap: [u8; 6], token: u8, report: Report, buffer: &mut [u8]) -> Wrote
-    ensures { λ r. ⌜ Written (reportMay report) (replyFrame own ap (bodyOctets reportSort 1 token (report ∷ []))) 0 (now (buffer .entry)) r (now (buffer .exit)) ⌝ }
+    ensures { λ r. ⌜ Written (reportMay report) (replyFrame own ap (bodyOctets reportSort token (report ∷ []))) 0 (now (buffer .entry)) r (now (buffer .exit)) ⌝ }
 {
-    let mut body = [0u8; 27];
+    let mut body = [0u8; LONGEST_REPLY_BODY];
     match measurement_body::reports::append(&mut body, 0, token, report) {
         Wrote::Refused(refusal) => Wrote::Refused(refusal),
         Wrote::Length(count) => put_frame(own, ap, &body[..count], buffer),

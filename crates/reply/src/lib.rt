@@ -22,9 +22,12 @@ pub fn to_tpc_request(
 ) -> Wrote
     ensures { λ r. ⌜ Replied (tpcReply own ap report (now (frame .entry))) (now (buffer .entry)) r (now (buffer .exit)) ⌝ }
 {
-    match due::request_of(frame, own, ap) {
+    match due::request_of(frame, own, ap, 0) {
         Due::Refused(refusal) => Wrote::Refused(refusal),
-        Due::Measurement { token: _ } => Wrote::Refused(Refusal::Impossible),
+        Due::Measurement {
+            token: _,
+            request: _,
+        } => Wrote::Refused(Refusal::Impossible),
         Due::Tpc { token } => framing::put_tpc_report(own, ap, token, report, buffer),
     }
 }
@@ -41,11 +44,11 @@ pub fn to_measurement_request(
 ) -> Wrote
     ensures { λ r. ⌜ Replied (measurementReply own ap clock index readings (now (frame .entry))) (now (buffer .entry)) r (now (buffer .exit)) ⌝ }
 {
-    match due::request_of(frame, own, ap) {
+    match due::request_of(frame, own, ap, index) {
         Due::Refused(refusal) => Wrote::Refused(refusal),
         Due::Tpc { token: _ } => Wrote::Refused(Refusal::Impossible),
-        Due::Measurement { token } => {
-            let owed = reporting::report_in(&frame[24..], index, clock, readings);
+        Due::Measurement { token, request } => {
+            let owed = reporting::report_on(request, clock, readings);
             let answer = owed.answer;
             let report = owed.report;
             match answer {

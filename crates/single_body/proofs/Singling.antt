@@ -1,54 +1,40 @@
 -- The ways of a body of one element. Assumes nothing.
-use mathlib.Core.Path.{_≡_, refl, sym, ap, _∙_}
-use mathlib.Core.Bool.{Bool, true, false}
-use mathlib.Core.List.{List, [], _∷_}
-use Prim.Native.Nat.{ℕ, _<_, _≤_}
-use native.Mathlib.Omega.{arith}
-use lib.Dec.{leb}
-use lib.ListN.{length, take, drop, length-drop}
-use Rattle.answer.specs.Checks.{Outcome, refused, accepted, pick, andThen}
+use mathlib.Core.Path.{_≡_, sym, ap, _∙_}
+use mathlib.Core.Bool.{true, false}
+use mathlib.Core.List.{List}
+use Prim.Native.Nat.{ℕ, _-_}
+use borrow.Author.Tests.{ltb-true, ltb-false}
+use lib.Dec.{ltb}
+use lib.ListN.{length, take, drop}
+use Rattle.answer.specs.Checks.{Outcome, refused, accepted, andThen}
 use Rattle.answer.specs.declared.Refusal.{Refusal}
-use Rattle.walk.specs.Elements.{Elements, cutContents, more, elementsIn, elementsAfter}
-use Rattle.walk.proofs.Walking.{at-end, headed}
-use Rattle.single_body.specs.Places.{between}
-use Rattle.single_body.specs.Singles.{Sole, sole, alone, single}
+use Rattle.walk.proofs.Requiring.{Lies, left-over, none-left}
+use Rattle.walk.specs.Elements.{Elements, elementsIn}
+use Rattle.walk.specs.Required.{Standing, required, nothingLeft}
+use Rattle.single_body.specs.Singles.{single}
 
-module _ {A : Type 0} (a : A) where
-  by-size : (t : Bool) (id : ℕ) (c : List ℕ) (es : Elements) → alone (pick t (more id c es) (cutContents id)) a ≡ refused Refusal.ElementsUnfit
-  by-size true id c es = refl
-  by-size false id c es = refl
-
-  -- octets that are left are refused
-  left : (os : List ℕ) → 0 < length os → alone (elementsIn os) a ≡ refused Refusal.ElementsUnfit
-  left [] h = absurd (omega arith)
-  left (id ∷ []) h = unfold elementsIn elementsAfter in refl
-  left (id ∷ n ∷ os) h =
-      ap (λ (es : Elements). alone es a) (headed id n os) ∙ by-size (leb n (length os)) id (take n os) (elementsIn (drop n os))
-
-  pub left-over : (body : List ℕ) (stop : ℕ) → stop < length body → alone (elementsIn (drop stop body)) a ≡ refused Refusal.ElementsUnfit
-  left-over body stop h = left (drop stop body) (simp length-drop (omega arith))
-
-  pub none-left : (body : List ℕ) (stop : ℕ) → length body ≤ stop → alone (elementsIn (drop stop body)) a ≡ accepted a
-  none-left body stop h = ap (λ (es : Elements). alone es a) (at-end body stop h)
-
-module _ {A : Type 0} (id : ℕ) (means : List ℕ → Outcome A) (es : Elements) where
-  pub not-there : (r : Refusal) → refused r ≡ sole id es → refused r ≡ single id means es
+module _ {A : Type 0} (id : ℕ) (means : List ℕ → Outcome A) where
+  -- by the element that has to be there
+  by-element : (es : Elements) {o : Outcome Standing} → required id es ≡ o
+      → andThen o (λ s. andThen (means (s .contents)) (nothingLeft (s .rest))) ≡ single id means es
   unfolding single
-  not-there r e = ap (λ (o : Outcome Sole). andThen o (λ s. andThen (means (s .contents)) (alone (s .rest)))) e
+  by-element es e = ap (λ (o : Outcome Standing). andThen o (λ s. andThen (means (s .contents)) (nothingLeft (s .rest)))) (sym e)
 
-  module _ (body : List ℕ) (start stop : ℕ) (e : accepted (between body start stop) ≡ sole id es) where
-    there : andThen (means (between body start stop .contents)) (alone (elementsIn (drop stop body))) ≡ single id means es
-    unfolding single
-    there = ap (λ (o : Outcome Sole). andThen o (λ s. andThen (means (s .contents)) (alone (s .rest)))) e
+  pub not-there : (es : Elements) {r : Refusal} → required id es ≡ refused r → refused r ≡ single id means es
+  not-there es e = by-element es e
 
-    with-means : (o : Outcome A) → o ≡ means (between body start stop .contents) → andThen o (alone (elementsIn (drop stop body))) ≡ single id means es
-    with-means o m = ap (λ (x : Outcome A). andThen x (alone (elementsIn (drop stop body)))) m ∙ there
+  module _ {body : List ℕ} {at start stop : ℕ} (l : Lies body at id start stop) {o : Outcome A}
+      (m : o ≡ means (take (stop - start) (drop start body))) where
+    by-contents : andThen o (nothingLeft (elementsIn (drop stop body))) ≡ single id means (elementsIn (drop at body))
+    by-contents = ap (λ (x : Outcome A). andThen x (nothingLeft (elementsIn (drop stop body)))) m ∙ by-element (elementsIn (drop at body)) (l .stands)
 
-    pub bad : (r : Refusal) → refused r ≡ means (between body start stop .contents) → refused r ≡ single id means es
-    bad r m = with-means (refused r) m
+  module _ {body : List ℕ} {at start stop : ℕ} (l : Lies body at id start stop) where
+    pub bad : {r : Refusal} → refused r ≡ means (take (stop - start) (drop start body)) → refused r ≡ single id means (elementsIn (drop at body))
+    bad m = by-contents l m
 
-    pub crowded : (a : A) → accepted a ≡ means (between body start stop .contents) → stop < length body → refused Refusal.ElementsUnfit ≡ single id means es
-    crowded a m h = sym (left-over a body stop h) ∙ with-means (accepted a) m
+    module _ {a : A} (m : accepted a ≡ means (take (stop - start) (drop start body))) where
+      pub crowded : ltb stop (length body) ≡ true → refused Refusal.ElementsUnfit ≡ single id means (elementsIn (drop at body))
+      crowded h = sym (left-over a body stop (ltb-true stop (length body) h)) ∙ by-contents l m
 
-    pub good : (a : A) → accepted a ≡ means (between body start stop .contents) → length body ≤ stop → accepted a ≡ single id means es
-    good a m h = sym (none-left a body stop h) ∙ with-means (accepted a) m
+      pub good : ltb stop (length body) ≡ false → accepted a ≡ single id means (elementsIn (drop at body))
+      good h = sym (none-left a body stop (ltb-false stop (length body) h)) ∙ by-contents l m

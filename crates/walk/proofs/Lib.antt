@@ -1,1 +1,3 @@
+pub mod Requiring
+pub mod RunLaws
 pub mod Walking

@@ -1,2 +1,3 @@
+pub mod CodeTerms
 pub mod Elements
-pub mod Found
+pub mod Required

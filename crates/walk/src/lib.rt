@@ -2,8 +2,12 @@
 ghost use mathlib.Core.Path.{_≡_};
 ghost use Prim.Native.Nat.{_+_};
 ghost use lib.ListN.{length, drop};
+ghost use lib.Dec.{ltb};
+ghost use Rattle.walk.specs.CodeTerms.Found.{follow, Within};
+ghost use Rattle.walk.specs.CodeTerms.Required.{requiredTold, RequiredWithin};
 ghost use Rattle.walk.specs.Elements.{elementsIn};
-ghost use Rattle.walk.specs.Found.{follow, Within};
+ghost use Rattle.walk.specs.Required.{required};
+use answer::Refusal;
 
 // What stands at a place of a run: nothing, one octet that is no header, a header whose contents run past the end, or an
 // element with its contents from `start` up to `end`.
@@ -37,4 +41,44 @@ pub fn element_at(run: &[u8], at: usize) -> Found
         start,
         end: start + length,
     }
+}
+
+// The element that has to stand at a place: why it does not, or where its contents lie.
+pub enum Required {
+    Refused(Refusal),
+    Contents { start: usize, end: usize },
+}
+
+// The element of this ID at a place.
+pub fn required_at(run: &[u8], at: usize, id: u8) -> Required
+    ensures { λ r. ⌜ requiredTold (now (run .entry)) r ≡ required id (elementsIn (drop at (now (run .entry)))) ⌝ }
+    ensures { λ r. ⌜ RequiredWithin at (length (now (run .entry))) r ⌝ }
+{
+    match element_at(run, at) {
+        Found::End => Required::Refused(Refusal::ElementsUnfit),
+        Found::CutHeader => Required::Refused(Refusal::ElementCut),
+        Found::CutContents(found) => {
+            if found != id {
+                return Required::Refused(Refusal::ElementsUnfit);
+            }
+            Required::Refused(Refusal::ElementCut)
+        }
+        Found::Whole {
+            id: found,
+            start,
+            end,
+        } => {
+            if found != id {
+                return Required::Refused(Refusal::ElementsUnfit);
+            }
+            Required::Contents { start, end }
+        }
+    }
+}
+
+// Whether octets are left from a place on.
+pub fn has_left_over(run: &[u8], at: usize) -> bool
+    ensures { λ r. ⌜ r ≡ ltb at (length (now (run .entry))) ⌝ }
+{
+    at < run.len()
 }

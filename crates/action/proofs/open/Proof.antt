@@ -2,7 +2,6 @@
 use mathlib.Core.Path.{sym, ap, _∙_}
 use mathlib.Core.Bool.{not}
 use borrow.Author.Tests.{eq-eqb, ne-eqb, lt-ltb, le-ltb}
-use Rattle.answer.proofs.Booleans.{and-go, and-stop}
 use Rattle.answer.proofs.Judged.{past, stop, done, through}
 use Rattle.action.specs.Openings.{opensWith}
 use borrow.Author.Needs.{needs}
@@ -52,35 +51,24 @@ returns-6 c =
 returns-7 : tie.Need-returns-7
 unfolding opensWith
 returns-7 c =
-    past _ _ _ (le-ltb _ _ (c .before .before .before .before .before .before .before .before .before .before .before .if1 .left))
-    (past _ _ _ (ap not (eq-eqb _ _ (c .before .before .before .before .before .before .before .before .before .if2 .left)))
-    (past _ _ _ (le-ltb _ _ (c .before .before .before .before .before .before .before .before .if3 .left))
-    (past _ _ _ (le-ltb _ _ (c .before .before .before .before .before .before .if4 .left))
-    (through _ (simp (ne-eqb _ _ (c .before .before .before .before .before .if5 .left))
-    (past _ _ _ (le-ltb _ _ (c .before .before .before .before .if6 .left))
-    (stop _ _ _ (and-go _ (sym (c .before .before .forbids-zero-token .ensures) ∙ c .before .if7 .taken) ∙ eq-eqb _ _ (c .if8 .taken)))))))))
-
-returns-8 : tie.Need-returns-8
-unfolding opensWith
-returns-8 c =
-    past _ _ _ (le-ltb _ _ (c .before .before .before .before .before .before .before .before .before .before .before .if1 .left))
-    (past _ _ _ (ap not (eq-eqb _ _ (c .before .before .before .before .before .before .before .before .before .if2 .left)))
-    (past _ _ _ (le-ltb _ _ (c .before .before .before .before .before .before .before .before .if3 .left))
-    (past _ _ _ (le-ltb _ _ (c .before .before .before .before .before .before .if4 .left))
-    (through _ (simp (ne-eqb _ _ (c .before .before .before .before .before .if5 .left))
-    (past _ _ _ (le-ltb _ _ (c .before .before .before .before .if6 .left))
-    (past _ _ _ (and-go _ (sym (c .before .before .forbids-zero-token .ensures) ∙ c .before .if7 .taken) ∙ ne-eqb _ _ (c .if8 .left)) (done _))))))))
-
-returns-9 : tie.Need-returns-9
-unfolding opensWith
-returns-9 c =
     past _ _ _ (le-ltb _ _ (c .before .before .before .before .before .before .before .before .before .before .if1 .left))
     (past _ _ _ (ap not (eq-eqb _ _ (c .before .before .before .before .before .before .before .before .if2 .left)))
     (past _ _ _ (le-ltb _ _ (c .before .before .before .before .before .before .before .if3 .left))
     (past _ _ _ (le-ltb _ _ (c .before .before .before .before .before .if4 .left))
     (through _ (simp (ne-eqb _ _ (c .before .before .before .before .if5 .left))
     (past _ _ _ (le-ltb _ _ (c .before .before .before .if6 .left))
-    (past _ _ _ (and-stop _ _ (sym (c .before .forbids-zero-token .ensures) ∙ c .if7 .left)) (done _))))))))
+    (stop _ _ _ (sym (c .before .forbids-token .ensures) ∙ c .if7 .taken))))))))
+
+returns-8 : tie.Need-returns-8
+unfolding opensWith
+returns-8 c =
+    past _ _ _ (le-ltb _ _ (c .before .before .before .before .before .before .before .before .before .before .if1 .left))
+    (past _ _ _ (ap not (eq-eqb _ _ (c .before .before .before .before .before .before .before .before .if2 .left)))
+    (past _ _ _ (le-ltb _ _ (c .before .before .before .before .before .before .before .if3 .left))
+    (past _ _ _ (le-ltb _ _ (c .before .before .before .before .before .if4 .left))
+    (through _ (simp (ne-eqb _ _ (c .before .before .before .before .if5 .left))
+    (past _ _ _ (le-ltb _ _ (c .before .before .before .if6 .left))
+    (past _ _ _ (sym (c .before .forbids-token .ensures) ∙ c .if7 .left) (done _))))))))
 
 pub open-spec : {M : Type 1} → statement M
 open-spec =
@@ -97,5 +85,4 @@ open-spec =
     (λ c. search needs)
     (λ c κs. search needs)
     returns-7
-    returns-8
-    returns-9)
+    returns-8)

@@ -9,7 +9,7 @@ use borrow.Author.Needs.{needs}
 use denote.Ref.{now}
 use lib.ListN.{length, take, drop}
 use Rattle.walk.specs.Elements.{elementsIn}
-use Rattle.walk.specs.Found.{follow, Within}
+use Rattle.walk.specs.CodeTerms.Found.{follow, Within}
 use Rattle.walk.specs.declared.Found.{Found}
 use Rattle.beacon.specs.Allowed.{Allowed}
 use Rattle.beacon.specs.Beacons.{tells}

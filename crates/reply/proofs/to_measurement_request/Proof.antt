@@ -2,49 +2,39 @@
 -- Assumes nothing.
 use mathlib.Core.List.{List}
 use mathlib.Core.Path.{_≡_, sym, ap, _∙_}
-use Prim.Native.Nat.{ℕ, _≤_}
 use borrow.Author.Needs.{needs}
 use denote.Ref.{now}
-use lib.ListN.{length}
 use Rattle.answer.specs.Checks.{Outcome, accepted, andThen}
 use Rattle.measurement_element.specs.MeasurementReport.{reportMay, reportLaid}
+use Rattle.measurement_element.specs.MeasurementRequest.{requestTold}
+use Rattle.measurement_element.specs.declared.measurement_report.Report.{Report}
 use Rattle.measurement_element.specs.declared.measurement_request.Request.{Request}
-use Rattle.frame.proofs.Tails.{tail}
-use Rattle.frame.specs.Actions.{Body, requests, actionMeans}
-use Rattle.frame.specs.Frames.{requestIn}
+use Rattle.frame.specs.Actions.{Body, requests}
 use Rattle.measurement_body.specs.Lists.{nth}
 use Rattle.reply.specs.Due.{dueMeans}
 use Rattle.reply.specs.Replies.{measurementAnswer, measurementReply}
 use Rattle.measured_report.specs.Reports.{reportFor}
-use Rattle.reply.proofs.Answering.{tpc-due, measurement-due, no-measurement, due-body, replied-refused, replied-judged, no-report, a-report}
+use Rattle.reply.proofs.Answering.{tpc-due, measurement-due, no-measurement, replied-refused, replied-judged, no-report, a-report}
 use Rattle.reply.proofs.to_measurement_request.Statement.{statement}
 use Rattle.reply.proofs.to_measurement_request.Tie as tie
 
--- the request that is due
+-- the request that is due, and its element at the index
 asked : (c : tie.After-known-told2)
     → let a = c .before .before .before .before .before .before .args in
-    (rs : List Request) × (dueMeans (a .own) (a .ap) (now (a .frame)) ≡ accepted (requests (c .before .token .given .0 .0) rs))
+    let t = c .before .token .given .0 in
+    (rs : List Request) × (dueMeans (a .own) (a .ap) (now (a .frame)) ≡ accepted (requests (t .0) rs)) × (requestTold (t .1 .0) ≡ nth (a .index) rs)
 asked c =
     let a = c .before .before .before .before .before .before .args in
-    measurement-due (dueMeans (a .own) (a .ap) (now (a .frame))) _ (sym (c .before .token .given .1) ∙ c .before .before .before .request-of .ensures)
-
-long : (c : tie.After-known-told2) → 24 ≤ length (now (c .before .before .before .before .before .before .args .frame))
-long c =
-    let a = c .before .before .before .before .before .before .args in
-    due-body (a .own) (a .ap) (now (a .frame)) _ (asked c .1) .0
+    measurement-due (a .index) (dueMeans (a .own) (a .ap) (now (a .frame))) _ _ (sym (c .before .token .given .1) ∙ c .before .before .before .request-of .ensures)
 
 -- what is owed for the element
-owed : (c : tie.After-report-in)
-    → let k = c .before .before in
-    let a = k .before .before .before .before .before .before .args in
-    c .report-in .result ≡ reportLaid (andThen (nth (a .index) (asked k .0)) (reportFor (a .clock) (a .readings)))
+abbrev owedFor : tie.After-known-told2 → Outcome Report
+owedFor c = let a = c .before .before .before .before .before .before .args in andThen (nth (a .index) (asked c .0)) (reportFor (a .clock) (a .readings))
+
+owed : (c : tie.After-report-on) → c .report-on .result ≡ reportLaid (owedFor (c .before))
 owed c =
-    let k = c .before .before in
-    let a = k .before .before .before .before .before .before .args in
-    c .report-in .ensures
-    ∙ ap (λ (s : List ℕ). reportLaid (andThen (andThen (actionMeans s) (requestIn (a .index))) (reportFor (a .clock) (a .readings)))) (tail 24 (now (a .frame)))
-    ∙ ap (λ (o : Outcome Body). reportLaid (andThen (andThen o (requestIn (a .index))) (reportFor (a .clock) (a .readings))))
-    (due-body (a .own) (a .ap) (now (a .frame)) _ (asked k .1) .1)
+    let a = c .before .before .before .before .before .before .before .args in
+    c .report-on .ensures ∙ ap (λ (o : Outcome Request). reportLaid (andThen o (reportFor (a .clock) (a .readings)))) (asked (c .before) .2)
 
 returns : tie.Need-returns
 unfolding measurementReply
@@ -58,26 +48,26 @@ returns-2 : tie.Need-returns-2
 unfolding measurementReply
 returns-2 c =
     let a = c .before .before .before .before .before .args in
-    let due = tpc-due (dueMeans (a .own) (a .ap) (now (a .frame))) _ (sym (c .enum-told .given .1) ∙ c .before .before .request-of .ensures) in
+    let due = tpc-due (a .index) (dueMeans (a .own) (a .ap) (now (a .frame))) _ (sym (c .enum-told .given .1) ∙ c .before .before .request-of .ensures) in
     replied-refused (sym (ap (λ (o : Outcome Body). andThen o (measurementAnswer (a .own) (a .ap) (a .clock) (a .index) (a .readings))) due))
 
 returns-3 : tie.Need-returns-3
 unfolding measurementReply
 returns-3 c =
     let i = c .before .before .before .before in
-    let k = i .before .before in
+    let k = i .before in
     let a = k .before .before .before .before .before .before .args in
-    let none = no-report (andThen (nth (a .index) (asked k .0)) (reportFor (a .clock) (a .readings))) _ (owed i) _ (c .before .answer .given .1) in
+    let none = no-report (owedFor k) _ (owed i) _ (c .before .answer .given .1) in
     replied-refused (sym (ap (λ (o : Outcome Body). andThen o (measurementAnswer (a .own) (a .ap) (a .clock) (a .index) (a .readings))) (asked k .1) ∙ rw none))
 
 returns-4 : tie.Need-returns-4
 unfolding measurementReply
 returns-4 c =
     let i = c .before .before .before .before .before .before .before in
-    let k = i .before .before in
+    let k = i .before in
     let a = k .before .before .before .before .before .before .args in
-    let some = a-report (andThen (nth (a .index) (asked k .0)) (reportFor (a .clock) (a .readings))) _ (owed i) (c .before .before .before .before .enum-told2 .given .1) in
-    replied-judged (reportMay (i .report-in .result .report))
+    let some = a-report (owedFor k) _ (owed i) (c .before .before .before .before .enum-told2 .given .1) in
+    replied-judged (reportMay (i .report-on .result .report))
     (sym (ap (λ (o : Outcome Body). andThen o (measurementAnswer (a .own) (a .ap) (a .clock) (a .index) (a .readings))) (asked k .1) ∙ rw some))
     (c .before .before .put-report .ensures)
 
@@ -88,9 +78,6 @@ to-measurement-request-spec =
     (λ c κs. search needs)
     (λ c. search needs)
     (λ c. search needs)
-    (λ c. search needs)
-    long
-    long
     (λ c. search needs)
     (λ c κs. search needs)
     (λ c. search needs)

@@ -21,14 +21,14 @@ returns-2 : tie.Need-returns-2
 unfolding tpcReply
 returns-2 c =
     let a = c .before .before .before .before .before .args in
-    let due = measurement-due (dueMeans (a .own) (a .ap) (now (a .frame))) _ (sym (c .enum-told .given .1) ∙ c .before .before .request-of .ensures) in
+    let due = measurement-due 0 (dueMeans (a .own) (a .ap) (now (a .frame))) _ _ (sym (c .enum-told .given .1) ∙ c .before .before .request-of .ensures) in
     replied-refused (sym (ap (λ (o : Outcome Body). andThen o (tpcAnswer (a .own) (a .ap) (a .report))) (due .1)))
 
 returns-3 : tie.Need-returns-3
 unfolding tpcReply
 returns-3 c =
     let a = c .before .before .before .before .before .before .before .before .before .before .args in
-    let due = tpc-due (dueMeans (a .own) (a .ap) (now (a .frame))) _ (sym (c .before .before .before .before .before .token .given .1) ∙ c .before .before .before .before .before .before .before .request-of .ensures) in
+    let due = tpc-due 0 (dueMeans (a .own) (a .ap) (now (a .frame))) _ (sym (c .before .before .before .before .before .token .given .1) ∙ c .before .before .before .before .before .before .before .request-of .ensures) in
     replied-written (sym (ap (λ (o : Outcome Body). andThen o (tpcAnswer (a .own) (a .ap) (a .report))) due)) (c .before .before .put-tpc-report .ensures)
 
 pub to-tpc-request-spec : {M : Type 1} → statement M

@@ -12,10 +12,15 @@ returns-2 : tie.Need-returns-2
 returns-2 c = (at-cut-header _ _ (c .before .if1 .left) (c .if2 .taken), tt)
 
 returns-3 : tie.Need-returns-3
-returns-3 c = (at-cut-contents (c .before .before .before .before .before .before .args .run .now) (c .before .before .before .before .before .before .args .at) (omega arith) (omega (arith, c .before .octet-at .ensures)), tt)
+returns-3 c =
+    let a = c .before .before .before .before .before .before .args in
+    (at-cut-contents (a .run .now) (a .at) (omega arith) (omega (arith, c .before .octet-at .ensures)), tt)
 
 returns-4 : tie.Need-returns-4
-returns-4 c = (at-whole (c .before .before .before .before .before .before .args .run .now) (c .before .before .before .before .before .before .args .at) (c .before .octet-at .result) (c .before .octet-at .ensures) (omega arith) (c .if3 .left), omega arith)
+returns-4 c =
+    let a = c .before .before .before .before .before .before .args in
+    let length = c .before .octet-at in
+    (at-whole (a .run .now) (a .at) (length .result) (length .ensures) (omega arith) (c .if3 .left), omega arith)
 
 pub element-at-spec : {M : Type 1} → statement M
 element-at-spec =

@@ -17,7 +17,7 @@ use Rattle.boundary.proofs.bodies.oneiralth_append_request.Tie as tie
 returns : tie.Need-returns
 returns c =
     let w = c .before .before .before .append in
-    subst (λ (q : Request). let a = c .before .before .before .before .before .before .before .args in let b = now (a .buffer) in Put (leb (a .used) (length b) && mayAppend requestSort 0 (a .dialog) q (not (eqb (a .dialog) 0)) (take (a .used) b)) (appended requestSort 0 (a .dialog) q (take (a .used) b)) (a .used) b (c .wrote .result) (w .last .0)) (c .before .before .before .before .before .request .ensures) (put-as _ _ _ _ _ _ _ (w .ensures) (c .wrote .ensures))
+    subst (λ (q : Request). let a = c .before .before .before .before .before .before .before .args in let b = now (a .buffer) in Put (leb (a .used) (length b) && mayAppend requestSort (a .dialog) q (take (a .used) b)) (appended requestSort (a .dialog) q (take (a .used) b)) (a .used) b (c .wrote .result) (w .last .0)) (c .before .before .before .before .before .request .ensures) (put-as _ _ _ _ _ _ _ (w .ensures) (c .wrote .ensures))
 
 pub oneiralth-append-request-spec : {M : Type 1} → statement M
 oneiralth-append-request-spec = tie.close (tie.spec (λ c κs. search needs) (λ c κs. search needs) (λ c κs. search needs) (λ c. search needs) returns)

@@ -1,4 +1,4 @@
--- `bodies::first_put` meets its contract: the two ways.
+-- `first_put` meets its contract: the two ways.
 use borrow.Author.Tests.{eq-eqb, ne-eqb}
 use Rattle.measurement_body.proofs.bodies.first_put.Statement.{statement}
 use Rattle.measurement_body.proofs.bodies.first_put.Tie as tie

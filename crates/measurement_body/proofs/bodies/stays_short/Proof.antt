@@ -1,4 +1,4 @@
--- `bodies::stays_short` meets its contract: what is left of the longest body, compared, says the same as the sum.
+-- `stays_short` meets its contract: what is left of the longest body, compared, says the same as the sum.
 use mathlib.Core.Bool.{Bool, true, false}
 use mathlib.Core.Logic.{⊎-elim}
 use mathlib.Core.Path.{_≡_, refl, sym, _∙_}

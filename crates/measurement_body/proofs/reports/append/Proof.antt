@@ -1,52 +1,46 @@
--- `reports::append` meets its contract: the part of the built octets that is lent is what is put, and the writer does the rest.
-use mathlib.Core.Path.{sym}
-use mathlib.Core.Bool.{true}
+-- `reports::append` meets its contract: what is promised of the element's octets is promised of the report.
+use mathlib.Core.Path.{_≡_, sym, ap, _∙_}
+use Prim.Native.Nat.{ℕ}
+use native.Mathlib.Omega.{arith}
+use lib.ListN.{length, take}
 use lib.Seq.{length-take-le}
-use Rattle.measurement_element.specs.MeasurementReport.{reportOctets}
 use Rattle.measurement_body.specs.Reports.{reportSort}
-use Rattle.measurement_body.proofs.Lending.{lent, start-within, past-end, written}
+use Rattle.measurement_body.proofs.Following.{of-record}
 use borrow.Author.Needs.{needs}
 use Rattle.measurement_body.proofs.reports.append.Statement.{statement}
 use Rattle.measurement_body.proofs.reports.append.Tie as tie
 
+-- the part that is lent is as long as the element
+size : (c : tie.After-append-arg) → length (take (c .before .octet-count .result) (c .before .before .to-octets .result)) ≡ c .before .octet-count .result
+size c =
+    let o = c .before .before .to-octets in
+    let n = c .before .octet-count in
+    length-take-le (n .result) (o .result) (omega (arith, n .ensures .1, o .ensures .0))
+
+slice-aggregate-append : tie.Need-slice-aggregate-append
+slice-aggregate-append c = sym (size (c .before))
+
+append-requires : tie.Need-append-requires
+append-requires c κs = omega (arith, size (c .before), c .before .before .octet-count .ensures .1)
+
 returns : tie.Need-returns
-returns c = past-end _ _ _ _ (c .if1 .taken)
-
-slice-aggregate-may-append : tie.Need-slice-aggregate-may-append
-slice-aggregate-may-append c =
-    let a = c .before .before .before .args in
-    sym (length-take-le (a .used) (a .buffer .now) (c .before .if1 .left))
-
-sub-put : tie.Need-sub-put
-sub-put c = start-within (c .before .before .before .before .before .before .before .args .used) _ _ (c .before .first-put .ensures)
-
-part-put-start : tie.Need-part-put-start
-part-put-start c = start-within (c .before .before .before .before .before .before .before .before .args .used) _ _ (c .before .before .first-put .ensures)
-
-returns-2 : tie.Need-returns-2
-returns-2 c =
-    let a = c .before .before .before .before .before .before .before .before .before .before .before .before .before .args in
-    let o = c .before .before .before .before .before .before .before .before .body-octets in
-    written reportSort 1 (a .token) (a .report) true (a .used) (a .buffer .now) (c .before .before .before .before .before .before .before .before .before .before .before .if1 .left)
-    (c .before .before .before .before .before .before .before .before .before .may-append .ensures)
-    (lent 0 1 (a .token) (reportOctets (a .report)) (o .result) (o .ensures) _ (c .before .before .before .before .before .before .octet-count .ensures .0) (a .used) _ (c .before .before .before .before .before .before .before .first-put .ensures))
-    (c .before .before .put .ensures)
+returns c =
+    let a = c .before .before .before .before .before .before .before .before .before .args in
+    let o = c .before .before .before .before .before .before .to-octets in
+    let n = c .before .before .before .before .before .octet-count in
+    of-record reportSort (a .token) (a .report) (a .used) (a .buffer .now) (c .before .before .before .before .before .before .before .may-write .ensures)
+    (ap (λ (k : ℕ). take k (o .result)) (n .ensures .0) ∙ o .ensures .1)
+    (c .before .before .append .ensures)
 
 pub append-spec : {M : Type 1} → statement M
 append-spec =
     tie.close
     (tie.spec
-    returns
-    (λ c. search needs)
-    slice-aggregate-may-append
-    (λ c κs. search needs)
     (λ c κs. search needs)
     (λ c κs. search needs)
     (λ c κs. search needs)
     (λ c. search needs)
-    sub-put
-    part-put-start
+    slice-aggregate-append
+    append-requires
     (λ c. search needs)
-    (λ c κs. search needs)
-    (λ c. search needs)
-    returns-2)
+    returns)

@@ -9,6 +9,8 @@ use borrow.Author.Needs.{needs}
 use denote.Ref.{now}
 use lib.ListN.{length, length-append}
 use Rattle.octets.specs.Writing.{left}
+use Rattle.frame.specs.Frames.{}
+use Rattle.header.specs.Headers.{headerLength}
 use Rattle.reply.specs.Frames.{replyHead, replyFrame}
 use Rattle.octets.proofs.Storing.{short-written, parts-written}
 use Rattle.reply.proofs.Framed.{head-length}
@@ -16,7 +18,7 @@ use Rattle.reply.proofs.framing.put_frame.Statement.{statement}
 use Rattle.reply.proofs.framing.put_frame.Tie as tie
 
 -- the header's length
-long : (own ap' : List ℕ) (body : List ℕ) → length own ≡ 6 → length ap' ≡ 6 → length (replyFrame own ap' body) ≡ 24 + length body
+long : (own ap' : List ℕ) (body : List ℕ) → length own ≡ 6 → length ap' ≡ 6 → length (replyFrame own ap' body) ≡ headerLength + length body
 long own ap' body o a = length-append (replyHead own ap') body ∙ ap (λ (n : ℕ). n + length body) (head-length own ap' o a)
 
 returns : tie.Need-returns
@@ -33,7 +35,7 @@ returns-2 c =
     let own : length (a .own) ≡ 6 = search needs in
     let ap' : length (a .ap) ≡ 6 = search needs in
     let first = c .before .before .before .before .before .before .put in
-    parts-written (replyHead (a .own) (a .ap)) (now (a .body)) (now (a .buffer)) 24 (sym (head-length (a .own) (a .ap) own ap')) (omega (arith, b .if1 .left))
+    parts-written (replyHead (a .own) (a .ap)) (now (a .body)) (now (a .buffer)) headerLength (sym (head-length (a .own) (a .ap) own ap')) (omega (arith, b .if1 .left))
     _ _
     (first .ensures .leaves ∙ ap (λ (os : List ℕ). left true os 0 (now (a .buffer))) (c .before .before .before .before .before .before .before .before .before .head .ensures))
     (c .before .before .put2 .ensures .leaves)

@@ -9,6 +9,7 @@ use borrow.Author.Needs.{needs}
 use denote.Ref.{now}
 use lib.ListN.{length, take, replicate, length-take}
 use Rattle.measurement_element.specs.MeasurementReport.{reportMay}
+use Rattle.reply.specs.CodeTerms.Asked.{longestReplyBody}
 use Rattle.reply.specs.Frames.{replyFrame}
 use Rattle.octets.proofs.Overwriting.{written-as}
 use Rattle.octets.proofs.Storing.{not-written}
@@ -26,7 +27,7 @@ stands : (c : tie.After-known-told2)
     (reportMay (a .report) ≡ true) × (n ≡ length (body (a .token) (a .report))) × (take n (c .before .before .before .before .append .last .0) ≡ body (a .token) (a .report))
 stands c =
     let a = c .before .before .before .before .before .before .before .args in
-    built (a .token) (a .report) (eight c) (replicate 27 0) _ _ refl (c .before .before .before .before .append .ensures) _ (c .before .count .given .1)
+    built (a .token) (a .report) (eight c) (replicate longestReplyBody 0) _ _ refl (c .before .before .before .before .append .ensures) _ (c .before .count .given .1)
 
 array-share-prefix-body : tie.Need-array-share-prefix-body
 array-share-prefix-body c =
@@ -46,7 +47,7 @@ put-frame-requires c κs =
 returns : tie.Need-returns
 returns c =
     let a = c .before .before .before .before .before .before .before .args in
-    let w = unwritten (a .token) (a .report) (search needs) (replicate 27 0) _ _ refl (c .before .before .before .before .append .ensures) _ (c .before .refusal .given .1) in
+    let w = unwritten (a .token) (a .report) (search needs) (replicate longestReplyBody 0) _ _ refl (c .before .before .before .before .append .ensures) _ (c .before .refusal .given .1) in
     refused-as (w .1) (not-written (replyFrame (a .own) (a .ap) (body (a .token) (a .report))) 0 (now (a .buffer)) (w .0))
 
 returns-2 : tie.Need-returns-2

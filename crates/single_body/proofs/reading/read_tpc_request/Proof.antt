@@ -1,49 +1,44 @@
 -- `read_tpc_request` meets its contract: each way out is a way of a body of one element.
-use mathlib.Core.Path.{sym, ap, subst, _∙_}
-use borrow.Author.Tests.{ltb-true, ltb-false}
+use mathlib.Core.Path.{sym, ap, _∙_}
+use Rattle.action.specs.Openings.{fixedFields}
 use Rattle.element.specs.TpcRequest.{tpcRequestTold, tpcRequestMeans}
-use Rattle.single_body.specs.Places.{placeTold, PlaceWithin}
-use Rattle.single_body.specs.declared.reading.Place.{Place}
+use Rattle.walk.proofs.Requiring.{Lies, lies, is-not}
 use Rattle.single_body.proofs.Singling.{not-there, bad, crowded, good}
 use borrow.Author.Needs.{needs}
 use Rattle.single_body.proofs.reading.read_tpc_request.Statement.{statement}
 use Rattle.single_body.proofs.reading.read_tpc_request.Tie as tie
 
--- the contents lie in the body
-within : (c : tie.After-known-told2)
-    → PlaceWithin (c .before .before .before .before .before .args .body .now) (Place.Contents (c .before .start .given .0 .0) (c .before .start .given .0 .1 .0))
-within c = subst (PlaceWithin (c .before .before .before .before .before .args .body .now)) (c .before .start .given .1) (c .before .before .before .place-of .ensures .1)
+-- where the contents lie
+place : (c : tie.After-known-told2) → Lies (c .before .before .before .before .before .args .body .now) fixedFields 34 (c .before .start .given .0 .0) (c .before .start .given .0 .1 .0)
+place c = let r = c .before .before .before .required-at in lies _ _ _ (r .result) (r .ensures .0) (r .ensures .1) (c .before .start .given .1)
 
 sub-read : tie.Need-sub-read
-sub-read c = within c .0
+sub-read c = place c .ordered
 
 part-read-start : tie.Need-part-read-start
-part-read-start c = within c .0
+part-read-start c = place c .ordered
 
 part-read-end : tie.Need-part-read-end
-part-read-end c = within c .1
+part-read-end c = place c .inside
 
 returns : tie.Need-returns
 returns c =
-    crowded 34 tpcRequestMeans _ (c .before .before .before .before .before .before .before .before .before .before .before .args .body .now) (c .before .before .before .before .before .before .before .start .given .0 .0) (c .before .before .before .before .before .before .before .start .given .0 .1 .0) (ap (placeTold (c .before .before .before .before .before .before .before .before .before .before .before .args .body .now)) (sym (c .before .before .before .before .before .before .before .start .given .1)) ∙ c .before .before .before .before .before .before .before .before .before .place-of .ensures .0) _
-    (ap tpcRequestTold (sym (c .before .before .enum-told .given .1)) ∙ c .before .before .before .before .read .ensures)
-    (ltb-true _ _ (sym (c .before .has-left-over .ensures) ∙ c .if1 .taken))
+    crowded 34 tpcRequestMeans (place (c .before .before .before .before .before .before)) (ap tpcRequestTold (sym (c .before .before .enum-told .given .1)) ∙ c .before .before .before .before .read .ensures)
+    (sym (c .before .has-left-over .ensures) ∙ c .if1 .taken)
 
 returns-2 : tie.Need-returns-2
 returns-2 c =
-    not-there 34 tpcRequestMeans _ _
-    (ap (placeTold (c .before .before .before .before .before .args .body .now)) (sym (c .before .refusal .given .1)) ∙ c .before .before .before .place-of .ensures .0)
+    let r = c .before .before .before .required-at in
+    not-there 34 tpcRequestMeans _ (is-not (c .before .before .before .before .before .args .body .now) fixedFields 34 (r .result) (r .ensures .0) (c .before .refusal .given .1))
 
 returns-3 : tie.Need-returns-3
 returns-3 c =
-    bad 34 tpcRequestMeans _ (c .before .before .before .before .before .before .before .before .before .before .args .body .now) (c .before .before .before .before .before .before .start .given .0 .0) (c .before .before .before .before .before .before .start .given .0 .1 .0) (ap (placeTold (c .before .before .before .before .before .before .before .before .before .before .args .body .now)) (sym (c .before .before .before .before .before .before .start .given .1)) ∙ c .before .before .before .before .before .before .before .before .place-of .ensures .0) _
-    (ap tpcRequestTold (sym (c .before .refusal2 .given .1)) ∙ c .before .before .before .read .ensures)
+    bad 34 tpcRequestMeans (place (c .before .before .before .before .before)) (ap tpcRequestTold (sym (c .before .refusal2 .given .1)) ∙ c .before .before .before .read .ensures)
 
 returns-4 : tie.Need-returns-4
 returns-4 c =
-    good 34 tpcRequestMeans _ (c .before .before .before .before .before .before .before .before .before .before .before .args .body .now) (c .before .before .before .before .before .before .before .start .given .0 .0) (c .before .before .before .before .before .before .before .start .given .0 .1 .0) (ap (placeTold (c .before .before .before .before .before .before .before .before .before .before .before .args .body .now)) (sym (c .before .before .before .before .before .before .before .start .given .1)) ∙ c .before .before .before .before .before .before .before .before .before .place-of .ensures .0) _
-    (ap tpcRequestTold (sym (c .before .before .enum-told .given .1)) ∙ c .before .before .before .before .read .ensures)
-    (ltb-false _ _ (sym (c .before .has-left-over .ensures) ∙ c .if1 .left))
+    good 34 tpcRequestMeans (place (c .before .before .before .before .before .before)) (ap tpcRequestTold (sym (c .before .before .enum-told .given .1)) ∙ c .before .before .before .before .read .ensures)
+    (sym (c .before .has-left-over .ensures) ∙ c .if1 .left)
 
 pub read-tpc-request-spec : {M : Type 1} → statement M
 read-tpc-request-spec =

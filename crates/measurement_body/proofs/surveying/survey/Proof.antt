@@ -1,0 +1,146 @@
+-- `survey` meets its contract: listing the rest after what was met is listing the whole.
+use mathlib.Core.Path.{_≡_, sym, ap, subst, _∙_}
+use mathlib.Core.Bool.{Bool, false, _&&_}
+use mathlib.Core.List.{List}
+use Prim.Native.Nat.{ℕ, _-_, _<_}
+use native.Mathlib.Omega.{arith}
+use lib.ListN.{length, take, drop, getD}
+use Rattle.walk.proofs.Requiring.{Lies, lies, is-not}
+use Rattle.measurement_body.specs.Kinds.{sortOf}
+use Rattle.measurement_body.proofs.Judgements.{Holds, unread, holds}
+use Rattle.measurement_body.proofs.Walked.{Walked, start, absent, unfit, again, further, read, refused-as}
+use borrow.Author.Needs.{needs}
+use Rattle.measurement_body.proofs.surveying.survey.Statement.{statement}
+use Rattle.measurement_body.proofs.surveying.survey.Tie as tie
+
+abbrev Inv-loop : tie.InvT-loop
+Inv-loop body kind index token id once marks₀ count₀ at₀ place₀ plain₀ more₀ marks count at place plain more =
+    Walked (sortOf kind) body index marks count at place plain more
+
+abbrev μ-loop : tie.MeasureT-loop
+μ-loop body kind index token id once marks₀ count₀ at₀ place₀ plain₀ more₀ marks count at place plain more = length body - at
+
+-- the element that a turn meets, where its contents lie
+place : (c : tie.After-known-told2 Inv-loop μ-loop)
+    → Lies (c .before .before .before .before .before .before .before .before .before .args .body .now) (c .before .before .before .before .before .loop .at) (sortOf (c .before .before .before .before .before .before .before .before .before .args .kind) .id) (c .before .start .given .0 .0) (c .before .start .given .0 .1 .0)
+place c =
+    let r = c .before .before .before .required-at in
+    subst (λ (n : ℕ). Lies (c .before .before .before .before .before .before .before .before .before .args .body .now) (c .before .before .before .before .before .loop .at) n (c .before .start .given .0 .0) (c .before .start .given .0 .1 .0)) (c .before .before .before .before .before .before .before .id .ensures)
+    (lies _ _ _ (r .result) (r .ensures .0) (r .ensures .1) (c .before .start .given .1))
+
+abbrev contents : tie.After-known-told2 Inv-loop μ-loop → List ℕ
+contents c = take (c .before .start .given .0 .1 .0 - c .before .start .given .0 .0) (drop (c .before .start .given .0 .0) (c .before .before .before .before .before .before .before .before .before .args .body .now))
+
+-- what they hold
+held : (c : tie.After-known-told4 Inv-loop μ-loop)
+    → Holds (sortOf (c .before .before .before .before .before .before .before .before .before .before .before .before .before .before .args .kind)) (contents (c .before .before .before .before .before)) (c .before .met .given .0 .0) (c .before .met .given .0 .1 .0)
+held c = holds _ _ (sym (c .before .met .given .1) ∙ c .before .before .before .judge .ensures)
+
+small : (c : tie.After-known-told4 Inv-loop μ-loop) → c .before .met .given .0 .0 < 256
+small c = search needs
+
+-- whether it repeats one before it
+repeat : (c : tie.After-both Inv-loop μ-loop) {t : Bool} → c .both .result ≡ t
+    → (sortOf (c .before .before .before .before .before .before .before .before .before .before .before .before .before .before .before .args .kind) .once && getD (c .before .before .before .before .before .before .before .before .before .before .before .loop .marks) (c .before .before .met .given .0 .0) false) ≡ t
+repeat c e =
+    ap (λ (x : Bool). x && getD (c .before .before .before .before .before .before .before .before .before .before .before .loop .marks) (c .before .before .met .given .0 .0) false) (sym (c .before .before .before .before .before .before .before .before .before .before .before .before .has-tokens-once .ensures))
+    ∙ sym (c .both .ensures) ∙ e
+
+loop-holds : tie.Need-loop-holds Inv-loop μ-loop
+loop-holds c = let a = c .before .before .before .args in start (sortOf (a .kind)) (a .body .now) (a .index)
+
+returns : tie.Need-returns Inv-loop μ-loop
+returns c =
+    let a = c .before .before .before .before .before .before .before .before .before .before .args in
+    let l = c .before .before .before .before .before .before .loop in
+    let r = c .before .before .before .before .required-at in
+    refused-as (sortOf (a .kind)) (a .index) (a .token) (a .body .now) (c .refused .ensures)
+    (absent (l .inv) _ (c .before .before .before .before .before .before .before .before .id .ensures) (c .before .before .before .before .before .loop-test .taken) (is-not (a .body .now) (l .at) _ (r .result) (r .ensures .0) (c .before .before .refusal .given .1)))
+
+sub-judge : tie.Need-sub-judge Inv-loop μ-loop
+sub-judge c = place c .ordered
+
+part-judge-start : tie.Need-part-judge-start Inv-loop μ-loop
+part-judge-start c = place c .ordered
+
+part-judge-end : tie.Need-part-judge-end Inv-loop μ-loop
+part-judge-end c = place c .inside
+
+returns-2 : tie.Need-returns-2 Inv-loop μ-loop
+returns-2 c =
+    let p = c .before .before .before .before .before .before in
+    let a = p .before .before .before .before .before .before .before .before .before .args in
+    refused-as (sortOf (a .kind)) (a .index) (a .token) (a .body .now) (c .refused2 .ensures)
+    (unfit (p .before .before .before .before .before .loop .inv) (place p) (unread (sortOf (a .kind)) (contents p) (sym (c .before .before .refusal2 .given .1) ∙ c .before .before .before .before .judge .ensures)))
+
+array-read-both : tie.Need-array-read-both Inv-loop μ-loop
+array-read-both c = omega (arith, small c, c .before .before .before .before .before .before .before .before .before .before .loop .inv .marked .all)
+
+returns-3 : tie.Need-returns-3 Inv-loop μ-loop
+returns-3 c =
+    let h = c .before .before .before in
+    let a = h .before .before .before .before .before .before .before .before .before .before .before .before .before .before .args in
+    refused-as (sortOf (a .kind)) (a .index) (a .token) (a .body .now) (c .refused3 .ensures)
+    (again (h .before .before .before .before .before .before .before .before .before .before .loop .inv) (place (h .before .before .before .before .before)) (held h) (small h) (repeat (c .before .before) (c .before .if1 .taken)))
+
+array-write-marks : tie.Need-array-write-marks Inv-loop μ-loop
+array-write-marks c = omega (arith, small (c .before .before), c .before .before .before .before .before .before .before .before .before .before .before .before .loop .inv .marked .all)
+
+add-count : tie.Need-add-count Inv-loop μ-loop
+add-count c =
+    let p = place (c .before .before .before .before .before .before .before .before .before) in
+    omega (arith, c .before .before .before .before .before .before .before .before .before .before .before .before .before .before .loop .inv .few, p .begins, p .ordered, p .inside)
+
+loop-less : tie.Need-loop-less Inv-loop μ-loop
+loop-less c =
+    let p = place (c .before .before .before .before .before .before .before .before .before .before) in
+    omega (arith, p .begins, p .ordered, p .inside)
+
+loop-again : tie.Need-loop-again Inv-loop μ-loop
+loop-again c =
+    let h = c .before .before .before .before .before in
+    rw (c .before .before .keep .ensures, c .before .both2 .ensures, c .has-left-over .ensures)
+    (further (h .before .before .before .before .before .before .before .before .before .before .loop .inv) (place (h .before .before .before .before .before)) (held h) (small h) (repeat (c .before .before .before .before) (c .before .before .before .if1 .left)))
+
+array-read-hit : tie.Need-array-read-hit Inv-loop μ-loop
+array-read-hit c = omega (arith, c .before .loop .inv .marked .all)
+
+returns-4 : tie.Need-returns-4 Inv-loop μ-loop
+returns-4 c = read (c .before .loop .inv) (c .loop-test .left) (c .before .before .before .before .before .args .token) (search needs)
+
+pub survey-spec : {M : Type 1} → statement M
+survey-spec =
+    tie.close
+    (tie.spec
+    Inv-loop
+    μ-loop
+    (λ c κs. search needs)
+    (λ c κs. search needs)
+    loop-holds
+    (λ c κs. search needs)
+    (λ c. search needs)
+    (λ c κs. search needs)
+    returns
+    (λ c. search needs)
+    sub-judge
+    part-judge-start
+    part-judge-end
+    (λ c κs. search needs)
+    (λ c. search needs)
+    (λ c κs. search needs)
+    returns-2
+    (λ c. search needs)
+    (λ c. search needs)
+    array-read-both
+    (λ c κs. search needs)
+    (λ c κs. search needs)
+    returns-3
+    array-write-marks
+    (λ c κs. search needs)
+    (λ c κs. search needs)
+    add-count
+    (λ c κs. search needs)
+    loop-less
+    loop-again
+    array-read-hit
+    returns-4)

@@ -1,0 +1,3 @@
+-- The code's own terms: places in a run, and what stands there.
+pub mod Found
+pub mod Required
