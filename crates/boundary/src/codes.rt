@@ -1,6 +1,6 @@
 // What a call gives back: a number of 0 or more, or a refusal as minus its number, in the 64 bits of a signed number.
 ghost use mathlib.Core.Path.{_≡_};
-ghost use Rattle.octets.specs.Writing.{told};
+ghost use Rattle.octets.specs.Writing.{wroteTold};
 ghost use Rattle.boundary.specs.Codes.{codeOf, refusalCode, addressOf};
 use answer::Refusal;
 use octets::Wrote;
@@ -12,7 +12,7 @@ pub fn refused(refusal: Refusal) -> u64
 }
 
 pub fn wrote(answer: Wrote) -> u64
-    ensures { λ r. ⌜ r ≡ codeOf (told answer) ⌝ }
+    ensures { λ r. ⌜ r ≡ codeOf (wroteTold answer) ⌝ }
 {
     match answer {
         Wrote::Refused(refusal) => refused(refusal),

@@ -10,9 +10,9 @@ abbrev pub highest : ℕ
 highest = 200
 
 -- the outcome that each case of the answer stands for
-abbrev pub told : Frequency → Outcome ℕ
-told (Frequency.Refused r) = refused r
-told (Frequency.Megahertz f) = accepted f
+abbrev pub centreTold : Frequency → Outcome ℕ
+centreTold (Frequency.Refused r) = refused r
+centreTold (Frequency.Megahertz f) = accepted f
 
 unfoldable pub centreOf : ℕ → Outcome ℕ
 centreOf channel = judged (ltb highest channel ⇒ Refusal.Impossible ∷ []) (5000 + 5 * channel)

@@ -1,6 +1,6 @@
 // Channels and their centre frequencies (document 01, "Numbers that hold"; 802.11h 17.3.8.3.3).
 ghost use mathlib.Core.Path.{_≡_};
-ghost use Rattle.channel.specs.Centres.{told, centreOf};
+ghost use Rattle.channel.specs.Centres.{centreTold, centreOf};
 use answer::Refusal;
 
 // The highest channel number.
@@ -219,7 +219,7 @@ const CENTRES: [u16; 201] = [
 
 // The centre of a channel; over 200 there is none.
 pub fn centre(channel: u8) -> Frequency
-    ensures { λ r. ⌜ told r ≡ centreOf channel ⌝ }
+    ensures { λ r. ⌜ centreTold r ≡ centreOf channel ⌝ }
 {
     if HIGHEST < channel {
         return Frequency::Refused(Refusal::Impossible);

@@ -10,7 +10,7 @@ use Rattle.frame.specs.Frames.{frameMeans}
 use Rattle.frame.specs.Laid.{received, frameLaid}
 use Rattle.frame.specs.declared.Reading.{Reading}
 use Rattle.frame.specs.declared.Received.{Received}
-use Rattle.octets.specs.Writing.{told, wrote, left, after, Written}
+use Rattle.octets.specs.Writing.{wroteTold, wrote, left, after, Written}
 use Rattle.octets.specs.declared.writing.Wrote.{Wrote}
 
 untouched : (may : Bool) (os : List ℕ) (at : ℕ) (buffer : List ℕ) (r : Refusal) → wrote may os at buffer ≡ refused r → left may os at buffer ≡ buffer
@@ -21,7 +21,7 @@ untouched may os at buffer r e = ap (λ (o : Outcome ℕ). after o os at buffer)
 pub refused-write : {may : Bool} {os : List ℕ} {at : ℕ} {buffer : List ℕ} {answer : Wrote} {exit : List ℕ} {r : Refusal}
     → Written may os at buffer answer exit → answer ≡ Wrote.Refused r → exit ≡ buffer
 refused-write {may} {os} {at} {buffer} {r = r} w e =
-    w .leaves ∙ untouched may os at buffer r (sym (w .answers) ∙ ap told e)
+    w .leaves ∙ untouched may os at buffer r (sym (w .answers) ∙ ap wroteTold e)
 
 -- what `frame::read` hands out for a refused frame is one fixed value beside the refusal
 pub refused-frame : (own ap' : List ℕ) (b : ℕ) (f : List ℕ) (r : Refusal) (v : Received) → v ≡ frameLaid (frameMeans own ap' b f)

@@ -6,7 +6,7 @@ use Prim.Native.Nat.{ℕ}
 use denote.Ref.{now}
 use Rattle.answer.specs.Checks.{Outcome, refused, accepted, andThen}
 use Rattle.answer.specs.declared.Refusal.{Refusal}
-use Rattle.octets.specs.Writing.{told, wrote, after, left}
+use Rattle.octets.specs.Writing.{wroteTold, wrote, after, left}
 use Rattle.octets.specs.declared.writing.Wrote.{Wrote}
 use Rattle.measured_report.proofs.report_for as Report-for
 use Rattle.reply.proofs.to_measurement_request as To-measurement-request
@@ -16,7 +16,7 @@ use Rattle.answer.specs.Outcomes.{OneOutcome, OneResult}
 use Rattle.claims.proofs.Same.{once, told-once, answer, answer-told}
 
 replied-once : {o : Outcome (List ℕ)} {buffer : List ℕ} {x y : Wrote} {e f : List ℕ} → Replied o buffer x e → Replied o buffer y f → (x ≡ y) × (e ≡ f)
-replied-once p q = (told-once told answer answer-told (p .answers) (q .answers), once (p .leaves) (q .leaves))
+replied-once p q = (told-once wroteTold answer answer-told (p .answers) (q .answers), once (p .leaves) (q .leaves))
 
 pub report-for : OneResult 0 Report-for.Kinds.ps Report-for.Kinds.r Report-for.Reads.Post
 report-for κs a e f x y p q = once p q
@@ -35,4 +35,4 @@ refused-leaves (refused q) buffer r e = refl
 refused-leaves (accepted os) buffer r e = ap (λ (o : Outcome ℕ). after o os 0 buffer) e
 
 pub refused-reply : {o : Outcome (List ℕ)} {buffer exit : List ℕ} {x : Wrote} {r : Refusal} → Replied o buffer x exit → x ≡ Wrote.Refused r → exit ≡ buffer
-refused-reply {o} {buffer} {r = r} w e = w .leaves ∙ refused-leaves o buffer r (sym (w .answers) ∙ ap told e)
+refused-reply {o} {buffer} {r = r} w e = w .leaves ∙ refused-leaves o buffer r (sym (w .answers) ∙ ap wroteTold e)

@@ -34,7 +34,7 @@ use Rattle.measurement_body.specs.Bodies.{bodyOctets}
 use Rattle.measurement_body.specs.Lists.{nth, mayAll, mayList}
 use Rattle.measurement_body.specs.Reports.{reportSort}
 use Rattle.octets.specs.Numbers.{bit, octet}
-use Rattle.octets.specs.Writing.{told, wrote}
+use Rattle.octets.specs.Writing.{wroteTold, wrote}
 use Rattle.octets.specs.declared.writing.Wrote.{Wrote}
 use Rattle.measured_report.proofs.Findings.{rpiWith}
 use Rattle.octets.proofs.Storing.{room-answer}
@@ -160,11 +160,11 @@ module _ (own master : List ℕ) (six-own : length own ≡ 6) (six-master : leng
   pub measurement-reply-read : (f : List ℕ) (clock index b : ℕ) (readings : Readings) (os : List ℕ) → measurementReply own master clock index readings f ≡ accepted os
       → (c : Carried f clock index readings os)
       × (ReportFits (c .report) → frameMeans own master b (exchanged os) ≡ accepted (record { toAll = false; kind = action (reports (c .token) (c .report ∷ [])) }))
-  measurement-reply-read f clock index b readings os e = (carried f clock index readings os e, told (carried f clock index readings os e))
+  measurement-reply-read f clock index b readings os e = (carried f clock index readings os e, wroteTold (carried f clock index readings os e))
     where
-      told : (c : Carried f clock index readings os) → ReportFits (c .report)
+      wroteTold : (c : Carried f clock index readings os) → ReportFits (c .report)
           → frameMeans own master b (exchanged os) ≡ accepted (record { toAll = false; kind = action (reports (c .token) (c .report ∷ [])) })
-      told c fits =
+      wroteTold c fits =
           ap (λ (xs : List ℕ). frameMeans own master b (exchanged xs)) (c .octets)
           ∙ heard-from-ap (body (c .token) (c .report)) b (reports (c .token) (c .report ∷ [])) (short-body (c .token) (c .report) (fits .1))
           (read-back (c .token) (c .report) fits (c .may))
@@ -217,6 +217,6 @@ element-answered clock q h = by-matter (q .matter) h
 
 -- and a buffer that is long enough takes it
 pub room-enough : {o : Outcome (List ℕ)} {os buffer exit : List ℕ} {answer : Wrote} → Replied o buffer answer exit → o ≡ accepted os → length os ≤ length buffer
-    → told answer ≡ accepted (length os)
+    → wroteTold answer ≡ accepted (length os)
 room-enough {os = os} {buffer = buffer} w e h =
     w .answers ∙ ap (λ (x : Outcome (List ℕ)). andThen x (λ xs. wrote true xs 0 buffer)) e ∙ room-answer os 0 buffer (omega arith)

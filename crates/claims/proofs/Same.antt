@@ -4,7 +4,7 @@ use mathlib.Core.Bool.{Bool}
 use mathlib.Core.List.{List}
 use Prim.Native.Nat.{ℕ}
 use Rattle.answer.specs.Checks.{Outcome, refused, accepted}
-use Rattle.octets.specs.Writing.{told, Written}
+use Rattle.octets.specs.Writing.{wroteTold, Written}
 use Rattle.octets.specs.declared.writing.Wrote.{Wrote}
 
 -- a promise that names the result
@@ -19,7 +19,7 @@ pub answer : Outcome ℕ → Wrote
 answer (refused r) = Wrote.Refused r
 answer (accepted n) = Wrote.Length n
 
-pub answer-told : (w : Wrote) → answer (told w) ≡ w
+pub answer-told : (w : Wrote) → answer (wroteTold w) ≡ w
 unfolding answer
 answer-told (Wrote.Refused r) = refl
 answer-told (Wrote.Length n) = refl
@@ -27,4 +27,4 @@ answer-told (Wrote.Length n) = refl
 -- a writer's promise
 pub written-once : {may : Bool} {os : List ℕ} {at : ℕ} {buffer : List ℕ} {x y : Wrote} {e f : List ℕ}
     → Written may os at buffer x e → Written may os at buffer y f → (x ≡ y) × (e ≡ f)
-written-once p q = (told-once told answer answer-told (p .answers) (q .answers), once (p .leaves) (q .leaves))
+written-once p q = (told-once wroteTold answer answer-told (p .answers) (q .answers), once (p .leaves) (q .leaves))

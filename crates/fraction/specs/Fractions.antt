@@ -24,9 +24,9 @@ unfoldable pub possible : ℕ → ℕ → Bool
 possible duration sum = not (eqb duration 0) && leb sum (1024 * duration)
 
 -- the outcome that each case of the answer stands for
-abbrev pub told : Fraction → Outcome ℕ
-told (Fraction.Refused r) = refused r
-told (Fraction.Is f) = accepted f
+abbrev pub fractionTold : Fraction → Outcome ℕ
+fractionTold (Fraction.Refused r) = refused r
+fractionTold (Fraction.Is f) = accepted f
 
 unfoldable pub busyOf : ℕ → ℕ → Outcome ℕ
 busyOf duration time = judged (not (possible duration time) ⇒ Refusal.Impossible ∷ []) (fractionOf duration time)

@@ -2,7 +2,7 @@
 ghost use mathlib.Core.Path.{_≡_};
 ghost use Prim.Native.Nat.{_*_, _<_, _≤_};
 ghost use Rattle.octets.specs.Sums.{sumOf};
-ghost use Rattle.fraction.specs.Fractions.{possible, fractionOf, told, busyOf, laid, densitiesOf};
+ghost use Rattle.fraction.specs.Fractions.{possible, fractionOf, fractionTold, busyOf, laid, densitiesOf};
 use answer::Answer;
 use answer::Refusal;
 
@@ -39,7 +39,7 @@ fn share(time: u32, duration: u16) -> u8
 
 // The busy fraction of a time in µs within a duration in TU.
 pub fn busy_fraction(time: u32, duration: u16) -> Fraction
-    ensures { λ r. ⌜ told r ≡ busyOf duration time ⌝ }
+    ensures { λ r. ⌜ fractionTold r ≡ busyOf duration time ⌝ }
 {
     if !is_possible(time as u64, duration) {
         return Fraction::Refused(Refusal::Impossible);

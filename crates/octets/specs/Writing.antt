@@ -11,9 +11,9 @@ use Rattle.answer.specs.declared.Refusal.{Refusal}
 use Rattle.octets.specs.declared.writing.Wrote.{Wrote}
 
 -- the outcome that each case of the answer stands for: a number of octets, or a refusal
-abbrev pub told : Wrote → Outcome ℕ
-told (Wrote.Refused r) = refused r
-told (Wrote.Length n) = accepted n
+abbrev pub wroteTold : Wrote → Outcome ℕ
+wroteTold (Wrote.Refused r) = refused r
+wroteTold (Wrote.Length n) = accepted n
 
 -- so many octets from a place on, in a buffer of so many
 unfoldable pub room : Bool → ℕ → ℕ → ℕ → Outcome ℕ
@@ -49,5 +49,5 @@ left may os at buffer = after (wrote may os at buffer) os at buffer
 
 -- what is promised of a writer: its answer, and the buffer as it leaves it
 pub record Written (may : Bool) (os : List ℕ) (at : ℕ) (buffer : List ℕ) (answer : Wrote) (exit : List ℕ) : Type 0 where
-  pub answers : told answer ≡ wrote may os at buffer
+  pub answers : wroteTold answer ≡ wrote may os at buffer
   pub leaves : exit ≡ left may os at buffer

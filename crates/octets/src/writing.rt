@@ -3,7 +3,7 @@ ghost use mathlib.Core.Path.{_≡_};
 ghost use Prim.Native.Nat.{ℕ, _+_, _<_, _≤_};
 ghost use lib.ListN.{length};
 ghost use lib.Seq.{paste};
-ghost use Rattle.octets.specs.Writing.{told, room, storedBy, Written};
+ghost use Rattle.octets.specs.Writing.{wroteTold, room, storedBy, Written};
 use answer::Refusal;
 
 // What a writer answers: how many octets it wrote, or why it wrote none.
@@ -14,7 +14,7 @@ pub enum Wrote {
 
 // The answer for so many octets from a place on, in a buffer of so many.
 fn judge(may: bool, count: usize, at: usize, size: usize) -> Wrote
-    ensures { λ r. ⌜ told r ≡ room may count at size ⌝ }
+    ensures { λ r. ⌜ wroteTold r ≡ room may count at size ⌝ }
 {
     if !may {
         return Wrote::Refused(Refusal::Impossible);
@@ -30,7 +30,7 @@ fn judge(may: bool, count: usize, at: usize, size: usize) -> Wrote
 
 // How many octets are stored: a refusal stores none.
 fn stored(answer: Wrote) -> usize
-    ensures { λ r. ⌜ r ≡ storedBy (told answer) ⌝ }
+    ensures { λ r. ⌜ r ≡ storedBy (wroteTold answer) ⌝ }
 {
     match answer {
         Wrote::Refused(_) => 0,

@@ -16,7 +16,7 @@ use Rattle.measurement_element.specs.declared.measurement_report.Report.{Report
 use Rattle.measurement_body.specs.Bodies.{longestBody, bodyOctets, mayAppend, appended}
 use Rattle.measurement_body.specs.Lists.{allOctets}
 use Rattle.measurement_body.specs.Reports.{reportSort}
-use Rattle.octets.specs.Writing.{told, wrote, left, Written}
+use Rattle.octets.specs.Writing.{wroteTold, wrote, left, Written}
 use Rattle.octets.specs.declared.writing.Wrote.{Wrote}
 use Rattle.octets.proofs.Overwriting.{written-as}
 use Rattle.reply.specs.CodeTerms.Asked.{longestReplyBody}
@@ -68,9 +68,9 @@ module _ (token : ℕ) (x : Report) where
     unwritten r e = by-may (reportMay x) refl
       where
         by-may : (m : Bool) → reportMay x ≡ m → (reportMay x ≡ false) × (r ≡ Refusal.Impossible)
-        by-may true f = absurd (never (sym (ap headerTold e) ∙ as-meant .answers ∙ enough f))
+        by-may true f = absurd (never (sym (ap wroteTold e) ∙ as-meant .answers ∙ enough f))
         by-may false f =
-            let same : refused r ≡ refused Refusal.Impossible = sym (ap headerTold e) ∙ as-meant .answers ∙ not-answer body 0 buffer f in
+            let same : refused r ≡ refused Refusal.Impossible = sym (ap wroteTold e) ∙ as-meant .answers ∙ not-answer body 0 buffer f in
             (f, cc)
 
     -- else the first octets of the buffer are the body
@@ -78,9 +78,9 @@ module _ (token : ℕ) (x : Report) where
     built n e = by-may (reportMay x) refl
       where
         by-may : (m : Bool) → reportMay x ≡ m → (reportMay x ≡ true) × (n ≡ length body) × (take n exit ≡ body)
-        by-may false f = absurd (never (sym (not-answer body 0 buffer f) ∙ sym (as-meant .answers) ∙ ap headerTold e))
+        by-may false f = absurd (never (sym (not-answer body 0 buffer f) ∙ sym (as-meant .answers) ∙ ap wroteTold e))
         by-may true f =
-            let same : accepted n ≡ accepted (length body) = sym (ap headerTold e) ∙ as-meant .answers ∙ enough f in
+            let same : accepted n ≡ accepted (length body) = sym (ap wroteTold e) ∙ as-meant .answers ∙ enough f in
             let count : n ≡ length body = cc in
             let leaves = as-meant .leaves ∙ ap (λ (m : Bool). left m body 0 buffer) f ∙ front-left body buffer (omega (arith, size, short-body eight)) in
             (f, count, filled-front body buffer exit leaves n count)

@@ -12,7 +12,7 @@ use Rattle.frame.specs.Actions.{Body, requests, reports, tpcRequest, tpcReport,
 use Rattle.measurement_body.specs.Bodies.{bodyOctets}
 use Rattle.measurement_body.specs.Lists.{nth}
 use Rattle.measurement_body.specs.Reports.{reportSort}
-use Rattle.octets.specs.Writing.{told, wrote, left}
+use Rattle.octets.specs.Writing.{wroteTold, wrote, left}
 use Rattle.octets.specs.declared.writing.Wrote.{Wrote}
 use Rattle.reply.specs.Due.{dueMeans}
 use Rattle.reply.specs.Frames.{replyFrame}
@@ -54,5 +54,5 @@ leftBy (accepted os) buffer = left true os 0 buffer
 
 -- what is promised of a reply: its answer, and the buffer as it leaves it
 pub record Replied (o : Outcome (List ℕ)) (buffer : List ℕ) (answer : Wrote) (exit : List ℕ) : Type 0 where
-  pub answers : told answer ≡ andThen o (λ os. wrote true os 0 buffer)
+  pub answers : wroteTold answer ≡ andThen o (λ os. wrote true os 0 buffer)
   pub leaves : exit ≡ leftBy o buffer

@@ -38,9 +38,9 @@ pub fn at(station: Station, moment: u32) -> Station
     }
     let mut next = station;
     let mut left = moment - clock;
-    while Station::LONGEST < left {
-        next = told(next.advance(Station::LONGEST), false);
-        left -= Station::LONGEST;
+    while Station::UNIT_LIMIT < left {
+        next = told(next.advance(Station::UNIT_LIMIT), false);
+        left -= Station::UNIT_LIMIT;
     }
     told(next.advance(left), false)
 }

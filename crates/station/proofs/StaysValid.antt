@@ -29,7 +29,7 @@ use Rattle.schedule.specs.Schedules.{setBy}
 use Rattle.schedule.specs.declared.Schedule.{Schedule}
 use Rattle.station.specs.Clock.{stepped, switched, reached, clockAdvance, advancedTo, advanceMeans, advanceOf}
 use Rattle.station.specs.Starting.{startForbids}
-use Rattle.station.specs.Stations.{clockLimit, longest, noSchedule, fresh, withClock, withChannel, withPower, withPending, withSchedules}
+use Rattle.station.specs.Stations.{clockLimit, unitLimit, noSchedule, fresh, withClock, withChannel, withPower, withPending, withSchedules}
 use Rattle.station.specs.Taking.{passed, schedulesOf, rescheduled, constrained, announced, announcedIf, informed, changedBy}
 use Rattle.station.specs.Validity.{PendingFits, Valid}
 use Rattle.station.specs.declared.Station.{Station}
@@ -147,7 +147,7 @@ pub advanced : (s : Station) (n : ℕ) (k : Advanced) → clockAdvance (s .clock
 unfolding clockAdvance advanceMeans
 advanced s n k e v = (
   ap (λ (j : Advanced). stepped s (advancedTo s j)) (sym e),
-  subst (λ (j : Advanced). Valid (stepped s (advancedTo s j) .station)) e (by-test (ltb longest n || ltb clockLimit (s .clock + n))),
+  subst (λ (j : Advanced). Valid (stepped s (advancedTo s j) .station)) e (by-test (ltb unitLimit n || ltb clockLimit (s .clock + n))),
 )
   where
     by-test : (far : Bool) → Valid (stepped s (advancedTo s (pick far Advanced.Refused (reached (s .clock + n) (s .pending)))) .station)

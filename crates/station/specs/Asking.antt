@@ -8,7 +8,7 @@ use Rattle.pending.specs.Waiting.{silences, upTo, comesBefore}
 use Rattle.schedule.specs.Schedules.{covered}
 use Rattle.schedule.specs.Units.{someUnit}
 use Rattle.schedule.specs.declared.Schedule.{Schedule}
-use Rattle.station.specs.Stations.{longest, inUse}
+use Rattle.station.specs.Stations.{unitLimit, inUse}
 use Rattle.station.specs.declared.Station.{Station}
 use Rattle.station.specs.declared.asking.Permission.{Permission}
 
@@ -44,7 +44,7 @@ unfoldable pub permissionOf : Station → ℕ → Permission
 permissionOf s n =
     firstOf
     (eqb n 0 gives Permission.WrongLength
-    ∷ ltb longest n gives Permission.WrongLength
+    ∷ ltb unitLimit n gives Permission.WrongLength
     ∷ silences (s .pending) gives Permission.SwitchSilences
     ∷ quietIn (inUse s) (s .clock) (s .clock + 1) gives Permission.QuietNow
     ∷ quietIn (inUse s) (s .clock + 1) (upTo (s .pending) (s .clock + n)) gives Permission.QuietLater

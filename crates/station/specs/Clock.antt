@@ -9,7 +9,7 @@ use Rattle.answer.specs.declared.Answer.{Answer}
 use Rattle.answer.specs.declared.Refusal.{Refusal}
 use Rattle.beacon.specs.declared.MaybePower.{MaybePower}
 use Rattle.pending.specs.declared.Pending.{Pending}
-use Rattle.station.specs.Stations.{clockLimit, longest, withClock, withChannel, withPower, withPending, withSchedules}
+use Rattle.station.specs.Stations.{clockLimit, unitLimit, withClock, withChannel, withPower, withPending, withSchedules}
 use Rattle.station.specs.declared.Station.{Station}
 use Rattle.station.specs.declared.clock.Advanced.{Advanced}
 use Rattle.station.specs.declared.clock.Stepped.{Stepped}
@@ -29,7 +29,7 @@ reached t (Pending.Switch x) = pick (ltb t (x .at)) (Advanced.Goes t) (Advanced.
 
 -- an advance by n, as the clock and the pending switch decide it
 unfoldable pub clockAdvance : ℕ → Pending → ℕ → Advanced
-clockAdvance t p n = pick (ltb longest n || ltb clockLimit (t + n)) Advanced.Refused (reached (t + n) p)
+clockAdvance t p n = pick (ltb unitLimit n || ltb clockLimit (t + n)) Advanced.Refused (reached (t + n) p)
 
 -- what it makes of a station
 abbrev pub advancedTo : Station → Advanced → Outcome Station

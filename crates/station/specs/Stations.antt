@@ -14,8 +14,8 @@ abbrev pub clockLimit : ℕ
 clockLimit = 4294967295
 
 -- the longest advance and the longest question
-abbrev pub longest : ℕ
-longest = 65535
+abbrev pub unitLimit : ℕ
+unitLimit = 65535
 
 -- what a slot holds that is not in use
 abbrev pub noSchedule : Schedule

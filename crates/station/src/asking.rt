@@ -61,7 +61,7 @@ impl Station {
         if units == 0 {
             return Permission::WrongLength;
         }
-        if Station::LONGEST < units {
+        if Station::UNIT_LIMIT < units {
             return Permission::WrongLength;
         }
         let pending = self.pending;

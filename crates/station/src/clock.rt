@@ -19,7 +19,7 @@ pub enum Advanced {
 pub fn advance_clock(clock: u32, pending: Pending, units: u32) -> Advanced
     ensures { λ r. ⌜ r ≡ clockAdvance clock pending units ⌝ }
 {
-    if Station::LONGEST < units {
+    if Station::UNIT_LIMIT < units {
         return Advanced::Refused;
     }
     if Station::CLOCK_LIMIT - clock < units {

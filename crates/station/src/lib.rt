@@ -42,7 +42,7 @@ impl Station {
     pub const CHANNEL_LIMIT: u8 = channel::HIGHEST;
 
     // The longest advance and the longest question, in TU.
-    pub const LONGEST: u32 = 65535;
+    pub const UNIT_LIMIT: u32 = 65535;
 
     // What a slot holds that is not in use.
     pub const NO_SCHEDULE: Schedule = Schedule {

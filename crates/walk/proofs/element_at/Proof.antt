@@ -14,7 +14,8 @@ returns-2 c = (at-cut-header _ _ (c .before .if1 .left) (c .if2 .taken), tt)
 returns-3 : tie.Need-returns-3
 returns-3 c =
     let a = c .before .before .before .before .before .before .args in
-    (at-cut-contents (a .run .now) (a .at) (omega arith) (omega (arith, c .before .octet-at .ensures)), tt)
+    let length = c .before .octet-at in
+    (at-cut-contents (a .run .now) (a .at) (length .result) (length .ensures) (omega arith) (c .if3 .taken), tt)
 
 returns-4 : tie.Need-returns-4
 returns-4 c =

@@ -2,7 +2,7 @@
 use mathlib.Core.Path.{ap, _∙_}
 use lib.ListN.{length}
 use lib.Seq.{paste}
-use Rattle.octets.specs.Writing.{told, wrote}
+use Rattle.octets.specs.Writing.{wroteTold, wrote}
 use Rattle.octets.proofs.Overwriting.{has-room, pasted}
 use borrow.Author.Needs.{needs}
 use Rattle.octets.proofs.writing.put.Statement.{statement}
@@ -13,7 +13,7 @@ copy-requires c κs =
     let a = c .before .before .before .before .before .args in
     let j = c .before .before .judge in
     rw (c .before .stored .ensures)
-    (has-room (a .may) (length (a .octets .now)) (a .at) (length (a .buffer .now)) (told (j .result)) (j .ensures))
+    (has-room (a .may) (length (a .octets .now)) (a .at) (length (a .buffer .now)) (wroteTold (j .result)) (j .ensures))
 
 returns : tie.Need-returns
 unfolding wrote
@@ -25,7 +25,7 @@ returns c =
       leaves =
           c .before .before .copy .ensures
           ∙ ap (paste (a .buffer .now) (a .at) (a .octets .now)) (c .before .before .before .before .stored .ensures)
-          ∙ pasted (a .may) (a .octets .now) (a .at) (a .buffer .now) (told (j .result)) (j .ensures);
+          ∙ pasted (a .may) (a .octets .now) (a .at) (a .buffer .now) (wroteTold (j .result)) (j .ensures);
     }
 
 pub put-spec : {M : Type 1} → statement M

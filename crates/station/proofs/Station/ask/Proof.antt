@@ -9,7 +9,7 @@ use borrow.Author.Tests.{eq-eqb, ne-eqb, lt-ltb, le-ltb}
 use lib.Dec.{ltb, eqb}
 use Rattle.pending.specs.Waiting.{silences, upTo, comesBefore}
 use Rattle.station.specs.Asking.{quietIn, _gives_, firstOf, permissionOf}
-use Rattle.station.specs.Stations.{longest, inUse}
+use Rattle.station.specs.Stations.{unitLimit, inUse}
 use Rattle.station.specs.declared.asking.Permission.{Permission}
 use Rattle.station.proofs.Answers.{past, stop, done}
 use Rattle.station.proofs.Station.ask.Statement.{statement}
@@ -17,7 +17,7 @@ use Rattle.station.proofs.Station.ask.Tie as tie
 
 -- ---- the cases that do not apply, from the places where this is known
 
-right-length : (c : tie.Else2) → let n = c .before .before .args .units in (eqb n 0 ≡ false) × (ltb longest n ≡ false)
+right-length : (c : tie.Else2) → let n = c .before .before .args .units in (eqb n 0 ≡ false) × (ltb unitLimit n ≡ false)
 right-length c = (ne-eqb _ _ (c .before .if1 .left), le-ltb _ _ (c .if2 .left))
 
 no-silence : (c : tie.Else3) → silences (c .before .before .before .before .before .args .self .pending) ≡ false

@@ -7,27 +7,27 @@ use borrow.Author.Needs.{needs}
 use borrow.Author.Tests.{lt-ltb, le-ltb}
 use Rattle.answer.proofs.Booleans.{or-go, or-stop}
 use Rattle.station.specs.Clock.{reached, clockAdvance}
-use Rattle.station.specs.Stations.{clockLimit, longest}
+use Rattle.station.specs.Stations.{clockLimit, unitLimit}
 use Rattle.station.specs.declared.clock.Advanced.{Advanced}
 use Rattle.station.proofs.clock.advance_clock.Statement.{statement}
 use Rattle.station.proofs.clock.advance_clock.Tie as tie
 
 returns : tie.Need-returns
 unfolding clockAdvance
-returns c = rw (or-stop _ _ (lt-ltb longest (c .before .args .units) (c .if1 .taken)))
+returns c = rw (or-stop _ _ (lt-ltb unitLimit (c .before .args .units) (c .if1 .taken)))
 
 returns-2 : tie.Need-returns-2
 unfolding clockAdvance
 returns-2 c =
     let a = c .before .before .args in
-    rw (or-go _ (le-ltb longest (a .units) (c .before .if1 .left)) ∙ lt-ltb clockLimit (a .clock + a .units) (omega (arith, c .if2 .taken)))
+    rw (or-go _ (le-ltb unitLimit (a .units) (c .before .if1 .left)) ∙ lt-ltb clockLimit (a .clock + a .units) (omega (arith, c .if2 .taken)))
 
 -- past both refusals
 accepted : (c : tie.Else2) {k : Advanced} → let a = c .before .before .args in k ≡ reached (a .clock + a .units) (a .pending) → k ≡ clockAdvance (a .clock) (a .pending) (a .units)
 unfolding clockAdvance
 accepted c e =
     let a = c .before .before .args in
-    rw (or-go _ (le-ltb longest (a .units) (c .before .if1 .left)) ∙ le-ltb clockLimit (a .clock + a .units) (omega (arith, c .if2 .left))) e
+    rw (or-go _ (le-ltb unitLimit (a .units) (c .before .if1 .left)) ∙ le-ltb clockLimit (a .clock + a .units) (omega (arith, c .if2 .left))) e
 
 returns-3 : tie.Need-returns-3
 returns-3 c = accepted (c .before .before .before .before .before) (rw (c .before .before .before .pending .given .1, lt-ltb _ _ (c .if3 .taken)))
