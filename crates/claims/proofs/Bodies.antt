@@ -90,7 +90,7 @@ module _ (own ap' : List ℕ) (b : ℕ) (f : List ℕ) where
   unfolding frameMeans
   accepted-short x e =
       let h = followed (headerMeans own ap' f) _ x e in
-      omega (arith, not-too-long own ap' f (h .0) (h .1), length-bodyOf f)
+      omega (arith, not-too-long own ap' f (h .0) (h .1), length-drop headerLength f)
 
   -- what an accepted action frame says is what its body means
   body-means : (s : Subtype) (body : Body) → kindOf b s (bodyOf f) ≡ accepted (action body) → actionMeans (bodyOf f) ≡ accepted body
@@ -128,5 +128,5 @@ module _ (own ap' : List ℕ) (b : ℕ) (f : List ℕ) where
   unfolding frameMeans
   frame-read-back body fits m short long h a s e =
       let size = ap length e in
-      let head = heard-as own ap' f Subtype.Action (toAll f) long (omega (arith, length-bodyOf f)) h a s refl in
+      let head = heard-as own ap' f Subtype.Action (toAll f) long (omega (arith, length-drop headerLength f)) h a s refl in
       rw (head, e, action-trip .there body fits m)

@@ -55,25 +55,25 @@ frequency : Outcome ℕ → Frequency
 frequency (refused r) = Frequency.Refused r
 frequency (accepted n) = Frequency.Megahertz n
 
-frequency-told : (x : Frequency) → frequency (Centres.told x) ≡ x
+frequency-told : (x : Frequency) → frequency (Centres.centreTold x) ≡ x
 unfolding frequency
 frequency-told (Frequency.Refused r) = refl
 frequency-told (Frequency.Megahertz n) = refl
 
 pub centre : OneResult 0 Centre.Kinds.ps Centre.Kinds.r Centre.Reads.Post
-centre κs a e f x y p q = told-once Centres.told frequency frequency-told p q
+centre κs a e f x y p q = told-once Centres.centreTold frequency frequency-told p q
 
 share : Outcome ℕ → Fraction
 share (refused r) = Fraction.Refused r
 share (accepted n) = Fraction.Is n
 
-share-told : (x : Fraction) → share (Fractions.told x) ≡ x
+share-told : (x : Fraction) → share (Fractions.fractionTold x) ≡ x
 unfolding share
 share-told (Fraction.Refused r) = refl
 share-told (Fraction.Is n) = refl
 
 pub busy-fraction : OneResult 0 Busy-fraction.Kinds.ps Busy-fraction.Kinds.r Busy-fraction.Reads.Post
-busy-fraction κs a e f x y p q = told-once Fractions.told share share-told p q
+busy-fraction κs a e f x y p q = told-once Fractions.fractionTold share share-told p q
 
 pub rpi-densities : OneResult 0 Rpi-densities.Kinds.ps Rpi-densities.Kinds.r Rpi-densities.Reads.Post
 rpi-densities κs a e f x y p q = once (p .0) (q .0)
