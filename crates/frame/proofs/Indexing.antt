@@ -1,5 +1,5 @@
 -- Elements of a body by their index. Assumes nothing.
-use mathlib.Core.Path.{_≡_, refl, sym, ap, subst, _∙_}
+use mathlib.Core.Path.{_≡_, refl, sym, ap, _∙_}
 use mathlib.Core.Bool.{Bool, true, false}
 use mathlib.Core.List.{List}
 use Prim.Native.Nat.{ℕ}
@@ -29,7 +29,6 @@ use Rattle.frame.specs.CodeTerms.Located.{unplaced, placed, located, loc
 use Rattle.frame.specs.Frames.{bodyOf, Kind, beacon, probeResponse, action, kindOf, sent, frameMeans, requestIn, reportIn, ofKind, elementOf}
 use Rattle.frame.specs.Laid.{actionFrame, frameTold, bodyFrame, frameLaid, noticeSubtype}
 use Rattle.frame.specs.declared.Reading.{Reading}
-use Rattle.frame.specs.declared.Received.{Received}
 use Rattle.frame.specs.declared.bodies.Located.{Located}
 use Rattle.frame.proofs.ActionParts.{parts}
 use Rattle.frame.proofs.Handing.{framed}

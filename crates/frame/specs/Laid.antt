@@ -1,7 +1,6 @@
 -- A frame as the code hands it out: counts in place of lists, Quiet elements in slots beside it. A refusal leaves one fixed value.
 use mathlib.Core.Bool.{Bool, true, false}
 use mathlib.Core.List.{List, []}
-use Prim.Native.Nat.{ℕ}
 use lib.ListN.{length}
 use Rattle.answer.specs.Checks.{Outcome, refused, accepted, andThen}
 use Rattle.beacon.specs.Beacons.{Told}

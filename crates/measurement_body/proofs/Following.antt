@@ -14,7 +14,7 @@ use Rattle.answer.specs.Checks.{Outcome, refused, accepted, pick}
 use Rattle.answer.specs.declared.Refusal.{Refusal}
 use Rattle.octets.proofs.Overwriting.{written-as}
 use Rattle.octets.proofs.Storing.{not-written, room-left}
-use Rattle.octets.specs.Writing.{Written, over, left}
+use Rattle.octets.specs.Writing.{Written, left}
 use Rattle.octets.specs.declared.writing.Wrote.{Wrote}
 use Rattle.walk.specs.Elements.{elementsIn}
 use Rattle.measurement_body.specs.Bodies.{longestBody, opening, begins, mayOpen, joins, appended, mayAppend}

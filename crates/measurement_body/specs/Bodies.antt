@@ -3,7 +3,7 @@
 use mathlib.Core.Bool.{Bool, false, not, _&&_, _||_}
 use mathlib.Core.List.{List, [], _∷_, _++_}
 use Prim.Native.Nat.{ℕ, _+_}
-use lib.Dec.{ltb, leb, eqb}
+use lib.Dec.{leb, eqb}
 use lib.ListN.{length, drop}
 use Rattle.action.specs.Openings.{fixedFields, forbidsToken}
 use Rattle.answer.specs.Checks.{Outcome, refused, accepted, pick}

@@ -1,6 +1,6 @@
 -- What one walk of a body finds out: how many elements there are, where the contents of the one at an index lie, whether one has a
 -- certain token, and whether the body is plain, with nothing uninterpreted and no reserved bit set. A refusal leaves one fixed value.
-use mathlib.Core.Bool.{Bool, false, _&&_}
+use mathlib.Core.Bool.{false, _&&_}
 use mathlib.Core.List.{List}
 use Prim.Native.Nat.{ℕ, zero, suc, _+_}
 use lib.ListN.{length, drop}

@@ -16,6 +16,7 @@ pub enum Judged {
     Is { token: u8, plain: bool },
 }
 
+// Contents of an element 38.
 fn judge_request(contents: &[u8]) -> Judged
     ensures { λ r. ⌜ r ≡ judgement requestSort (now (contents .entry)) ⌝ }
 {
@@ -37,6 +38,7 @@ fn judge_request(contents: &[u8]) -> Judged
     }
 }
 
+// Contents of an element 39.
 fn judge_report(contents: &[u8]) -> Judged
     ensures { λ r. ⌜ r ≡ judgement reportSort (now (contents .entry)) ⌝ }
 {
@@ -61,6 +63,7 @@ fn judge_report(contents: &[u8]) -> Judged
     }
 }
 
+// Contents of an element of this kind.
 pub fn judge(kind: Kind, contents: &[u8]) -> Judged
     ensures { λ r. ⌜ r ≡ judgement (sortOf kind) (now (contents .entry)) ⌝ }
 {

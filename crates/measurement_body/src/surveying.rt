@@ -55,6 +55,7 @@ fn keep(place: Place, count: usize, index: usize, start: usize, end: usize) -> P
     place
 }
 
+// Whether both hold.
 fn both(a: bool, b: bool) -> bool
     ensures { λ r. ⌜ r ≡ (a && b) ⌝ }
 {

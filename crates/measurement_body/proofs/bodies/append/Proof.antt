@@ -1,6 +1,5 @@
 -- `append` meets its contract: the part of the built octets that is lent is what is put, and the writer does the rest.
 use mathlib.Core.Path.{sym}
-use native.Mathlib.Omega.{arith}
 use lib.Seq.{length-take-le}
 use Rattle.measurement_body.specs.Kinds.{sortOf}
 use Rattle.measurement_body.proofs.Following.{lent, start-within, past-end, put-as}
