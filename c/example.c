@@ -1,4 +1,4 @@
-/* Reads an announcement, replies to a TPC Request and makes the list of a capture of one block, each by the proved library. Writes what came out. */
+/* Reads an announcement and a beacon, replies to a TPC Request and makes the list of a capture of one block, each by the proved library. Writes what came out. */
 #include "oneiralth.h"
 
 #include <stdio.h>
@@ -23,9 +23,27 @@ static void show_announcement(void) {
     uint8_t frame[64], fields[ONEIRALTH_FRAME];
     size_t length = action(body, sizeof body, frame);
     int64_t answer = oneiralth_read_frame(frame, length, oneiralth_address(OWN), oneiralth_address(AP), 100, fields, sizeof fields);
-    printf("announcement: answer %d, kind %d, mode %d, channel %d, count %d\n", (int)answer, fields[0], fields[35], fields[36], fields[37]);
+    const uint8_t *announcement = fields + ONEIRALTH_FRAME_SWITCH;
+    printf("announcement: answer %d, kind %d, mode %d, channel %d, count %d\n", (int)answer, fields[ONEIRALTH_FRAME_KIND], announcement[1], announcement[2],
+           announcement[3]);
     answer = oneiralth_read_frame(frame, length - 1, oneiralth_address(OWN), oneiralth_address(AP), 100, fields, sizeof fields);
-    printf("cut by an octet: answer %d\n", (int)answer);
+    if (answer == ONEIRALTH_ELEMENT_CUT) printf("cut by an octet: the element runs past the end, answer %d\n", (int)answer);
+}
+
+/* A beacon with two Quiet elements, each read by its index. */
+static void show_quiets(void) {
+    const uint8_t body[] = {0, 0, 0, 0, 0, 0, 0, 0, 100, 0, 0, 0, 40, 6, 1, 0, 10, 0, 20, 0, 40, 6, 2, 4, 5, 0, 99, 0};
+    uint8_t frame[64], fields[ONEIRALTH_FRAME], quiet[ONEIRALTH_QUIET];
+    size_t length = action(body, sizeof body, frame);
+    frame[0] = 0x80;
+    oneiralth_read_frame(frame, length, oneiralth_address(OWN), oneiralth_address(AP), 100, fields, sizeof fields);
+    int many = fields[ONEIRALTH_FRAME_QUIETS];
+    printf("beacon: %d quiet elements\n", many);
+    for (int i = 0; i <= many; i++) {
+        int64_t answer = oneiralth_read_quiet(frame, length, oneiralth_address(OWN), oneiralth_address(AP), 100, (size_t)i, quiet, sizeof quiet);
+        if (answer == ONEIRALTH_IMPOSSIBLE) printf("quiet %d: there is none\n", i);
+        else printf("quiet %d: count %d, offset %d\n", i, quiet[ONEIRALTH_QUIET_COUNT], quiet[ONEIRALTH_QUIET_OFFSET]);
+    }
 }
 
 static void show_reply(void) {
@@ -53,6 +71,7 @@ static void show_list(void) {
 
 int main(void) {
     show_announcement();
+    show_quiets();
     show_reply();
     show_list();
     printf("centre of 36: %d, of 201: %d\n", (int)oneiralth_centre(36), (int)oneiralth_centre(201));

@@ -18,10 +18,82 @@
 extern "C" {
 #endif
 
-/* How many octets the fields of a frame, of a Measurement Request element and of a Measurement Report element are. */
-enum { ONEIRALTH_FRAME = 86, ONEIRALTH_REQUEST = 16, ONEIRALTH_REPORT = 23 };
+/* The answers: 0, or minus a refusal's number (docs/ANSWERS.md). */
+enum {
+    ONEIRALTH_ACCEPTED = 0,
+    ONEIRALTH_TOO_SHORT = -1, /* the frame is under 24 octets, or a fixed field of its body is missing */
+    ONEIRALTH_TOO_LONG = -2, /* the frame is over 2,336 octets */
+    ONEIRALTH_FOREIGN_HEADER = -3, /* version, type, subtype, a flag or the fragment number is none that is read */
+    ONEIRALTH_FOREIGN_ADDRESS = -4, /* SA or BSSID is not the AP, or DA is neither the station nor all ones */
+    ONEIRALTH_FOREIGN_ACTION = -5, /* category not 0, or action over 4 */
+    ONEIRALTH_ELEMENT_CUT = -6, /* an element runs past the frame's end */
+    ONEIRALTH_ELEMENTS_UNFIT = -7, /* the required element is absent, another is in its place, or octets are left over */
+    ONEIRALTH_WRONG_LENGTH = -8, /* the length of an element is wrong */
+    ONEIRALTH_FORBIDDEN_VALUE = -9, /* a value that the rules forbid */
+    ONEIRALTH_REPEATED = -10, /* a second 32, 35 or 37, or a measurement token used twice */
+    ONEIRALTH_TOO_MANY_QUIETS = -11, /* a ninth Quiet element */
+    ONEIRALTH_OTHER_INTERVAL = -12, /* the beacon's interval is not the station's */
+    ONEIRALTH_BUFFER_SHORT = -13, /* the buffer is shorter than what is to be written */
+    ONEIRALTH_PAST_CLOCK = -14, /* the clock would pass its limit, or the advance is over 65,535 */
+    ONEIRALTH_BAD_START = -15, /* a station cannot be started so */
+    ONEIRALTH_IMPOSSIBLE = -16, /* a record that cannot be written, impossible readings, an index past the last, a centre over channel 200 */
+    ONEIRALTH_BLOCK_DAMAGED = -17, /* a damaged block */
+    ONEIRALTH_NO_REPLY_DUE = -18, /* no reply is due */
+    ONEIRALTH_NO_STATION = -19, /* a capture record with no station started */
+    ONEIRALTH_RECORD_MALFORMED = -20 /* a malformed capture record */
+};
 
-/* The kinds of a frame, in octet 0 of its fields. */
+/* Where each field of a frame stands, and how many octets they are; numbers have their least significant octet first. */
+enum {
+    ONEIRALTH_FRAME_KIND = 0,
+    ONEIRALTH_FRAME_TO_ALL = 1,     /* 1 if it was sent to all ones */
+    ONEIRALTH_FRAME_TOKEN = 2,
+    ONEIRALTH_FRAME_ELEMENTS = 3,   /* 8 octets: how many measurement elements */
+    ONEIRALTH_FRAME_QUIETS = 11,    /* 8 octets: how many Quiet elements */
+    ONEIRALTH_FRAME_TIMESTAMP = 19, /* 8 octets */
+    ONEIRALTH_FRAME_CAPABILITY = 27, /* 2 octets */
+    ONEIRALTH_FRAME_POWER = 29,     /* 1 if there is a Power Constraint, and its value */
+    ONEIRALTH_FRAME_REPORT = 31,    /* 1 if there is a TPC Report, power, margin */
+    ONEIRALTH_FRAME_SWITCH = 34,    /* 1 if there is a Channel Switch Announcement, mode, channel, count */
+    ONEIRALTH_FRAME = 38
+};
+
+/* A Quiet element. */
+enum {
+    ONEIRALTH_QUIET_COUNT = 0,
+    ONEIRALTH_QUIET_PERIOD = 1,
+    ONEIRALTH_QUIET_DURATION = 2, /* 2 octets */
+    ONEIRALTH_QUIET_OFFSET = 4,   /* 2 octets */
+    ONEIRALTH_QUIET = 6
+};
+
+/* A Measurement Request element. */
+enum {
+    ONEIRALTH_REQUEST_TOKEN = 0,
+    ONEIRALTH_REQUEST_TYPE = 1,
+    ONEIRALTH_REQUEST_ASKS = 2,
+    ONEIRALTH_REQUEST_REQUEST = 3,
+    ONEIRALTH_REQUEST_REPORT = 4,
+    ONEIRALTH_REQUEST_CHANNEL = 5,
+    ONEIRALTH_REQUEST_START = 6,     /* 8 octets */
+    ONEIRALTH_REQUEST_DURATION = 14, /* 2 octets */
+    ONEIRALTH_REQUEST = 16
+};
+
+/* A Measurement Report element. */
+enum {
+    ONEIRALTH_REPORT_TOKEN = 0,
+    ONEIRALTH_REPORT_TYPE = 1,
+    ONEIRALTH_REPORT_SAYS = 2,
+    ONEIRALTH_REPORT_VALUE = 3, /* the map or the busy fraction */
+    ONEIRALTH_REPORT_CHANNEL = 4,
+    ONEIRALTH_REPORT_START = 5,      /* 8 octets */
+    ONEIRALTH_REPORT_DURATION = 13,  /* 2 octets */
+    ONEIRALTH_REPORT_DENSITIES = 15, /* 8 octets */
+    ONEIRALTH_REPORT = 23
+};
+
+/* The kinds of a frame, at ONEIRALTH_FRAME_KIND. */
 enum {
     ONEIRALTH_BEACON,
     ONEIRALTH_PROBE_RESPONSE,
@@ -57,6 +129,9 @@ static inline uint64_t oneiralth_address(const uint8_t octets[6]) {
 /* ---- reading: the fields are put at fixed places from the front of `out` on */
 
 int64_t oneiralth_read_frame(const uint8_t *frame, size_t frame_length, uint64_t own, uint64_t ap, uint16_t interval, uint8_t *out, size_t out_length);
+/* A Quiet element and a measurement element are read by their index from 0; ONEIRALTH_IMPOSSIBLE where there is none. */
+int64_t oneiralth_read_quiet(const uint8_t *frame, size_t frame_length, uint64_t own, uint64_t ap, uint16_t interval, size_t index, uint8_t *out,
+                             size_t out_length);
 int64_t oneiralth_read_request(const uint8_t *frame, size_t frame_length, uint64_t own, uint64_t ap, uint16_t interval, size_t index, uint8_t *out,
                                size_t out_length);
 int64_t oneiralth_read_report(const uint8_t *frame, size_t frame_length, uint64_t own, uint64_t ap, uint16_t interval, size_t index, uint8_t *out,

@@ -44,13 +44,14 @@ fn input(stage: &Stage, frame: &[u8]) -> String {
 /// What the twin read.
 type Reading<'a> = Result<&'a twin::Received, u8>;
 
-/// Compares a frame, and its measurement elements up to one past the last.
+/// Compares a frame, and its Quiet and measurement elements up to one past the
+/// last.
 pub fn compare(count: &mut Count, stage: &Stage, frame: &[u8]) {
     compare_with(count, stage, frame, indices);
 }
 
-/// Compares a frame, and its measurement elements by the indices that are
-/// chosen for so many.
+/// Compares a frame, and its Quiet and measurement elements by the indices that
+/// are chosen for so many.
 fn compare_with(
     count: &mut Count,
     stage: &Stage,
@@ -66,17 +67,36 @@ fn compare_with(
         &twin.map(pairs::received),
         || input(stage, frame),
     );
-    let (requests, reports) = match twin.map(|received| &received.frame) {
-        Ok(twin::Frame::MeasurementRequest { requests, .. }) => (requests.len(), 0),
-        Ok(twin::Frame::MeasurementReport { reports, .. }) => (0, reports.len()),
-        _ => (0, 0),
+    let (quiets, requests, reports) = match twin.map(|received| &received.frame) {
+        Ok(twin::Frame::Beacon(said) | twin::Frame::ProbeResponse(said)) => (said.quiets.len(), 0, 0),
+        Ok(twin::Frame::MeasurementRequest { requests, .. }) => (0, requests.len(), 0),
+        Ok(twin::Frame::MeasurementReport { reports, .. }) => (0, 0, reports.len()),
+        _ => (0, 0, 0),
     };
+    for index in indices(quiets) {
+        quiet_at(count, stage, frame, twin, index);
+    }
     for index in indices(requests) {
         request_at(count, stage, frame, twin, index);
     }
     for index in indices(reports) {
         report_at(count, stage, frame, twin, index);
     }
+}
+
+/// The Quiet element at an index, as the twin keeps it in the order of the
+/// frame; one past the last, or of another kind, is 16.
+fn quiet_at(count: &mut Count, stage: &Stage, frame: &[u8], twin: Reading<'_>, index: usize) {
+    let library = oneiralth::read_quiet(frame, stage.settings(), index);
+    let twin = twin.and_then(|received| match &received.frame {
+        twin::Frame::Beacon(said) | twin::Frame::ProbeResponse(said) => {
+            said.quiets.get(index).copied().map(pairs::quiet).ok_or(oneiralth::answers::IMPOSSIBLE)
+        }
+        _ => Err(oneiralth::answers::IMPOSSIBLE),
+    });
+    count.values(Call::ReadElement, &library, &twin, || {
+        format!("quiet {:x} of {}", index, input(stage, frame))
+    });
 }
 
 /// The request at an index. One of a frame of another kind is 16, and one of a

@@ -101,12 +101,12 @@ fn notice(given: &twin::Notice) -> library::Notice {
         constraint: given.constraint,
         report: given.tpc_report.map(tpc),
         switch: given.switch.map(switch),
-        quiets: given.quiets.iter().copied().map(quiet).collect(),
+        quiets: given.quiets.len(),
     }
 }
 
-/// The library counts measurement elements where the twin keeps them; they are
-/// compared one by one through their index.
+/// The library counts Quiet and measurement elements where the twin keeps them;
+/// they are compared one by one through their index.
 pub fn received(given: &twin::Received) -> library::Received {
     let frame = match &given.frame {
         twin::Frame::Beacon(said) => library::Frame::Beacon(notice(said)),

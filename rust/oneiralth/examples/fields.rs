@@ -38,7 +38,7 @@ fn octets(text: &str) -> Vec<u8> {
         .collect()
 }
 
-fn notice(told: &mut Fields, notice: &Notice) {
+fn notice(told: &mut Fields, frame: &[u8], notice: &Notice) {
     told.tell("timestamp", notice.timestamp);
     told.tell("capability", notice.capability);
     if let Some(constraint) = notice.constraint {
@@ -51,7 +51,8 @@ fn notice(told: &mut Fields, notice: &Notice) {
     if let Some(switch) = notice.switch {
         switched(told, switch);
     }
-    for quiet in &notice.quiets {
+    for index in 0..notice.quiets {
+        let quiet = oneiralth::read_quiet(frame, SETTINGS, index).expect("an element of an accepted frame");
         told.tell("quiet_count", quiet.count);
         told.tell("quiet_period", quiet.period);
         told.tell("quiet_duration", quiet.duration);
@@ -126,11 +127,11 @@ fn fields(frame: &[u8], received: &Received) -> Fields {
     match &received.frame {
         Frame::Beacon(said) => {
             told.tell("kind", "beacon");
-            notice(&mut told, said);
+            notice(&mut told, frame, said);
         }
         Frame::ProbeResponse(said) => {
             told.tell("kind", "probe_response");
-            notice(&mut told, said);
+            notice(&mut told, frame, said);
         }
         Frame::MeasurementRequest { token, count } => {
             told.tell("kind", "measurement_request");

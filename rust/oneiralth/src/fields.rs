@@ -1,16 +1,6 @@
-//! Records, and the fixed places at which the library puts their fields
-//! (docs/BOUNDARY.md).
+//! Records, as the library puts their fields (`places`).
 
-/// How many octets the fields of a frame are.
-pub const FRAME: usize = 86;
-/// How many those of a Measurement Request element are.
-pub const REQUEST: usize = 16;
-/// How many those of a Measurement Report element are.
-pub const REPORT: usize = 23;
-
-/// Where the eight Quiet elements begin, and how many octets each has.
-const QUIETS: usize = 38;
-const QUIET: usize = 6;
+use crate::places::*;
 
 /// A TPC Report: power in dBm, margin in dB.
 #[derive(Clone, Copy, Debug, PartialEq, Eq)]
@@ -44,8 +34,8 @@ pub struct Notice {
     pub constraint: Option<u8>,
     pub report: Option<TpcReport>,
     pub switch: Option<Switch>,
-    /// In the order of the frame.
-    pub quiets: Vec<Quiet>,
+    /// How many Quiet elements there are, each read by its index.
+    pub quiets: usize,
 }
 
 /// A frame: one of seven kinds.
@@ -144,39 +134,29 @@ fn u64_at(octets: &[u8], at: usize) -> u64 {
     u64::from_le_bytes(number)
 }
 
-fn quiet_at(out: &[u8; FRAME], slot: usize) -> Quiet {
-    let at = QUIETS + QUIET * slot;
-    Quiet {
-        count: out[at],
-        period: out[at + 1],
-        duration: u16_at(out, at + 2),
-        offset: u16_at(out, at + 4),
-    }
-}
-
-fn notice(out: &[u8; FRAME]) -> Notice {
+fn notice(out: &[u8; FRAME_LENGTH]) -> Notice {
     Notice {
-        timestamp: u64_at(out, 19),
-        capability: u16_at(out, 27),
-        constraint: (out[29] == 1).then(|| out[30]),
-        report: (out[31] == 1).then(|| tpc_report(out)),
-        switch: (out[34] == 1).then(|| switch(out)),
-        quiets: (0..u64_at(out, 11) as usize).map(|slot| quiet_at(out, slot)).collect(),
+        timestamp: u64_at(out, TIMESTAMP),
+        capability: u16_at(out, CAPABILITY),
+        constraint: (out[POWER] == 1).then(|| out[POWER + 1]),
+        report: (out[REPORT] == 1).then(|| tpc_report(out)),
+        switch: (out[SWITCH] == 1).then(|| switch(out)),
+        quiets: u64_at(out, QUIETS) as usize,
     }
 }
 
-fn tpc_report(out: &[u8; FRAME]) -> TpcReport {
-    TpcReport { power: out[32] as i8, margin: out[33] as i8 }
+fn tpc_report(out: &[u8; FRAME_LENGTH]) -> TpcReport {
+    TpcReport { power: out[REPORT + 1] as i8, margin: out[REPORT + 2] as i8 }
 }
 
-fn switch(out: &[u8; FRAME]) -> Switch {
-    Switch { mode: out[35], channel: out[36], count: out[37] }
+fn switch(out: &[u8; FRAME_LENGTH]) -> Switch {
+    Switch { mode: out[SWITCH + 1], channel: out[SWITCH + 2], count: out[SWITCH + 3] }
 }
 
-pub fn received(out: &[u8; FRAME]) -> Received {
-    let token = out[2];
-    let count = u64_at(out, 3) as usize;
-    let frame = match out[0] {
+pub fn received(out: &[u8; FRAME_LENGTH]) -> Received {
+    let token = out[TOKEN];
+    let count = u64_at(out, ELEMENTS) as usize;
+    let frame = match out[KIND] {
         0 => Frame::Beacon(notice(out)),
         1 => Frame::ProbeResponse(notice(out)),
         2 => Frame::MeasurementRequest { token, count },
@@ -185,29 +165,39 @@ pub fn received(out: &[u8; FRAME]) -> Received {
         5 => Frame::TpcReport { token, report: tpc_report(out) },
         _ => Frame::ChannelSwitch(switch(out)),
     };
-    Received { broadcast: out[1] == 1, frame }
+    Received { broadcast: out[TO_ALL] == 1, frame }
 }
 
-pub fn request(out: &[u8; REQUEST]) -> Request {
-    let (channel, start, duration) = (out[5], u64_at(out, 6), u16_at(out, 14));
-    let asks = match out[2] {
-        0 => Asks::Enable { request: out[3] == 1, report: out[4] == 1 },
+pub fn quiet(out: &[u8; QUIET_LENGTH]) -> Quiet {
+    Quiet {
+        count: out[QUIET_COUNT],
+        period: out[QUIET_PERIOD],
+        duration: u16_at(out, QUIET_DURATION),
+        offset: u16_at(out, QUIET_OFFSET),
+    }
+}
+
+pub fn request(out: &[u8; REQUEST_LENGTH]) -> Request {
+    let (channel, start, duration) = (out[REQUEST_CHANNEL], u64_at(out, REQUEST_START), u16_at(out, REQUEST_DURATION));
+    let asks = match out[REQUEST_ASKS] {
+        0 => Asks::Enable { request: out[REQUEST_REQUEST] == 1, report: out[REQUEST_REPORT] == 1 },
         1 => Asks::Measure { channel, start, duration },
         _ => Asks::Uninterpreted,
     };
-    Request { token: out[0], kind: out[1], asks }
+    Request { token: out[REQUEST_TOKEN], kind: out[REQUEST_TYPE], asks }
 }
 
-pub fn report(out: &[u8; REPORT]) -> Report {
-    let (value, channel, start, duration) = (out[3], out[4], u64_at(out, 5), u16_at(out, 13));
-    let says = match out[2] {
+pub fn report(out: &[u8; REPORT_LENGTH]) -> Report {
+    let value = out[REPORT_VALUE];
+    let (channel, start, duration) = (out[REPORT_CHANNEL], u64_at(out, REPORT_START), u16_at(out, REPORT_DURATION));
+    let says = match out[REPORT_SAYS] {
         0 => Says::Late,
         1 => Says::Incapable,
         2 => Says::Refused,
         3 => Says::Basic { channel, start, duration, map: value },
         4 => Says::Cca { channel, start, duration, busy: value },
-        5 => Says::Rpi { channel, start, duration, densities: u64_at(out, 15).to_le_bytes() },
+        5 => Says::Rpi { channel, start, duration, densities: u64_at(out, REPORT_DENSITIES).to_le_bytes() },
         _ => Says::Uninterpreted,
     };
-    Report { token: out[0], kind: out[1], says }
+    Report { token: out[REPORT_TOKEN], kind: out[REPORT_TYPE], says }
 }

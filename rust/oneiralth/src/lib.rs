@@ -6,7 +6,9 @@
 //! number of the scope document's table, and leaves the buffer that was lent
 //! as it was.
 
+pub mod answers;
 mod fields;
+pub mod places;
 mod raw;
 
 pub use fields::{Asks, Frame, Notice, Quiet, Received, Report, Request, Says, Switch, TpcReport};
@@ -14,7 +16,7 @@ pub use fields::{Asks, Frame, Notice, Quiet, Received, Report, Request, Says, Sw
 /// A MAC address, in the order of its octets on the air.
 pub type Address = [u8; 6];
 
-/// A refusal's number, from 1 to 20.
+/// A refusal's number, from 1 to 20 (`answers`, docs/ANSWERS.md).
 pub type Refusal = u8;
 
 /// How many octets were written, or why none was.
@@ -71,7 +73,7 @@ fn address(octets: Address) -> u64 {
 
 /// Reads a frame: one of seven kinds, or its refusal.
 pub fn read_frame(frame: &[u8], settings: Settings) -> Result<Received, Refusal> {
-    let mut out = [0; fields::FRAME];
+    let mut out = [0; places::FRAME_LENGTH];
     let (own, ap) = (address(settings.own), address(settings.ap));
     let code = unsafe {
         raw::oneiralth_read_frame(frame.as_ptr(), frame.len(), own, ap, settings.interval, out.as_mut_ptr(), out.len())
@@ -79,10 +81,21 @@ pub fn read_frame(frame: &[u8], settings: Settings) -> Result<Received, Refusal>
     written(code).map(|_| fields::received(&out))
 }
 
+/// The Quiet element at an index of a beacon or a probe response: the frame's
+/// refusal, or 16 where there is none.
+pub fn read_quiet(frame: &[u8], settings: Settings, index: usize) -> Result<Quiet, Refusal> {
+    let mut out = [0; places::QUIET_LENGTH];
+    let (own, ap) = (address(settings.own), address(settings.ap));
+    let code = unsafe {
+        raw::oneiralth_read_quiet(frame.as_ptr(), frame.len(), own, ap, settings.interval, index, out.as_mut_ptr(), out.len())
+    };
+    written(code).map(|_| fields::quiet(&out))
+}
+
 /// The element at an index of a Measurement Request frame: the frame's
 /// refusal, or 16 where there is none.
 pub fn read_request(frame: &[u8], settings: Settings, index: usize) -> Result<Request, Refusal> {
-    let mut out = [0; fields::REQUEST];
+    let mut out = [0; places::REQUEST_LENGTH];
     let (own, ap) = (address(settings.own), address(settings.ap));
     let code = unsafe {
         raw::oneiralth_read_request(frame.as_ptr(), frame.len(), own, ap, settings.interval, index, out.as_mut_ptr(), out.len())
@@ -93,7 +106,7 @@ pub fn read_request(frame: &[u8], settings: Settings, index: usize) -> Result<Re
 /// The element at an index of a Measurement Report frame: the frame's refusal,
 /// or 16 where there is none.
 pub fn read_report(frame: &[u8], settings: Settings, index: usize) -> Result<Report, Refusal> {
-    let mut out = [0; fields::REPORT];
+    let mut out = [0; places::REPORT_LENGTH];
     let (own, ap) = (address(settings.own), address(settings.ap));
     let code = unsafe {
         raw::oneiralth_read_report(frame.as_ptr(), frame.len(), own, ap, settings.interval, index, out.as_mut_ptr(), out.len())

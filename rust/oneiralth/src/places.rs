@@ -1,0 +1,52 @@
+//! Where the library puts each field, and how many octets the fields of each
+//! kind are (docs/BOUNDARY.md). Numbers have their least significant octet
+//! first.
+
+/// The fields of a frame: the kind, whether it was sent to all ones, the dialog
+/// token, how many measurement elements (8 octets) and Quiet elements (8) it
+/// has, timestamp (8) and capability (2).
+pub const KIND: usize = 0;
+pub const TO_ALL: usize = 1;
+pub const TOKEN: usize = 2;
+pub const ELEMENTS: usize = 3;
+pub const QUIETS: usize = 11;
+pub const TIMESTAMP: usize = 19;
+pub const CAPABILITY: usize = 27;
+/// 1 if there is a Power Constraint, and its value.
+pub const POWER: usize = 29;
+/// 1 if there is a TPC Report, power, margin.
+pub const REPORT: usize = 31;
+/// 1 if there is a Channel Switch Announcement, mode, channel, count.
+pub const SWITCH: usize = 34;
+pub const FRAME_LENGTH: usize = 38;
+
+/// The fields of a Quiet element: count, period, duration (2), offset (2).
+pub const QUIET_COUNT: usize = 0;
+pub const QUIET_PERIOD: usize = 1;
+pub const QUIET_DURATION: usize = 2;
+pub const QUIET_OFFSET: usize = 4;
+pub const QUIET_LENGTH: usize = 6;
+
+/// The fields of a Measurement Request element: token, type, what is asked, the
+/// Request bit, the Report bit, channel, start (8), duration (2).
+pub const REQUEST_TOKEN: usize = 0;
+pub const REQUEST_TYPE: usize = 1;
+pub const REQUEST_ASKS: usize = 2;
+pub const REQUEST_REQUEST: usize = 3;
+pub const REQUEST_REPORT: usize = 4;
+pub const REQUEST_CHANNEL: usize = 5;
+pub const REQUEST_START: usize = 6;
+pub const REQUEST_DURATION: usize = 14;
+pub const REQUEST_LENGTH: usize = 16;
+
+/// The fields of a Measurement Report element: token, type, what is said, the
+/// map or the busy fraction, channel, start (8), duration (2), densities (8).
+pub const REPORT_TOKEN: usize = 0;
+pub const REPORT_TYPE: usize = 1;
+pub const REPORT_SAYS: usize = 2;
+pub const REPORT_VALUE: usize = 3;
+pub const REPORT_CHANNEL: usize = 4;
+pub const REPORT_START: usize = 5;
+pub const REPORT_DURATION: usize = 13;
+pub const REPORT_DENSITIES: usize = 15;
+pub const REPORT_LENGTH: usize = 23;
