@@ -7,6 +7,7 @@ use native.Mathlib.Omega.{arith}
 use lib.ListN.{length, take, drop, getD}
 use Rattle.walk.proofs.Requiring.{Lies, lies, is-not}
 use Rattle.measurement_body.specs.Kinds.{sortOf}
+use Rattle.measurement_body.specs.declared.kinds.Kind.{Kind}
 use Rattle.measurement_body.proofs.Judgements.{Holds, unread, holds}
 use Rattle.measurement_body.proofs.Walked.{Walked, start, absent, unfit, again, further, read, refused-as}
 use borrow.Author.Needs.{needs}
@@ -20,31 +21,57 @@ Inv-loop body kind index token id once marks₀ count₀ at₀ place₀ plain₀
 abbrev μ-loop : tie.MeasureT-loop
 μ-loop body kind index token id once marks₀ count₀ at₀ place₀ plain₀ more₀ marks count at place plain more = length body - at
 
--- the element that a turn meets, where its contents lie
-place : (c : tie.After-known-told2 Inv-loop μ-loop)
-    → Lies (c .before .before .before .before .before .before .before .before .before .args .body .now) (c .before .before .before .before .before .loop .at) (sortOf (c .before .before .before .before .before .before .before .before .before .args .kind) .id) (c .before .start .given .0 .0) (c .before .start .given .0 .1 .0)
+-- ---- the element that a turn meets
+
+-- in the body of the call, from where the walk stands, between two places
+abbrev body : tie.After-known-told2 Inv-loop μ-loop → List ℕ
+body c = c .before .before .before .before .before .before .before .before .before .args .body .now
+
+abbrev kind : tie.After-known-told2 Inv-loop μ-loop → Kind
+kind c = c .before .before .before .before .before .before .before .before .before .args .kind
+
+abbrev at : tie.After-known-told2 Inv-loop μ-loop → ℕ
+at c = c .before .before .before .before .before .loop .at
+
+abbrev begin : tie.After-known-told2 Inv-loop μ-loop → ℕ
+begin c = c .before .start .given .0 .0
+
+abbrev stop : tie.After-known-told2 Inv-loop μ-loop → ℕ
+stop c = c .before .start .given .0 .1 .0
+
+place : (c : tie.After-known-told2 Inv-loop μ-loop) → Lies (body c) (at c) (sortOf (kind c) .id) (begin c) (stop c)
 place c =
     let r = c .before .before .before .required-at in
-    subst (λ (n : ℕ). Lies (c .before .before .before .before .before .before .before .before .before .args .body .now) (c .before .before .before .before .before .loop .at) n (c .before .start .given .0 .0) (c .before .start .given .0 .1 .0)) (c .before .before .before .before .before .before .before .id .ensures)
+    subst (λ (n : ℕ). Lies (body c) (at c) n (begin c) (stop c)) (c .before .before .before .before .before .before .before .id .ensures)
     (lies _ _ _ (r .result) (r .ensures .0) (r .ensures .1) (c .before .start .given .1))
 
 abbrev contents : tie.After-known-told2 Inv-loop μ-loop → List ℕ
-contents c = take (c .before .start .given .0 .1 .0 - c .before .start .given .0 .0) (drop (c .before .start .given .0 .0) (c .before .before .before .before .before .before .before .before .before .args .body .now))
+contents c = take (stop c - begin c) (drop (begin c) (body c))
 
--- what they hold
-held : (c : tie.After-known-told4 Inv-loop μ-loop)
-    → Holds (sortOf (c .before .before .before .before .before .before .before .before .before .before .before .before .before .before .args .kind)) (contents (c .before .before .before .before .before)) (c .before .met .given .0 .0) (c .before .met .given .0 .1 .0)
+-- ---- what its contents hold
+
+abbrev meets : tie.After-known-told4 Inv-loop μ-loop → tie.After-known-told2 Inv-loop μ-loop
+meets c = c .before .before .before .before .before
+
+abbrev own : tie.After-known-told4 Inv-loop μ-loop → ℕ
+own c = c .before .met .given .0 .0
+
+held : (c : tie.After-known-told4 Inv-loop μ-loop) → Holds (sortOf (kind (meets c))) (contents (meets c)) (own c) (c .before .met .given .0 .1 .0)
 held c = holds _ _ (sym (c .before .met .given .1) ∙ c .before .before .before .judge .ensures)
 
-small : (c : tie.After-known-told4 Inv-loop μ-loop) → c .before .met .given .0 .0 < 256
+small : (c : tie.After-known-told4 Inv-loop μ-loop) → own c < 256
 small c = search needs
 
--- whether it repeats one before it
-repeat : (c : tie.After-both Inv-loop μ-loop) {t : Bool} → c .both .result ≡ t
-    → (sortOf (c .before .before .before .before .before .before .before .before .before .before .before .before .before .before .before .args .kind) .once && getD (c .before .before .before .before .before .before .before .before .before .before .before .loop .marks) (c .before .before .met .given .0 .0) false) ≡ t
+-- whether its token is marked, where a token may stand once
+abbrev marks : tie.After-known-told4 Inv-loop μ-loop → List Bool
+marks c = c .before .before .before .before .before .before .before .before .before .before .loop .marks
+
+repeat : (c : tie.After-both Inv-loop μ-loop) {t : Bool} → c .both .result ≡ t → (sortOf (kind (meets (c .before))) .once && getD (marks (c .before)) (own (c .before)) false) ≡ t
 repeat c e =
-    ap (λ (x : Bool). x && getD (c .before .before .before .before .before .before .before .before .before .before .before .loop .marks) (c .before .before .met .given .0 .0) false) (sym (c .before .before .before .before .before .before .before .before .before .before .before .before .has-tokens-once .ensures))
+    ap (λ (x : Bool). x && getD (marks (c .before)) (own (c .before)) false) (sym (c .before .before .before .before .before .before .before .before .before .before .before .before .has-tokens-once .ensures))
     ∙ sym (c .both .ensures) ∙ e
+
+-- ---- the ways out
 
 loop-holds : tie.Need-loop-holds Inv-loop μ-loop
 loop-holds c = let a = c .before .before .before .args in start (sortOf (a .kind)) (a .body .now) (a .index)
@@ -81,7 +108,7 @@ returns-3 c =
     let h = c .before .before .before in
     let a = h .before .before .before .before .before .before .before .before .before .before .before .before .before .before .args in
     refused-as (sortOf (a .kind)) (a .index) (a .token) (a .body .now) (c .refused3 .ensures)
-    (again (h .before .before .before .before .before .before .before .before .before .before .loop .inv) (place (h .before .before .before .before .before)) (held h) (small h) (repeat (c .before .before) (c .before .if1 .taken)))
+    (again (h .before .before .before .before .before .before .before .before .before .before .loop .inv) (place (meets h)) (held h) (small h) (repeat (c .before .before) (c .before .if1 .taken)))
 
 array-write-marks : tie.Need-array-write-marks Inv-loop μ-loop
 array-write-marks c = omega (arith, small (c .before .before), c .before .before .before .before .before .before .before .before .before .before .before .before .loop .inv .marked .all)
@@ -100,7 +127,7 @@ loop-again : tie.Need-loop-again Inv-loop μ-loop
 loop-again c =
     let h = c .before .before .before .before .before in
     rw (c .before .before .keep .ensures, c .before .both2 .ensures, c .has-left-over .ensures)
-    (further (h .before .before .before .before .before .before .before .before .before .before .loop .inv) (place (h .before .before .before .before .before)) (held h) (small h) (repeat (c .before .before .before .before) (c .before .before .before .if1 .left)))
+    (further (h .before .before .before .before .before .before .before .before .before .before .loop .inv) (place (meets h)) (held h) (small h) (repeat (c .before .before .before .before) (c .before .before .before .if1 .left)))
 
 array-read-hit : tie.Need-array-read-hit Inv-loop μ-loop
 array-read-hit c = omega (arith, c .before .loop .inv .marked .all)

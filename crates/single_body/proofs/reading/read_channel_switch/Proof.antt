@@ -1,5 +1,7 @@
 -- `read_channel_switch` meets its contract: each way out is a way of a body of one element.
 use mathlib.Core.Path.{sym, ap, _∙_}
+use mathlib.Core.List.{List}
+use Prim.Native.Nat.{ℕ}
 use Rattle.action.specs.Openings.{switchFixedFields}
 use Rattle.element.specs.ChannelSwitch.{switchTold, switchMeans}
 use Rattle.walk.proofs.Requiring.{Lies, lies, is-not}
@@ -8,8 +10,17 @@ use borrow.Author.Needs.{needs}
 use Rattle.single_body.proofs.reading.read_channel_switch.Statement.{statement}
 use Rattle.single_body.proofs.reading.read_channel_switch.Tie as tie
 
--- where the contents lie
-place : (c : tie.After-known-told2) → Lies (c .before .before .before .before .before .args .body .now) switchFixedFields 37 (c .before .start .given .0 .0) (c .before .start .given .0 .1 .0)
+-- where the contents lie in the body
+abbrev body : tie.After-known-told2 → List ℕ
+body c = c .before .before .before .before .before .args .body .now
+
+abbrev start : tie.After-known-told2 → ℕ
+start c = c .before .start .given .0 .0
+
+abbrev stop : tie.After-known-told2 → ℕ
+stop c = c .before .start .given .0 .1 .0
+
+place : (c : tie.After-known-told2) → Lies (body c) switchFixedFields 37 (start c) (stop c)
 place c = let r = c .before .before .before .required-at in lies _ _ _ (r .result) (r .ensures .0) (r .ensures .1) (c .before .start .given .1)
 
 sub-read : tie.Need-sub-read
@@ -23,7 +34,8 @@ part-read-end c = place c .inside
 
 returns : tie.Need-returns
 returns c =
-    crowded 37 switchMeans (place (c .before .before .before .before .before .before .before)) (ap switchTold (sym (c .before .before .before .switch .given .1)) ∙ c .before .before .before .before .before .read .ensures)
+    let m = c .before .before .before in
+    crowded 37 switchMeans (place (m .before .before .before .before)) (ap switchTold (sym (m .switch .given .1)) ∙ m .before .before .read .ensures)
     (sym (c .before .has-left-over .ensures) ∙ c .if1 .taken)
 
 returns-2 : tie.Need-returns-2
@@ -37,7 +49,8 @@ returns-3 c =
 
 returns-4 : tie.Need-returns-4
 returns-4 c =
-    good 37 switchMeans (place (c .before .before .before .before .before .before .before)) (ap switchTold (sym (c .before .before .before .switch .given .1)) ∙ c .before .before .before .before .before .read .ensures)
+    let m = c .before .before .before in
+    good 37 switchMeans (place (m .before .before .before .before)) (ap switchTold (sym (m .switch .given .1)) ∙ m .before .before .read .ensures)
     (sym (c .before .has-left-over .ensures) ∙ c .if1 .left)
 
 pub read-channel-switch-spec : {M : Type 1} → statement M

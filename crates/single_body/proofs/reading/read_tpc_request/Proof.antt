@@ -1,5 +1,7 @@
 -- `read_tpc_request` meets its contract: each way out is a way of a body of one element.
 use mathlib.Core.Path.{sym, ap, _∙_}
+use mathlib.Core.List.{List}
+use Prim.Native.Nat.{ℕ}
 use Rattle.action.specs.Openings.{fixedFields}
 use Rattle.element.specs.TpcRequest.{tpcRequestTold, tpcRequestMeans}
 use Rattle.walk.proofs.Requiring.{Lies, lies, is-not}
@@ -8,8 +10,17 @@ use borrow.Author.Needs.{needs}
 use Rattle.single_body.proofs.reading.read_tpc_request.Statement.{statement}
 use Rattle.single_body.proofs.reading.read_tpc_request.Tie as tie
 
--- where the contents lie
-place : (c : tie.After-known-told2) → Lies (c .before .before .before .before .before .args .body .now) fixedFields 34 (c .before .start .given .0 .0) (c .before .start .given .0 .1 .0)
+-- where the contents lie in the body
+abbrev body : tie.After-known-told2 → List ℕ
+body c = c .before .before .before .before .before .args .body .now
+
+abbrev start : tie.After-known-told2 → ℕ
+start c = c .before .start .given .0 .0
+
+abbrev stop : tie.After-known-told2 → ℕ
+stop c = c .before .start .given .0 .1 .0
+
+place : (c : tie.After-known-told2) → Lies (body c) fixedFields 34 (start c) (stop c)
 place c = let r = c .before .before .before .required-at in lies _ _ _ (r .result) (r .ensures .0) (r .ensures .1) (c .before .start .given .1)
 
 sub-read : tie.Need-sub-read
@@ -23,7 +34,8 @@ part-read-end c = place c .inside
 
 returns : tie.Need-returns
 returns c =
-    crowded 34 tpcRequestMeans (place (c .before .before .before .before .before .before)) (ap tpcRequestTold (sym (c .before .before .enum-told .given .1)) ∙ c .before .before .before .before .read .ensures)
+    let m = c .before .before in
+    crowded 34 tpcRequestMeans (place (m .before .before .before .before)) (ap tpcRequestTold (sym (m .enum-told .given .1)) ∙ m .before .before .read .ensures)
     (sym (c .before .has-left-over .ensures) ∙ c .if1 .taken)
 
 returns-2 : tie.Need-returns-2
@@ -37,7 +49,8 @@ returns-3 c =
 
 returns-4 : tie.Need-returns-4
 returns-4 c =
-    good 34 tpcRequestMeans (place (c .before .before .before .before .before .before)) (ap tpcRequestTold (sym (c .before .before .enum-told .given .1)) ∙ c .before .before .before .before .read .ensures)
+    let m = c .before .before in
+    good 34 tpcRequestMeans (place (m .before .before .before .before)) (ap tpcRequestTold (sym (m .enum-told .given .1)) ∙ m .before .before .read .ensures)
     (sym (c .before .has-left-over .ensures) ∙ c .if1 .left)
 
 pub read-tpc-request-spec : {M : Type 1} → statement M
