@@ -89,7 +89,7 @@ fn beacon(told: impl FnOnce(&mut oneiralth::Notice)) -> Received {
         constraint: None,
         report: None,
         switch: None,
-        quiets: Vec::new(),
+        quiets: 0,
     };
     told(&mut notice);
     Received {
@@ -232,8 +232,10 @@ fn quiets(count: &mut Count, rng: &mut Rng) {
         };
         if let Some(element) = writers.in_all_lengths(count, (record, interval)) {
             let stage = Stage::usual(interval);
-            let expected = beacon(|notice| notice.quiets.push(pairs::quiet(record)));
-            read_back(count, &stage, &notice(&stage, BEACON, &element), expected);
+            let frame = notice(&stage, BEACON, &element);
+            read_back(count, &stage, &frame, beacon(|notice| notice.quiets = 1));
+            let read = oneiralth::read_quiet(&frame, stage.settings(), 0);
+            count.values(Call::ReadElement, &read, &Ok(pairs::quiet(record)), || format!("quiet read back from {}", hex(&frame)));
         }
     }
 }
