@@ -31,7 +31,7 @@ use Rattle.frame.specs.Laid.{actionFrame, frameTold, bodyFrame, frameLai
 use Rattle.frame.specs.declared.Reading.{Reading}
 use Rattle.frame.specs.declared.bodies.Located.{Located}
 use Rattle.frame.proofs.ActionParts.{parts}
-use Rattle.frame.proofs.Handing.{framed}
+use Rattle.frame.proofs.ReadFrames.{framed}
 
 -- ---- what is found of a body
 

@@ -2,9 +2,9 @@ pub mod ActionParts
 pub mod ActionTrip
 pub mod Allowing
 pub mod Answers
-pub mod Handing
 pub mod Indexing
 pub mod Openings
+pub mod ReadFrames
 pub mod SingleTrip
 pub mod Tails
 pub mod Witness

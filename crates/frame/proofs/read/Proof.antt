@@ -8,7 +8,7 @@ use Rattle.header.specs.Headers.{headerLength, headerTold, Head, headerMeans}
 use Rattle.header.specs.declared.management.Subtype.{Subtype}
 use Rattle.frame.specs.Frames.{bodyOf, kindOf, sent, frameMeans}
 use Rattle.frame.specs.Laid.{frameLaid}
-use Rattle.frame.proofs.Handing.{framed, headed}
+use Rattle.frame.proofs.ReadFrames.{framed, headed}
 use Rattle.frame.proofs.Tails.{tail}
 use borrow.Author.Needs.{needs}
 use Rattle.frame.proofs.read.Statement.{statement}

@@ -2,7 +2,7 @@
 use mathlib.Core.Path.{sym, ap, _∙_}
 use Rattle.frame.specs.Actions.{actionMeans}
 use Rattle.frame.specs.Laid.{frameTold}
-use Rattle.frame.proofs.Handing.{action-refused, action-read}
+use Rattle.frame.proofs.ReadFrames.{action-refused, action-read}
 use borrow.Author.Needs.{needs}
 use Rattle.frame.proofs.read_action.Statement.{statement}
 use Rattle.frame.proofs.read_action.Tie as tie

@@ -1,7 +1,7 @@
 -- `read_notice` meets its contract: what was heard, under the kind that it has.
 use mathlib.Core.Path.{_∙_}
 use Rattle.frame.proofs.Answers.{heard-refused, heard-accepted}
-use Rattle.frame.proofs.Handing.{notice-refused, probe-heard, beacon-heard}
+use Rattle.frame.proofs.ReadFrames.{notice-refused, probe-heard, beacon-heard}
 use borrow.Author.Needs.{needs}
 use Rattle.frame.proofs.read_notice.Statement.{statement}
 use Rattle.frame.proofs.read_notice.Tie as tie

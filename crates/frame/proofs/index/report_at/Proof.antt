@@ -9,7 +9,7 @@ use Rattle.measurement_element.specs.MeasurementReport.{reportMeans, reportLaid
 use Rattle.frame.specs.CodeTerms.Located.{PlaceWithin, readThere}
 use Rattle.frame.specs.Frames.{reportIn}
 use Rattle.frame.specs.declared.bodies.Located.{Located}
-use Rattle.frame.proofs.Handing.{headed}
+use Rattle.frame.proofs.ReadFrames.{headed}
 use Rattle.frame.proofs.Indexing.{in-kind, no-header, after-header}
 use Rattle.frame.proofs.Tails.{tail}
 use borrow.Author.Needs.{needs}
