@@ -8,8 +8,10 @@ use element::channel_switch::ChannelSwitch;
 use element::power_constraint::PowerConstraint;
 use element::quiet::Quiet;
 use element::tpc_report::TpcReport;
+use measurement_element::Found;
 use measurement_element::Span;
 use measurement_element::measurement_report;
+use measurement_element::measurement_report::Reason;
 use measurement_element::measurement_request;
 
 pub fn power(p: PowerConstraint) {
@@ -90,25 +92,37 @@ pub fn asked(matter: measurement_request::Matter) {
     }
 }
 
-pub fn found(matter: measurement_report::Matter) {
-    match matter {
-        measurement_report::Matter::Late => say::text(b" late"),
-        measurement_report::Matter::Incapable => say::text(b" incapable"),
-        measurement_report::Matter::Refused => say::text(b" refused"),
-        measurement_report::Matter::Basic { span: s, map } => {
+fn not_measured(reason: Reason) {
+    match reason {
+        Reason::Late => say::text(b" late"),
+        Reason::Incapable => say::text(b" incapable"),
+        Reason::Refused => say::text(b" refused"),
+    }
+}
+
+fn measured(s: Span, found: Found) {
+    match found {
+        Found::Map(map) => {
             say::text(b" basic");
             span(s);
             say::octet(map);
         }
-        measurement_report::Matter::Cca { span: s, busy } => {
+        Found::Busy(busy) => {
             say::text(b" cca");
             span(s);
             say::octet(busy);
         }
-        measurement_report::Matter::Rpi(s) => {
+        Found::Densities => {
             say::text(b" rpi");
             span(s);
         }
+    }
+}
+
+pub fn found(matter: measurement_report::Matter) {
+    match matter {
+        measurement_report::Matter::NotMeasured(reason) => not_measured(reason),
+        measurement_report::Matter::Measured { span, found } => measured(span, found),
         measurement_report::Matter::Uninterpreted => say::text(b" uninterpreted"),
     }
 }

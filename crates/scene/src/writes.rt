@@ -11,8 +11,10 @@ use element::quiet::Quiet;
 use element::tpc_report;
 use element::tpc_report::TpcReport;
 use element::tpc_request;
+use measurement_element::Found;
 use measurement_element::Span;
 use measurement_element::measurement_report;
+use measurement_element::measurement_report::Reason;
 use measurement_element::measurement_report::Report;
 use measurement_element::measurement_request;
 use measurement_element::measurement_request::Request;
@@ -48,20 +50,21 @@ fn asked(n: [u64; 16]) -> measurement_request::Matter {
     }
 }
 
+fn measured(n: [u64; 16], found: Found) -> measurement_report::Matter {
+    measurement_report::Matter::Measured {
+        span: span(n, 8),
+        found,
+    }
+}
+
 fn said(n: [u64; 16]) -> measurement_report::Matter {
     match n[6] {
-        0 => measurement_report::Matter::Late,
-        1 => measurement_report::Matter::Incapable,
-        2 => measurement_report::Matter::Refused,
-        3 => measurement_report::Matter::Basic {
-            span: span(n, 8),
-            map: octet(n[7]),
-        },
-        4 => measurement_report::Matter::Cca {
-            span: span(n, 8),
-            busy: octet(n[7]),
-        },
-        5 => measurement_report::Matter::Rpi(span(n, 8)),
+        0 => measurement_report::Matter::NotMeasured(Reason::Late),
+        1 => measurement_report::Matter::NotMeasured(Reason::Incapable),
+        2 => measurement_report::Matter::NotMeasured(Reason::Refused),
+        3 => measured(n, Found::Map(octet(n[7]))),
+        4 => measured(n, Found::Busy(octet(n[7]))),
+        5 => measured(n, Found::Densities),
         _ => measurement_report::Matter::Uninterpreted,
     }
 }
