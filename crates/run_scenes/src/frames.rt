@@ -6,33 +6,55 @@ use crate::received;
 use scene::line;
 use station::Station;
 
+// How a frame begins, by its type and subtype.
+pub const ACTION: u8 = 208;
+
+pub const BEACON: u8 = 128;
+
+pub const PROBE: u8 = 80;
+
+// Where the octets of a call stand in its frame: after the header, and after the timestamp too.
+pub const BODY: usize = 24;
+
+pub const INTERVAL: usize = 32;
+
+// How many octets the longest frame of a scene has.
+const LONGEST: usize = 2400;
+
 // A header to the station from its AP and a timestamp of 7, and from `front` on the octets that the call gives. These cover what of a header
 // and a timestamp is not wanted, and zeros follow them.
-fn made(front: usize, octets: [u8; line::ROOM]) -> [u8; 2400] {
-    let mut frame = [0u8; 2400];
+fn made(front: usize, first: u8, after: &[u8]) -> [u8; LONGEST] {
+    let mut frame = [0u8; LONGEST];
     octets::put(
         true,
         b"\0\0\0\0\x02\0\0\0\0\x01\x02\0\0\0\0\x09\x02\0\0\0\0\x09\0\0\x07",
         &mut frame,
         0,
     );
-    frame[0] = octets[1];
-    octets::put(true, &octets[2..], &mut frame, front);
+    frame[0] = first;
+    octets::put(true, after, &mut frame, front);
     frame
 }
 
-pub fn take(station: Station, front: usize, octets: [u8; line::ROOM], length: usize) -> Station
+// The call's octets are the whole frame, after its length.
+pub fn whole(octets: [u8; line::ROOM]) -> [u8; LONGEST] {
+    made(0, 0, &octets[2..])
+}
+
+pub fn headed(front: usize, first: u8, octets: [u8; line::ROOM]) -> [u8; LONGEST] {
+    made(front, first, &octets[1..])
+}
+
+pub fn take(station: Station, frame: [u8; LONGEST], length: usize) -> Station
     requires { ⌜ Valid station ⌝ }
     requires { ⌜ length ≤ 2400 ⌝ }
     ensures { λ r. ⌜ Valid r ⌝ }
 {
-    let frame = made(front, octets);
     calls::told(station.take(&frame[0..length]), true)
 }
 
-pub fn read(front: usize, octets: [u8; line::ROOM], length: usize)
+pub fn read(frame: [u8; LONGEST], length: usize)
     requires { ⌜ length ≤ 2400 ⌝ }
 {
-    let frame = made(front, octets);
     received::show(&frame[0..length]);
 }

@@ -7,4 +7,5 @@ pub mod line;
 pub mod numbers;
 pub mod reads;
 pub mod say;
+pub mod verb;
 pub mod writes;

@@ -1,15 +1,29 @@
 // A line as it is read, character by character.
 use crate::say;
+use crate::verb;
+use crate::verb::Verb;
 
-// How many numbers a call may have.
+// How many numbers a call may have, with place 0, which is the verb's.
 pub const ROOM: usize = 128;
 
-// Where in the line the next character stands, and the numbers of the call so far.
+// The longest verb has 17 letters.
+const LETTERS: usize = 17;
+
+// Which part of a line the next character belongs to.
+pub enum Part {
+    Remark,
+    Verb,
+    Numbers,
+    // After the =. It is not looked at: the program writes what it finds.
+    Expected,
+}
+
+// Where in the line the next character stands, and the call so far.
 pub struct Line {
-    // Whether the words go on, which stand in front of the calls, and whether they are a remark.
-    words: bool,
-    remark: bool,
-    // How many numbers there are, each as an octet, and the first of them whole too. Those that are left out are 0.
+    pub part: Part,
+    word: [u8; LETTERS],
+    letters: usize,
+    // How many places are taken, each number as an octet, and the first of them whole too. Those that are left out are 0.
     pub count: u8,
     pub octets: [u8; ROOM],
     pub numbers: [u64; 16],
@@ -18,30 +32,67 @@ pub struct Line {
     number: u64,
 }
 
-// With no number yet.
-pub fn begun(words: bool) -> Line {
+pub fn begun() -> Line {
     Line {
-        words,
-        remark: false,
-        count: 0,
+        part: Part::Verb,
+        word: [0; LETTERS],
+        letters: 0,
+        count: 1,
         octets: [0; ROOM],
         numbers: [0; 16],
-        at: 0,
+        at: 1,
         number: 0,
     }
 }
 
+// A word that is too long is none.
+fn spelt(word: [u8; LETTERS], letters: usize) -> Verb {
+    if LETTERS < letters {
+        return Verb::Unknown;
+    }
+    verb::verb_of(&word[..letters])
+}
+
 impl Line {
-    // The words are written as they are, with their colon. From a # on they are a remark, of which nothing is written.
-    fn word(mut self, c: u8) -> Line {
-        if c == b'#' {
-            self.remark = true;
+    pub fn verb(self) -> Verb {
+        let word = self.word;
+        spelt(word, self.letters)
+    }
+
+    // Whether a call stands here that this character ends.
+    pub fn ends_at(self, c: u8) -> bool {
+        if self.letters == 0 {
+            return false;
         }
-        if self.remark {
-            return self;
+        let part = self.part;
+        match part {
+            Part::Remark => false,
+            Part::Expected => false,
+            _ => c == b'=' || c == b'\n',
         }
-        say::text(&[c]);
-        begun(c != b':')
+    }
+
+    // What is written of a character that is read. The end of the line follows the answer.
+    pub fn repeat(self, c: u8) {
+        if c == b'\n' {
+            return;
+        }
+        let part = self.part;
+        match part {
+            Part::Expected => {}
+            _ => say::text(&[c]),
+        }
+    }
+
+    fn letter(mut self, c: u8) -> Line {
+        let at = self.letters;
+        if at < LETTERS {
+            self.word[at] = c;
+        }
+        if at <= LETTERS {
+            self.letters = at + 1;
+        }
+        self
     }
 
     // A number keeps its last digits where it has too many. One that finds no place must not go by unseen.
@@ -62,25 +113,45 @@ impl Line {
         self
     }
 
-    // Among the calls whatever is no digit only names the numbers and parts them.
-    pub fn take(mut self, c: u8) -> Line {
-        if c == b'\n' {
-            if !self.words {
-                say::text(b"\n");
-            }
-            return begun(true);
-        }
-        if self.words {
-            return self.word(c);
-        }
+    // Whatever is no digit only names the numbers and parts them.
+    fn among_numbers(mut self, c: u8) -> Line {
         match c {
             b'0'..=b'9' => self.digit(c - b'0'),
-            b'|' => begun(false),
             _ => {
                 self.at = self.count;
                 self.number = 0;
                 self
             }
+        }
+    }
+
+    fn in_part(self, part: Part) -> Line {
+        Line { part, ..self }
+    }
+
+    fn in_verb(self, c: u8) -> Line {
+        if c == b'#' && self.letters == 0 {
+            return self.in_part(Part::Remark);
+        }
+        if c == b' ' {
+            return self.in_part(Part::Numbers);
+        }
+        self.letter(c)
+    }
+
+    pub fn take(self, c: u8) -> Line {
+        if c == b'\n' {
+            say::text(b"\n");
+            return begun();
+        }
+        if self.ends_at(c) {
+            return self.in_part(Part::Expected);
+        }
+        let part = self.part;
+        match part {
+            Part::Verb => self.in_verb(c),
+            Part::Numbers => self.among_numbers(c),
+            _ => self,
         }
     }
 }

@@ -1,5 +1,6 @@
 // The leaves that count: a channel's centre, a signed octet, a busy fraction and eight densities.
 use crate::say;
+use crate::verb::Verb;
 use channel::Frequency;
 use fraction::Fraction;
 
@@ -73,13 +74,13 @@ fn alike(six: u32, two: u32) -> [u32; 8] {
     [six, six, six, six, six, six, two, two]
 }
 
-// A call by its kind, from 19 on. A kind that there is not must not go by unseen.
-pub fn show(kind: u8, n: [u64; 16]) {
-    match kind {
-        19 => centre((n[1] % 256) as u8),
-        20 => signed((n[1] % 256) as u8),
-        21 => busy(short(n[1]), two(n[2])),
-        22 => densities(alike(short(n[1]), short(n[2])), two(n[3])),
+// A call by its verb. One that there is not must not go by unseen.
+pub fn show(verb: Verb, n: [u64; 16]) {
+    match verb {
+        Verb::Centre => centre((n[1] % 256) as u8),
+        Verb::Signed => signed((n[1] % 256) as u8),
+        Verb::Busy => busy(short(n[1]), two(n[2])),
+        Verb::Densities => densities(alike(short(n[1]), short(n[2])), two(n[3])),
         _ => say::text(b" unknown"),
     }
 }
