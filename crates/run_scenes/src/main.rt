@@ -2,7 +2,8 @@
 // where it has one, and after that the answer. The text of the scenes is `stdout` beside this program, each call with the answer expected; tools/scenes
 // writes `stdin` from it, without the answers. So the line in which what is written differs from `stdout` is the line of the call.
 //
-// A line is a remark, which begins with #, or a call: a verb, its numbers, which other words only name, and = where an answer is expected. Numbers that are left out are 0.
+// A line is a remark, which begins with #, or a call: a verb, its numbers, which other words only name, and = where an answer is expected. Numbers
+// that are left out are 0.
 //
 //   scene: its name follows. It begins with a station that is started with beacon interval 100 on channel 36
 //   start: beacon interval, first octet of the own address, first octet of the AP's address, channel

@@ -430,7 +430,7 @@ impl<'a> Evening<'a> {
         self.put(&ask(units as u16));
     }
 
-    /// A moment that is marked, and lies ahead or not far after.
+    /// A moment that is marked, and lies ahead or not far back.
     fn mark(&mut self) -> Option<u64> {
         let clock = self.clock;
         self.marks.retain(|&mark| mark + 3 > clock);
