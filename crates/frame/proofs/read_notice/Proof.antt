@@ -7,17 +7,21 @@ use Rattle.frame.proofs.read_notice.Statement.{statement}
 use Rattle.frame.proofs.read_notice.Tie as tie
 
 returns : tie.Need-returns
-returns c = c .alone .ensures ∙ notice-refused (c .before .before .before .before .before .before .before .before .args .probe) (c .before .before .before .before .before .before .before .before .args .interval) (c .before .before .before .before .before .before .before .before .args .body .now) (c .before .before .before .before .before .before .before .before .args .broadcast) _ (heard-refused _ _ _ (c .before .before .before .before .before .before .read .ensures) (c .before .before .answer .given .1))
+returns c =
+    let a = c .before .before .before .before .before .before .before .before .args in
+    c .alone .ensures ∙ notice-refused (a .probe) (a .interval) (a .body .now) (a .broadcast) _ (heard-refused _ _ _ (c .before .before .before .before .before .before .read .ensures) (c .before .before .answer .given .1))
 
 returns-2 : tie.Need-returns-2
 returns-2 c =
     let p = heard-accepted _ _ (c .before .before .before .before .before .read .ensures) (c .before .enum-told .given .1) in
-    probe-heard (c .before .before .before .before .before .before .before .args .probe) (c .before .before .before .before .before .before .before .args .interval) (c .before .before .before .before .before .before .before .args .body .now) (c .before .before .before .before .before .before .before .args .broadcast) (c .if1 .taken) _ (p .0) (p .1) (p .2)
+    let a = c .before .before .before .before .before .before .before .args in
+    probe-heard (a .probe) (a .interval) (a .body .now) (a .broadcast) (c .if1 .taken) _ (p .0) (p .1) (p .2)
 
 returns-3 : tie.Need-returns-3
 returns-3 c =
     let p = heard-accepted _ _ (c .before .before .before .before .before .read .ensures) (c .before .enum-told .given .1) in
-    beacon-heard (c .before .before .before .before .before .before .before .args .probe) (c .before .before .before .before .before .before .before .args .interval) (c .before .before .before .before .before .before .before .args .body .now) (c .before .before .before .before .before .before .before .args .broadcast) (c .if1 .left) _ (p .0) (p .1) (p .2)
+    let a = c .before .before .before .before .before .before .before .args in
+    beacon-heard (a .probe) (a .interval) (a .body .now) (a .broadcast) (c .if1 .left) _ (p .0) (p .1) (p .2)
 
 pub read-notice-spec : {M : Type 1} → statement M
 read-notice-spec =

@@ -13,19 +13,21 @@ use Rattle.block.specs.declared.Block.{Block}
 use Rattle.octets.specs.Writing.{filled}
 use Rattle.capture_record.specs.Records.{recordsIn}
 use Rattle.capture.specs.Listers.{Sound}
-use Rattle.capture.specs.CodeTerms.Following.{Fed}
-use Rattle.capture.specs.CodeTerms.Following.{Listed}
+use Rattle.capture.specs.CodeTerms.Following.{Fed, Listed}
 use Rattle.capture.specs.Lists.{Told, recorded, blockTold}
 use Rattle.capture.specs.declared.lister.Lister.{Lister}
 use Rattle.capture.proofs.Fitting.{fits-listed, sound-counted, used-part, told-as}
 use Rattle.capture.proofs.feeding.put_block.Statement.{statement}
 use Rattle.capture.proofs.feeding.put_block.Tie as tie
 
+abbrev start : tie.After-known-told → tie.Start
+start c = c .before .before .before .before .before .before
+
 -- the block is whole, and so much of it is used
-whole : (c : tie.After-known-told) → blockMeans (now (c .before .before .before .before .before .before .args .block)) ≡ Block.Used (c .before .used .given .0 .0)
+whole : (c : tie.After-known-told) → blockMeans (now (start c .args .block)) ≡ Block.Used (c .before .used .given .0 .0)
 whole c = sym (c .before .before .before .judge .ensures) ∙ c .before .used .given .1
 
-size : (c : tie.After-known-told) → (length (now (c .before .before .before .before .before .before .args .block)) ≡ 512) × (c .before .used .given .0 .0 ≤ 508)
+size : (c : tie.After-known-told) → (length (now (start c .args .block)) ≡ 512) × (c .before .used .given .0 .0 ≤ 508)
 size c = let w = used-within _ _ (whole c) in (w .0, w .2)
 
 sub-part : tie.Need-sub-part
@@ -36,17 +38,18 @@ part-part-start c = omega (arith, size c)
 
 slice-aggregate-put-records : tie.Need-slice-aggregate-put-records
 slice-aggregate-put-records c =
-    let b = now (c .before .before .before .before .before .before .before .before .before .args .block) in
-    let n = c .before .before .before .before .used .given .0 .0 in
-    omega (arith, size (c .before .before .before), length-take n (take (length b - 2) (drop 2 b)), length-take (length b - 2) (drop 2 b), length-drop 2 b)
+    let k = c .before .before .before in
+    let b = now (start k .args .block) in
+    let n = k .before .used .given .0 .0 in
+    omega (arith, size k, length-take n (take (length b - 2) (drop 2 b)), length-take (length b - 2) (drop 2 b), length-drop 2 b)
 
 put-records-requires : tie.Need-put-records-requires
 put-records-requires c κs =
     let k = c .before .before .before .before in
-    let b = now (k .before .before .before .before .before .before .args .block) in
+    let b = now (start k .args .block) in
     let n = k .before .used .given .0 .0 in
-    let l = k .before .before .before .before .before .before .args .lister in
-    let pre = k .before .before .before .before .before .before .pre in
+    let l = start k .args .lister in
+    let pre = start k .pre in
     let counted = c .before .before .counted .ensures in (
       subst Sound (sym counted) (sound-counted l (pre .0) (pre .1 .0)),
       (
@@ -66,10 +69,10 @@ returns c =
 returns-2 : tie.Need-returns-2
 returns-2 c =
     let k = c .before .before .before .before .before .before .before in
-    let a = k .before .before .before .before .before .before .args in
+    let a = start k .args in
     let b = now (a .block) in
     let n = k .before .used .given .0 .0 in
-    let pre = k .before .before .before .before .before .before .pre in
+    let pre = start k .pre in
     let counted = c .before .before .before .before .before .counted .ensures in
     let listed = c .before .before .put-records .ensures in
     let put = c .before .before .put-records .result in

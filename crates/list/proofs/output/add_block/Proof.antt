@@ -12,13 +12,16 @@ use Rattle.list.proofs.output.add_block.Statement.{statement}
 use Rattle.list.proofs.output.add_block.Tie as tie
 
 -- what the call leaves of the part that was lent is as long as that part
-same-part : (c : tie.After-lister) → length (c .before .before .before .before .before .before .feed .last .1 .1 .0) ≡ length (now (c .before .before .before .before .before .before .before .before .before .before .args .out)) - c .before .before .before .before .before .before .before .before .before .before .args .progress .waiting
+same-part : (c : tie.After-lister)
+    → let k = c .before .before .before .before .before .before in
+    let a = k .before .before .before .before .args in
+    length (k .feed .last .1 .1 .0) ≡ length (now (a .out)) - a .progress .waiting
 same-part c = search needs
 
 -- the lines of the block end within the buffer
 within : (c : tie.After-lister)
-    → c .before .before .before .before .before .before .before .before .before .before .args .progress .waiting + c .before .before .feed2 .given .0 .0
-    ≤ length (now (c .before .before .before .before .before .before .before .before .before .before .args .out))
+    → let a = c .before .before .before .before .before .before .before .before .before .before .args in
+    a .progress .waiting + c .before .before .feed2 .given .0 .0 ≤ length (now (a .out))
 within c =
     let k = c .before .before .before .before .before .before in
     let a = k .before .before .before .before .args in

@@ -25,8 +25,8 @@ header-read c = ap headerTold (sym (c .before .subtype .given .1)) ∙ c .before
 
 -- to the station: by the subtype that was found
 by-subtype : (c : tie.Else1) {t : Subtype} → head (c .before) .subtype ≡ t
-    → dueOf (c .before .before .before .before .before .before .args .index) (bySubtype t (bodyOf (c .before .before .before .before .before .before .args .frame .now)))
-    ≡ dueOf (c .before .before .before .before .before .before .args .index) (dueMeans (c .before .before .before .before .before .before .args .own) (c .before .before .before .before .before .before .args .ap) (c .before .before .before .before .before .before .args .frame .now))
+    → let a = c .before .before .before .before .before .before .args in
+    dueOf (a .index) (bySubtype t (bodyOf (a .frame .now))) ≡ dueOf (a .index) (dueMeans (a .own) (a .ap) (a .frame .now))
 by-subtype c e =
     let a = c .before .before .before .before .before .before .args in
     ap (λ (t : Subtype). dueOf (a .index) (bySubtype t (bodyOf (a .frame .now)))) (sym e)
