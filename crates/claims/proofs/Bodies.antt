@@ -20,8 +20,8 @@ use Rattle.octets.specs.Elements.{RoundTrip}
 use Rattle.element.specs.TpcReport.{tpcReportOctets}
 use Rattle.frame.proofs.ActionTrip.{action-trip}
 use Rattle.frame.specs.Actions.{Body, requests, reports, tpcRequest, tpcReport, switch, actionMeans, actionOctets, actionMay, ActionFits, actionInterpreted, actionClear}
-use Rattle.frame.specs.Frames.{bodyOf, action, Sent, kindOf, frameMeans}
-use Rattle.header.specs.Headers.{headerLength, subtype, subtypeOf, toAll, foreignHeader, foreignAddress, headerMeans}
+use Rattle.frame.specs.Frames.{action, Sent, kindOf, frameMeans}
+use Rattle.header.specs.Headers.{bodyOf, headerLength, subtype, subtypeOf, toAll, foreignHeader, foreignAddress, headerMeans}
 use Rattle.header.proofs.Heard.{not-too-long, heard-as}
 use Rattle.header.specs.declared.management.Subtype.{Subtype}
 use Rattle.measurement_body.proofs.NeverLonger.{never-longer}

@@ -65,11 +65,11 @@ power-read κs a e f x y p q = told-once powerTold power-of power-told p q
 pub power-write : OneOutcome 1 Power-write.Kinds.ps Power-write.Kinds.r Power-write.Reads.Post (λ κs e. now (e .1 .0))
 power-write κs a e f x y p q = written-once p q
 
-pub tpc-request-of : Outcome (Unit {0}) → Tpc-request-reading.Reading
+tpc-request-of : Outcome (Unit {0}) → Tpc-request-reading.Reading
 tpc-request-of (refused r) = Tpc-request-reading.Reading.Refused r
 tpc-request-of (accepted u) = Tpc-request-reading.Reading.Is
 
-pub tpc-request-told : (x : Tpc-request-reading.Reading) → tpc-request-of (tpcRequestTold x) ≡ x
+tpc-request-told : (x : Tpc-request-reading.Reading) → tpc-request-of (tpcRequestTold x) ≡ x
 unfolding tpc-request-of
 tpc-request-told (Tpc-request-reading.Reading.Refused r) = refl
 tpc-request-told Tpc-request-reading.Reading.Is = refl
@@ -80,11 +80,11 @@ tpc-request-read κs a e f x y p q = told-once tpcRequestTold tpc-request-of tpc
 pub tpc-request-write : OneOutcome 1 Tpc-request-write.Kinds.ps Tpc-request-write.Kinds.r Tpc-request-write.Reads.Post (λ κs e. now (e .0))
 tpc-request-write κs a e f x y p q = written-once p q
 
-pub tpc-report-of : Outcome TpcReport → Tpc-report-reading.Reading
+tpc-report-of : Outcome TpcReport → Tpc-report-reading.Reading
 tpc-report-of (refused r) = Tpc-report-reading.Reading.Refused r
 tpc-report-of (accepted t) = Tpc-report-reading.Reading.Is t
 
-pub tpc-report-told : (x : Tpc-report-reading.Reading) → tpc-report-of (tpcReportTold x) ≡ x
+tpc-report-told : (x : Tpc-report-reading.Reading) → tpc-report-of (tpcReportTold x) ≡ x
 unfolding tpc-report-of
 tpc-report-told (Tpc-report-reading.Reading.Refused r) = refl
 tpc-report-told (Tpc-report-reading.Reading.Is t) = refl
@@ -95,11 +95,11 @@ tpc-report-read κs a e f x y p q = told-once tpcReportTold tpc-report-of tpc-re
 pub tpc-report-write : OneOutcome 1 Tpc-report-write.Kinds.ps Tpc-report-write.Kinds.r Tpc-report-write.Reads.Post (λ κs e. now (e .1 .0))
 tpc-report-write κs a e f x y p q = written-once p q
 
-pub switch-of : Outcome ChannelSwitch → Switch-reading.Reading
+switch-of : Outcome ChannelSwitch → Switch-reading.Reading
 switch-of (refused r) = Switch-reading.Reading.Refused r
 switch-of (accepted s) = Switch-reading.Reading.Is s
 
-pub switch-told : (x : Switch-reading.Reading) → switch-of (switchTold x) ≡ x
+switch-told : (x : Switch-reading.Reading) → switch-of (switchTold x) ≡ x
 unfolding switch-of
 switch-told (Switch-reading.Reading.Refused r) = refl
 switch-told (Switch-reading.Reading.Is s) = refl

@@ -2,12 +2,15 @@
 -- Assumes nothing.
 use mathlib.Core.Bool.{Bool, true, false}
 use mathlib.Core.Path.{_≡_, refl, ap₂}
+use borrow.Fn.Kinds.{Dens, resT, endedOf}
+use contract.Lifetimes.{Lfts}
 use denote.Ref.{now}
+use denote.Triple.Clauses.{AtExit}
 use Rattle.action.proofs.forbids_token as Forbids-token
 use Rattle.action.proofs.«open» as Open
-use Rattle.single_body.proofs.read_channel_switch as Read-channel-switch
-use Rattle.single_body.proofs.read_tpc_report as Read-tpc-report
-use Rattle.single_body.proofs.read_tpc_request as Read-tpc-request
+use Rattle.single_body.proofs.kinds.Kind.fixed_fields as Single-kind-fixed-fields
+use Rattle.single_body.proofs.kinds.Kind.id as Single-kind-id
+use Rattle.single_body.proofs.read as Single-body-read
 use Rattle.single_body.proofs.write_channel_switch as Write-channel-switch
 use Rattle.single_body.proofs.write_tpc_report as Write-tpc-report
 use Rattle.single_body.proofs.write_tpc_request as Write-tpc-request
@@ -15,11 +18,8 @@ use Rattle.action.specs.Openings.{Opens, switching, with, openingTold}
 use Rattle.action.specs.declared.Opening.{Opening}
 use Rattle.answer.specs.Checks.{Outcome, refused, accepted}
 use Rattle.beacon.proofs.read as Beacon-read
-use Rattle.element.specs.ChannelSwitch.{switchTold}
 use Rattle.measurement_element.specs.MeasurementRequest.{requestTold}
 use Rattle.measurement_element.specs.declared.measurement_request.Reading as RequestReading
-use Rattle.element.specs.TpcReport.{tpcReportTold}
-use Rattle.element.specs.TpcRequest.{tpcRequestTold}
 use Rattle.frame.proofs.read as Frame-read
 use Rattle.frame.proofs.read_body as Read-body
 use Rattle.frame.proofs.read_request as Read-request
@@ -30,6 +30,7 @@ use Rattle.frame.specs.Laid.{frameTold}
 use Rattle.frame.specs.declared.Frame.{Frame}
 use Rattle.frame.specs.declared.Reading.{Reading}
 use Rattle.frame.specs.declared.index.Asked.{Asked}
+use Rattle.header.proofs.body as Header-body
 use Rattle.header.proofs.read as Header-read
 use Rattle.header.proofs.read_address as Header-read-address
 use Rattle.header.proofs.read_management as Header-read-management
@@ -44,8 +45,11 @@ use Rattle.measurement_body.proofs.kinds.Kind.action as Kind-action
 use Rattle.measurement_body.proofs.kinds.Kind.has_tokens_once as Kind-has-tokens-once
 use Rattle.measurement_body.proofs.kinds.Kind.id as Kind-id
 use Rattle.measurement_body.proofs.survey as Survey
+use Rattle.single_body.specs.Kinds.{singleTold}
+use Rattle.single_body.specs.declared.kinds.Single.{Single}
+use Rattle.single_body.specs.declared.reading.Reading as Singles
 use Rattle.answer.specs.Outcomes.{OneResult, OneOutcome}
-use Rattle.claims.proofs.OneOutcomeElements.{switch-of, switch-told, request-of, request-told, tpc-report-of, tpc-report-told, tpc-request-of, tpc-request-told}
+use Rattle.claims.proofs.OneOutcomeElements.{request-of, request-told}
 use Rattle.claims.proofs.Same.{once, told-once, written-once}
 
 management-of : Outcome Subtype → Management
@@ -83,6 +87,11 @@ unfolding header-of
 header-told (Header.Refused r) = refl
 header-told (Header.Is s a) = refl
 
+-- a part of the frame is lent: its octets are the same
+pub header-body : (κs : Lfts 1) (a : Dens κs Header-body.Kinds.ps) (e f : AtExit (endedOf 1 Header-body.Kinds.ps Header-body.Kinds.r) κs) (x y : resT Header-body.Kinds.r κs .Denot)
+    → Header-body.Reads.Post κs a x e → Header-body.Reads.Post κs a y f → now x ≡ now y
+header-body κs a e f x y p q = once p q
+
 pub header-read : OneResult 1 Header-read.Kinds.ps Header-read.Kinds.r Header-read.Reads.Post
 header-read κs a e f x y p q = told-once headerTold header-of header-told p q
 
@@ -106,14 +115,23 @@ forbids-token κs a e f x y p q = once p q
 pub body-opening : OneResult 1 Open.Kinds.ps Open.Kinds.r Open.Reads.Post
 body-opening κs a e f x y p q = told-once openingTold opening-of opening-told p q
 
-pub read-tpc-request : OneResult 1 Read-tpc-request.Kinds.ps Read-tpc-request.Kinds.r Read-tpc-request.Reads.Post
-read-tpc-request κs a e f x y p q = told-once tpcRequestTold tpc-request-of tpc-request-told p q
+single-of : Outcome Single → Singles.Reading
+single-of (refused r) = Singles.Reading.Refused r
+single-of (accepted s) = Singles.Reading.Is s
 
-pub read-tpc-report : OneResult 1 Read-tpc-report.Kinds.ps Read-tpc-report.Kinds.r Read-tpc-report.Reads.Post
-read-tpc-report κs a e f x y p q = told-once tpcReportTold tpc-report-of tpc-report-told p q
+single-told : (x : Singles.Reading) → single-of (singleTold x) ≡ x
+unfolding single-of
+single-told (Singles.Reading.Refused r) = refl
+single-told (Singles.Reading.Is s) = refl
 
-pub read-channel-switch : OneResult 1 Read-channel-switch.Kinds.ps Read-channel-switch.Kinds.r Read-channel-switch.Reads.Post
-read-channel-switch κs a e f x y p q = told-once switchTold switch-of switch-told p q
+pub single-body-read : OneResult 1 Single-body-read.Kinds.ps Single-body-read.Kinds.r Single-body-read.Reads.Post
+single-body-read κs a e f x y p q = told-once singleTold single-of single-told p q
+
+pub single-kind-id : OneResult 0 Single-kind-id.Kinds.ps Single-kind-id.Kinds.r Single-kind-id.Reads.Post
+single-kind-id κs a e f x y p q = once p q
+
+pub single-kind-fixed-fields : OneResult 0 Single-kind-fixed-fields.Kinds.ps Single-kind-fixed-fields.Kinds.r Single-kind-fixed-fields.Reads.Post
+single-kind-fixed-fields κs a e f x y p q = once p q
 
 pub write-tpc-request : OneOutcome 1 Write-tpc-request.Kinds.ps Write-tpc-request.Kinds.r Write-tpc-request.Reads.Post (λ κs e. now (e .1 .0))
 write-tpc-request κs a e f x y p q = written-once p q

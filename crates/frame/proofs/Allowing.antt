@@ -16,7 +16,7 @@ use Rattle.element.specs.ChannelSwitch.{switchMeans, switchForbids}
 use Rattle.element.specs.TpcReport.{tpcReportMeans}
 use Rattle.element.specs.TpcRequest.{tpcRequestMeans}
 use Rattle.element.specs.declared.channel_switch.ChannelSwitch.{ChannelSwitch}
-use Rattle.header.specs.Headers.{headerMeans}
+use Rattle.header.specs.Headers.{bodyOf, headerMeans}
 use Rattle.header.specs.declared.management.Subtype.{Subtype}
 use Rattle.measurement_body.specs.Lists.{measurementsIn}
 use Rattle.measurement_body.specs.Reports.{reportSort}
@@ -25,7 +25,7 @@ use Rattle.walk.specs.Elements.{Elements, end, cutHeader, cutContents, more, el
 use Rattle.walk.specs.Required.{required, nothingLeft}
 use Rattle.frame.specs.Actions.{Body, afterOpening, actionMeans}
 use Rattle.frame.specs.Allowed.{FrameAllowed, KindAllowed, ReceivedAllowed}
-use Rattle.frame.specs.Frames.{bodyOf, action, Sent, kindOf, frameMeans}
+use Rattle.frame.specs.Frames.{action, Sent, kindOf, frameMeans}
 use Rattle.frame.specs.Laid.{frameOf, quietsOf, frameLaid}
 
 -- ---- the body of an announcement

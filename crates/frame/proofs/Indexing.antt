@@ -1,5 +1,5 @@
 -- Elements of a body by their index. Assumes nothing.
-use mathlib.Core.Path.{_≡_, refl, sym, ap, _∙_}
+use mathlib.Core.Path.{_≡_, refl, sym, ap, subst₂, _∙_}
 use mathlib.Core.Bool.{Bool, true, false}
 use mathlib.Core.List.{List}
 use Prim.Native.Nat.{ℕ}
@@ -9,7 +9,7 @@ use Rattle.answer.proofs.Judged.{never}
 use Rattle.answer.specs.Checks.{Outcome, refused, accepted, andThen}
 use Rattle.answer.specs.declared.Refusal.{Refusal}
 use Rattle.beacon.specs.Beacons.{Told, beaconMeans}
-use Rattle.header.specs.Headers.{Head, headerMeans}
+use Rattle.header.specs.Headers.{bodyOf, Head, headerMeans}
 use Rattle.header.specs.declared.management.Subtype.{Subtype}
 use Rattle.measurement_body.proofs.PlacesRead.{Reads, place-reads}
 use Rattle.measurement_body.specs.Kinds.{Measurement, sortOf}
@@ -24,14 +24,18 @@ use Rattle.measurement_element.specs.MeasurementReport.{reportMeans}
 use Rattle.measurement_element.specs.MeasurementRequest.{requestMeans}
 use Rattle.measurement_element.specs.declared.measurement_report.Report.{Report}
 use Rattle.measurement_element.specs.declared.measurement_request.Request.{Request}
+use Rattle.single_body.proofs.Singling as Singling
+use Rattle.single_body.specs.Singles.{single}
+use Rattle.single_body.specs.declared.kinds.Single.{Single}
+use Rattle.walk.specs.Elements.{Elements}
 use Rattle.frame.specs.Actions.{Body, requests, reports, tpcRequest, tpcReport, switch, afterOpening, actionMeans}
-use Rattle.frame.specs.CodeTerms.Located.{unplaced, placed, located, locatedIn, PlaceWithin, meansAt, readThere}
-use Rattle.frame.specs.Frames.{bodyOf, Kind, beacon, probeResponse, action, kindOf, sent, frameMeans, requestIn, reportIn, ofKind, elementOf}
+use Rattle.frame.specs.CodeTerms.Located.{unplaced, placed, located, locatedIn, kindMeans, PlaceWithin, meansAt, readThere}
+use Rattle.frame.specs.CodeTerms.SingleFrames.{singleFrame, singleReading}
+use Rattle.frame.specs.Frames.{Kind, beacon, probeResponse, action, kindOf, sent, frameMeans, requestIn, reportIn, ofKind, elementOf}
 use Rattle.frame.specs.Laid.{actionFrame, frameTold, bodyFrame, frameLaid, noticeSubtype}
 use Rattle.frame.specs.declared.Reading.{Reading}
 use Rattle.frame.specs.declared.bodies.Located.{Located}
 use Rattle.frame.proofs.ActionParts.{parts}
-use Rattle.frame.proofs.ReadFrames.{framed}
 
 -- ---- what is found of a body
 
@@ -46,17 +50,16 @@ module _ (body : List ℕ) (i : ℕ) where
   located-frame (accepted (switch s)) = refl
 
   -- a body of one element has no place
-  pub one-element : {X : Type 0} (x : Outcome X) (make : X → Body) → ((a : X) → located i body (accepted (make a)) ≡ unplaced (Reading.Is (actionFrame (make a))))
-      → {reading : Reading} → frameTold reading ≡ bodyFrame (andThen x (λ a. accepted (make a)))
-      → unplaced reading ≡ located i body (andThen x (λ a. accepted (make a)))
-  one-element x make none {reading} e = by x reading e
+  pub one-element : {X : Type 0} (id : ℕ) (means : List ℕ → Outcome X) (es : Elements) (token : ℕ) (says : X → Single) (make : X → Body)
+      → ((a : X) → unplaced (Reading.Is (singleFrame token (says a))) ≡ located i body (accepted (make a)))
+      → unplaced (singleReading token (single id (λ c. andThen (means c) (λ a. accepted (says a))) es))
+      ≡ located i body (andThen (single id means es) (λ a. accepted (make a)))
+  one-element id means es token says make none =
+      ap (λ (o : Outcome Single). unplaced (singleReading token o)) (Singling.made id means says es) ∙ by (single id means es)
     where
-      by : (x : Outcome _) (reading : Reading) → frameTold reading ≡ bodyFrame (andThen x (λ a. accepted (make a)))
-          → unplaced reading ≡ located i body (andThen x (λ a. accepted (make a)))
-      by (refused r) (Reading.Refused q) h = let same : q ≡ r = cc in ap (λ (y : Refusal). unplaced (Reading.Refused y)) same
-      by (refused r) (Reading.Is f) h = absurd (never (sym h))
-      by (accepted a) (Reading.Refused q) h = absurd (never h)
-      by (accepted a) (Reading.Is f) h = let same : f ≡ actionFrame (make a) = cc in ap (λ (y : _). unplaced (Reading.Is y)) same ∙ sym (none a)
+      by : (o : Outcome _) → unplaced (singleReading token (andThen o (λ a. accepted (says a)))) ≡ located i body (andThen o (λ a. accepted (make a)))
+      by (refused r) = refl
+      by (accepted a) = none a
 
   -- a body of measurement elements has those of its survey
   module _ (token : ℕ) where
@@ -157,21 +160,42 @@ module _ (body : List ℕ) (i : ℕ) where
         by (refused r) = record { request-within = tt; report-within = tt; request-is = refl; report-is = refl }
         by (accepted t) = record { request-within = tt; report-within = tt; request-is = refl; report-is = refl }
 
--- ---- from a body to its frame
+-- ---- in a frame
 
-module _ {A : Type 0} (elementIn : ℕ → Body → Outcome A) (i : ℕ) where
-  of-kinds : (toAll : Bool) (o : Outcome Kind) → andThen o (ofKind elementIn i) ≡ elementOf elementIn i (sent toAll o)
-  unfolding elementOf
-  of-kinds toAll (refused r) = refl
-  of-kinds toAll (accepted k) = refl
+of-kinds : {A : Type 0} (elementIn : ℕ → Body → Outcome A) (i : ℕ) (toAll : Bool) (o : Outcome Kind)
+    → andThen o (ofKind elementIn i) ≡ elementOf elementIn i (sent toAll o)
+unfolding elementOf
+of-kinds elementIn i toAll (refused r) = refl
+of-kinds elementIn i toAll (accepted k) = refl
 
-  module _ (own ap' : List ℕ) (b : ℕ) (f : List ℕ) where
-    pub no-header : {r : Refusal} → refused r ≡ headerMeans own ap' f → refused r ≡ elementOf elementIn i (frameMeans own ap' b f)
-    unfolding elementOf
-    no-header e = ap (elementOf elementIn i) (framed own ap' b f _ e)
+module _ (own ap' : List ℕ) (b : ℕ) (f : List ℕ) where
+  -- the kind of a frame, by its header
+  pub by-header : (o : Outcome Head) → o ≡ headerMeans own ap' f → andThen o (λ h. kindOf b (h .subtype) (bodyOf f)) ≡ kindMeans own ap' b f
+  unfolding kindMeans
+  by-header o e = ap (λ (x : Outcome Head). andThen x (λ h. kindOf b (h .subtype) (bodyOf f))) e
 
-    pub after-header : (h : Head) {body : List ℕ} → accepted h ≡ headerMeans own ap' f → body ≡ bodyOf f
-        → andThen (kindOf b (h .subtype) body) (ofKind elementIn i) ≡ elementOf elementIn i (frameMeans own ap' b f)
-    after-header h e k =
-        ap (λ (x : List ℕ). andThen (kindOf b (h .subtype) x) (ofKind elementIn i)) k
-        ∙ of-kinds (h .toAll) (kindOf b (h .subtype) (bodyOf f)) ∙ ap (elementOf elementIn i) (framed own ap' b f _ e)
+  in-frame : (i : ℕ) → There (bodyOf f) i (locatedIn i (bodyOf f) (kindMeans own ap' b f)) (elementOf requestIn i (frameMeans own ap' b f)) (elementOf reportIn i (frameMeans own ap' b f))
+  unfolding kindMeans frameMeans elementOf
+  in-frame i = by (headerMeans own ap' f)
+    where
+      by : (o : Outcome Head)
+          → There (bodyOf f) i (locatedIn i (bodyOf f) (andThen o (λ h. kindOf b (h .subtype) (bodyOf f))))
+          (elementOf requestIn i (andThen o (λ h. sent (h .toAll) (kindOf b (h .subtype) (bodyOf f)))))
+          (elementOf reportIn i (andThen o (λ h. sent (h .toAll) (kindOf b (h .subtype) (bodyOf f)))))
+      by (refused r) = record { request-within = tt; report-within = tt; request-is = refl; report-is = refl }
+      by (accepted h) =
+          let t = in-kind (bodyOf f) i b (h .subtype) in
+          let k = kindOf b (h .subtype) (bodyOf f) in
+          record {
+            request-within = t .request-within;
+            report-within = t .report-within;
+            request-is = t .request-is ∙ of-kinds requestIn i (h .toAll) k;
+            report-is = t .report-is ∙ of-kinds reportIn i (h .toAll) k;
+          }
+
+  -- what was found in the frame, and its body as it is lent
+  pub found-there : (i : ℕ) {body : List ℕ} {l : Located} → body ≡ bodyOf f → l ≡ locatedIn i (bodyOf f) (kindMeans own ap' b f)
+      → There body i l (elementOf requestIn i (frameMeans own ap' b f)) (elementOf reportIn i (frameMeans own ap' b f))
+  found-there i e g =
+      subst₂ (λ (x : List ℕ) (l : Located). There x i l (elementOf requestIn i (frameMeans own ap' b f)) (elementOf reportIn i (frameMeans own ap' b f)))
+      (sym e) (sym g) (in-frame i)

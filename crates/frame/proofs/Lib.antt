@@ -6,5 +6,4 @@ pub mod Indexing
 pub mod Openings
 pub mod ReadFrames
 pub mod SingleTrip
-pub mod Tails
 pub mod Witness

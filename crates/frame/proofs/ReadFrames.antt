@@ -11,10 +11,10 @@ use Rattle.answer.proofs.Judged.{never, passed}
 use Rattle.beacon.specs.Beacons.{Told, beaconMeans}
 use Rattle.beacon.specs.Laid.{laid}
 use Rattle.beacon.specs.declared.Heard.{Heard}
-use Rattle.header.specs.Headers.{headerLength, Head, headerMeans}
+use Rattle.header.specs.Headers.{bodyOf, headerLength, Head, headerMeans}
 use Rattle.header.proofs.Heard.{has-header}
 use Rattle.frame.specs.Actions.{Body}
-use Rattle.frame.specs.Frames.{bodyOf, Kind, beacon, probeResponse, action, kindOf, sent, frameMeans}
+use Rattle.frame.specs.Frames.{Kind, beacon, probeResponse, action, kindOf, sent, frameMeans}
 use Rattle.frame.specs.Laid.{actionFrame, bodyFrame, received, frameLaid, noticeSubtype}
 use Rattle.frame.specs.declared.Frame.{Frame}
 use Rattle.frame.specs.declared.Reading.{Reading}
@@ -78,7 +78,3 @@ module _ (own ap' : List ℕ) (b : ℕ) (f : List ℕ) where
       → andThen o (λ h. sent (h .toAll) (kindOf b (h .subtype) (bodyOf f))) ≡ frameMeans own ap' b f
   unfolding frameMeans
   framed o e = ap (λ (x : Outcome Head). andThen x (λ h. sent (h .toAll) (kindOf b (h .subtype) (bodyOf f)))) e
-
-  -- a frame whose header is read has one
-  pub headed : (h : Head) → accepted h ≡ headerMeans own ap' f → headerLength ≤ length f
-  headed h e = has-header own ap' f h (sym e)

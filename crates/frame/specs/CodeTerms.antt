@@ -1,2 +1,3 @@
 -- The code's own terms, which no public promise cites.
 pub mod Located
+pub mod SingleFrames

@@ -3,19 +3,15 @@
 use mathlib.Core.Bool.{Bool}
 use mathlib.Core.List.{List}
 use Prim.Native.Nat.{ℕ}
-use lib.ListN.{drop}
 use Rattle.answer.specs.Checks.{Outcome, refused, accepted, andThen}
 use Rattle.answer.specs.declared.Refusal.{Refusal}
 use Rattle.beacon.specs.Beacons.{Told, beaconMeans}
 use Rattle.measurement_element.specs.declared.measurement_report.Report.{Report}
 use Rattle.measurement_element.specs.declared.measurement_request.Request.{Request}
-use Rattle.header.specs.Headers.{headerLength, headerMeans}
+use Rattle.header.specs.Headers.{bodyOf, headerMeans}
 use Rattle.header.specs.declared.management.Subtype.{Subtype}
 use Rattle.measurement_body.specs.Lists.{nth}
 use Rattle.frame.specs.Actions.{Body, requests, reports, tpcRequest, tpcReport, switch, actionMeans}
-
-abbrev pub bodyOf : List ℕ → List ℕ
-bodyOf f = drop headerLength f
 
 -- Beacon, Probe Response, and the five action bodies
 pub data Kind : Type 0 where

@@ -1,19 +1,22 @@
 // Action bodies: how they begin, then the elements of that action.
 ghost use mathlib.Core.Path.{_≡_};
-ghost use Rattle.action.specs.Openings.{switching, with};
+ghost use lib.ListN.{drop};
+ghost use Rattle.action.specs.Openings.{with};
 ghost use Rattle.frame.specs.Actions.{afterOpening, actionMeans};
 ghost use Rattle.frame.specs.CodeTerms.Located.{unplaced, placed, located};
+ghost use Rattle.frame.specs.CodeTerms.SingleFrames.{singleFrame, singleReading};
 ghost use Rattle.frame.specs.Laid.{frameTold, bodyFrame};
 ghost use Rattle.measurement_body.specs.Kinds.{sortOf};
+ghost use Rattle.single_body.specs.Kinds.{contentsMean, idOf, fieldsBefore};
+ghost use Rattle.single_body.specs.Singles.{single};
+ghost use Rattle.walk.specs.Elements.{elementsIn};
 use crate::Frame;
 use crate::Reading;
 use action::Opening;
 use answer::Answer;
-use element::channel_switch;
-use element::tpc_report;
-use element::tpc_request;
 use measurement_body::Kind;
 use measurement_body::Place;
+use single_body::Single;
 
 // A body that was read, and where the contents of its request or its report at an index lie: absent past the last, and in a body of
 // another kind.
@@ -65,33 +68,24 @@ fn read_measurements(body: &[u8], kind: Kind, token: u8, index: usize) -> Locate
     }
 }
 
-// Action 2: one element 34.
-fn read_tpc_request(body: &[u8], token: u8) -> Reading
-    ensures { λ r. ⌜ frameTold r ≡ bodyFrame (afterOpening (now (body .entry)) (with 2 token)) ⌝ }
+// The frame that the element of a body makes, after its token.
+fn single_frame(said: Single, token: u8) -> Frame
+    ensures { λ r. ⌜ r ≡ singleFrame token said ⌝ }
 {
-    match single_body::read_tpc_request(body) {
-        tpc_request::Reading::Refused(refusal) => Reading::Refused(refusal),
-        tpc_request::Reading::Is => Reading::Is(Frame::TpcRequest { token }),
+    match said {
+        Single::TpcRequest => Frame::TpcRequest { token },
+        Single::TpcReport(report) => Frame::TpcReport { token, report },
+        Single::ChannelSwitch(switch) => Frame::ChannelSwitch(switch),
     }
 }
 
-// Action 3: one element 35.
-fn read_tpc_report(body: &[u8], token: u8) -> Reading
-    ensures { λ r. ⌜ frameTold r ≡ bodyFrame (afterOpening (now (body .entry)) (with 3 token)) ⌝ }
+// Actions 2, 3 and 4: one element. Action 4 has no token, so that the one given is not looked at.
+fn read_single(body: &[u8], kind: single_body::Kind, token: u8) -> Located
+    ensures { λ r. ⌜ r ≡ unplaced (singleReading token (single (idOf kind) (contentsMean kind) (elementsIn (drop (fieldsBefore kind) (now (body .entry)))))) ⌝ }
 {
-    match single_body::read_tpc_report(body) {
-        tpc_report::Reading::Refused(refusal) => Reading::Refused(refusal),
-        tpc_report::Reading::Is(report) => Reading::Is(Frame::TpcReport { token, report }),
-    }
-}
-
-// Action 4: one element 37, and no token.
-fn read_switch(body: &[u8]) -> Reading
-    ensures { λ r. ⌜ frameTold r ≡ bodyFrame (afterOpening (now (body .entry)) switching) ⌝ }
-{
-    match single_body::read_channel_switch(body) {
-        channel_switch::Reading::Refused(refusal) => Reading::Refused(refusal),
-        channel_switch::Reading::Is(switch) => Reading::Is(Frame::ChannelSwitch(switch)),
+    match single_body::read(body, kind) {
+        single_body::Reading::Refused(refusal) => unplaced(Reading::Refused(refusal)),
+        single_body::Reading::Is(said) => unplaced(Reading::Is(single_frame(said, token))),
     }
 }
 
@@ -101,12 +95,12 @@ pub fn read_at(body: &[u8], index: usize) -> Located
 {
     match action::open(body) {
         Opening::Refused(refusal) => unplaced(Reading::Refused(refusal)),
-        Opening::Switch => unplaced(read_switch(body)),
+        Opening::Switch => read_single(body, single_body::Kind::ChannelSwitch, 0),
         Opening::Token { action, token } => match action {
             0 => read_measurements(body, Kind::Requests, token, index),
             1 => read_measurements(body, Kind::Reports, token, index),
-            2 => unplaced(read_tpc_request(body, token)),
-            _ => unplaced(read_tpc_report(body, token)),
+            2 => read_single(body, single_body::Kind::TpcRequest, token),
+            _ => read_single(body, single_body::Kind::TpcReport, token),
         },
     }
 }

@@ -2,9 +2,10 @@
 ghost use mathlib.Core.Path.{_≡_};
 ghost use Rattle.answer.specs.Checks.{andThen};
 ghost use Rattle.frame.specs.Actions.{actionMeans};
-ghost use Rattle.frame.specs.CodeTerms.Located.{PlaceWithin, readThere, locatedIn};
-ghost use Rattle.frame.specs.Frames.{kindOf, frameMeans, requestIn, reportIn, elementOf};
+ghost use Rattle.frame.specs.CodeTerms.Located.{PlaceWithin, readThere, locatedIn, kindMeans};
+ghost use Rattle.frame.specs.Frames.{frameMeans, requestIn, reportIn, elementOf};
 ghost use Rattle.frame.specs.Laid.{frameTold, bodyFrame};
+ghost use Rattle.header.specs.Headers.{bodyOf};
 ghost use Rattle.measurement_element.specs.MeasurementReport.{reportMeans, reportLaid};
 ghost use Rattle.measurement_element.specs.MeasurementRequest.{requestTold, requestMeans};
 use crate::Reading;
@@ -71,21 +72,27 @@ pub fn request_in(body: &[u8], index: usize) -> measurement_request::Reading
     asked.request
 }
 
-// A body of any subtype, and where its element at an index lies: beacons and probe responses have none.
-fn locate(body: &[u8], subtype: Subtype, interval: u16, index: usize) -> Located
-    ensures { λ r. ⌜ r ≡ locatedIn index (now (body .entry)) (kindOf interval subtype (now (body .entry))) ⌝ }
+// A frame, and where in its body the element at an index lies: beacons and probe responses have none.
+fn locate(frame: &[u8], own: [u8; 6], ap: [u8; 6], interval: u16, index: usize) -> Located
+    ensures { λ r. ⌜ r ≡ locatedIn index (bodyOf (now (frame .entry))) (kindMeans own ap interval (now (frame .entry))) ⌝ }
 {
-    match subtype {
-        Subtype::Action => bodies::read_at(body, index),
-        Subtype::Beacon => {
-            let heard = crate::read_notice(body, interval, false, false);
-            let reading = heard.reading;
-            bodies::unplaced(reading)
-        }
-        Subtype::ProbeResponse => {
-            let heard = crate::read_notice(body, interval, true, false);
-            let reading = heard.reading;
-            bodies::unplaced(reading)
+    match header::read(frame, own, ap) {
+        Header::Refused(refusal) => bodies::unplaced(Reading::Refused(refusal)),
+        Header::Is { subtype, to_all: _ } => {
+            let body = header::body(frame);
+            match subtype {
+                Subtype::Action => bodies::read_at(body, index),
+                Subtype::Beacon => {
+                    let heard = crate::read_notice(body, interval, false, false);
+                    let reading = heard.reading;
+                    bodies::unplaced(reading)
+                }
+                Subtype::ProbeResponse => {
+                    let heard = crate::read_notice(body, interval, true, false);
+                    let reading = heard.reading;
+                    bodies::unplaced(reading)
+                }
+            }
         }
     }
 }
@@ -100,16 +107,10 @@ pub fn request_at(
 ) -> measurement_request::Reading
     ensures { λ r. ⌜ requestTold r ≡ elementOf requestIn index (frameMeans own ap interval (now (frame .entry))) ⌝ }
 {
-    match header::read(frame, own, ap) {
-        Header::Refused(refusal) => measurement_request::Reading::Refused(refusal),
-        Header::Is { subtype, to_all: _ } => {
-            let body = &frame[header::LENGTH..];
-            let found = locate(body, subtype, interval, index);
-            let reading = found.reading;
-            let place = found.request;
-            request_there(body, reading, place)
-        }
-    }
+    let found = locate(frame, own, ap, interval, index);
+    let reading = found.reading;
+    let place = found.request;
+    request_there(header::body(frame), reading, place)
 }
 
 // The report at an index of a frame.
@@ -122,14 +123,8 @@ pub fn report_at(
 ) -> measurement_report::Reading
     ensures { λ r. ⌜ r ≡ reportLaid (elementOf reportIn index (frameMeans own ap interval (now (frame .entry)))) ⌝ }
 {
-    match header::read(frame, own, ap) {
-        Header::Refused(refusal) => measurement_report::refused(refusal),
-        Header::Is { subtype, to_all: _ } => {
-            let body = &frame[header::LENGTH..];
-            let found = locate(body, subtype, interval, index);
-            let reading = found.reading;
-            let place = found.report;
-            report_there(body, reading, place)
-        }
-    }
+    let found = locate(frame, own, ap, interval, index);
+    let reading = found.reading;
+    let place = found.report;
+    report_there(header::body(frame), reading, place)
 }

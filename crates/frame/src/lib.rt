@@ -109,7 +109,7 @@ pub fn read(frame: &[u8], own: [u8; 6], ap: [u8; 6], interval: u16) -> Received
             subtype,
             to_all: broadcast,
         } => {
-            let body = &frame[header::LENGTH..];
+            let body = header::body(frame);
             match subtype {
                 Subtype::Beacon => read_notice(body, interval, false, broadcast),
                 Subtype::ProbeResponse => read_notice(body, interval, true, broadcast),

@@ -4,7 +4,7 @@ use mathlib.Core.Bool.{Bool, true, false, not, _&&_, _||_}
 use mathlib.Core.List.{List, [], _∷_}
 use Prim.Native.Nat.{ℕ, _/_, _%_}
 use lib.Dec.{ltb, eqb}
-use lib.ListN.{length, replicate}
+use lib.ListN.{length, drop, replicate}
 use Rattle.answer.specs.Checks.{Outcome, refused, accepted, pick, _⇒_, judged, andThen}
 use Rattle.answer.specs.declared.Refusal.{Refusal}
 use Rattle.octets.specs.Numbers.{octet, octetsFrom, bit}
@@ -19,6 +19,10 @@ headerLength = 24
 
 abbrev pub longestFrame : ℕ
 longestFrame = 2336
+
+-- what stands after the header
+abbrev pub bodyOf : List ℕ → List ℕ
+bodyOf f = drop headerLength f
 
 -- whether two lists of octets are the same
 abbrev pub same : List ℕ → List ℕ → Bool

@@ -1,6 +1,7 @@
 // The header of a management frame (document 01, "Octets"; the base standard, with 802.11h 7.2.3).
 mod address;
 mod management;
+mod parts;
 
 pub use address::Addressed;
 pub use address::read_address;
@@ -9,6 +10,7 @@ pub use management::LONGEST_FRAME;
 pub use management::Management;
 pub use management::Subtype;
 pub use management::read_management;
+pub use parts::body;
 ghost use mathlib.Core.Path.{_≡_};
 ghost use Rattle.header.specs.Headers.{headerTold, headerMeans};
 use answer::Refusal;

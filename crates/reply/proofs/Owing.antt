@@ -9,14 +9,14 @@ use Rattle.answer.proofs.Judged.{never, passed}
 use Rattle.answer.specs.Checks.{Outcome, refused, accepted, andThen}
 use Rattle.answer.specs.declared.Refusal.{Refusal}
 use Rattle.frame.specs.Actions.{Body, requests, reports, tpcRequest, tpcReport, switch, actionMeans}
-use Rattle.frame.specs.Frames.{bodyOf, requestIn}
+use Rattle.frame.specs.Frames.{requestIn}
 use Rattle.frame.specs.Laid.{actionFrame, bodyFrame}
 use Rattle.frame.specs.declared.Frame.{Frame}
 use Rattle.measurement_body.specs.Lists.{nth}
 use Rattle.measurement_element.specs.MeasurementRequest.{requestTold}
 use Rattle.measurement_element.specs.declared.measurement_request.Reading.{Reading}
 use Rattle.measurement_element.specs.declared.measurement_request.Request.{Request}
-use Rattle.header.specs.Headers.{headerLength, Head, headerMeans}
+use Rattle.header.specs.Headers.{bodyOf, headerLength, Head, headerMeans}
 use Rattle.header.proofs.Heard.{has-header}
 use Rattle.header.specs.declared.management.Subtype.{Subtype}
 use Rattle.reply.specs.CodeTerms.Asked.{requestReading, dueOf}
@@ -80,7 +80,3 @@ module _ (i : ℕ) (own ap' f : List ℕ) where
 
     pub by-kind : toAll ≡ false → dueOf i (bySubtype s (bodyOf f)) ≡ dueOf i (dueMeans own ap' f)
     by-kind t = sym (ap (λ (x : Bool). dueOf i (afterHeader f (record { subtype = s; toAll = x }))) t) ∙ after
-
-  -- a frame whose header is read has one
-  pub headed : (h : Head) → accepted h ≡ headerMeans own ap' f → headerLength ≤ length f
-  headed h e = has-header own ap' f h (sym e)

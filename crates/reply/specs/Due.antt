@@ -5,8 +5,7 @@ use Prim.Native.Nat.{ℕ}
 use Rattle.answer.specs.Checks.{Outcome, refused, accepted, pick, andThen}
 use Rattle.answer.specs.declared.Refusal.{Refusal}
 use Rattle.frame.specs.Actions.{Body, actionMeans}
-use Rattle.frame.specs.Frames.{bodyOf}
-use Rattle.header.specs.Headers.{Head, headerMeans}
+use Rattle.header.specs.Headers.{bodyOf, Head, headerMeans}
 use Rattle.header.specs.declared.management.Subtype.{Subtype}
 
 -- a broken body is due none

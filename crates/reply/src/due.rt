@@ -59,7 +59,7 @@ pub fn request_of(frame: &[u8], own: [u8; 6], ap: [u8; 6], index: usize) -> Due
                 return none;
             }
             match subtype {
-                Subtype::Action => request_in(&frame[header::LENGTH..], index),
+                Subtype::Action => request_in(header::body(frame), index),
                 Subtype::Beacon => none,
                 Subtype::ProbeResponse => none,
             }

@@ -1,15 +1,14 @@
 -- `read` meets its contract: the header, then the body by its subtype.
 use mathlib.Core.Path.{_≡_, sym, ap, _∙_}
 use mathlib.Core.List.{List}
-use Prim.Native.Nat.{ℕ, _-_, _≤_}
-use lib.ListN.{length, take, drop}
+use Prim.Native.Nat.{ℕ}
+use denote.Ref.{now}
 use Rattle.answer.specs.Checks.{accepted}
-use Rattle.header.specs.Headers.{headerLength, headerTold, Head, headerMeans}
+use Rattle.header.specs.Headers.{bodyOf, headerTold, Head, headerMeans}
 use Rattle.header.specs.declared.management.Subtype.{Subtype}
-use Rattle.frame.specs.Frames.{bodyOf, kindOf, sent, frameMeans}
+use Rattle.frame.specs.Frames.{kindOf, sent, frameMeans}
 use Rattle.frame.specs.Laid.{frameLaid}
-use Rattle.frame.proofs.ReadFrames.{framed, headed}
-use Rattle.frame.proofs.Tails.{tail}
+use Rattle.frame.proofs.ReadFrames.{framed}
 use borrow.Author.Needs.{needs}
 use Rattle.frame.proofs.read.Statement.{statement}
 use Rattle.frame.proofs.read.Tie as tie
@@ -21,24 +20,15 @@ head c = record { subtype = c .before .subtype .given .0 .0; toAll = c .before .
 header-read : (c : tie.After-known-told2) → accepted (head c) ≡ headerMeans (c .before .before .before .before .before .args .own) (c .before .before .before .before .before .args .ap) (c .before .before .before .before .before .args .frame .now)
 header-read c = ap headerTold (sym (c .before .subtype .given .1)) ∙ c .before .before .before .read .ensures
 
-long : (c : tie.After-known-told2) → headerLength ≤ length (c .before .before .before .before .before .args .frame .now)
-long c = let a = c .before .before .before .before .before .args in headed (a .own) (a .ap) (a .interval) (a .frame .now) (head c) (header-read c)
-
 -- what is made of the body, by the subtype that was found
-of-body : (c : tie.After-known-told2) (t : Subtype) → head c .subtype ≡ t
-    → frameLaid (sent (head c .toAll) (kindOf (c .before .before .before .before .before .args .interval) t (take (length (c .before .before .before .before .before .args .frame .now) - headerLength) (drop headerLength (c .before .before .before .before .before .args .frame .now)))))
-    ≡ frameLaid (frameMeans (c .before .before .before .before .before .args .own) (c .before .before .before .before .before .args .ap) (c .before .before .before .before .before .args .interval) (c .before .before .before .before .before .args .frame .now))
-of-body c t e =
-    let a = c .before .before .before .before .before .args in
-    ap (λ (s : List ℕ). frameLaid (sent (head c .toAll) (kindOf (a .interval) t s))) (tail headerLength (a .frame .now))
-    ∙ ap (λ (x : Subtype). frameLaid (sent (head c .toAll) (kindOf (a .interval) x (bodyOf (a .frame .now))))) (sym e)
-    ∙ ap frameLaid (framed (a .own) (a .ap) (a .interval) (a .frame .now) _ (header-read c))
-
-sub-body : tie.Need-sub-body
-sub-body c = long c
-
-part-body-start : tie.Need-part-body-start
-part-body-start c = long c
+of-body : (c : tie.After-body) {t : Subtype} → head (c .before) .subtype ≡ t
+    → let a = c .before .before .before .before .before .before .args in
+    frameLaid (sent (head (c .before) .toAll) (kindOf (a .interval) t (now (c .body .result)))) ≡ frameLaid (frameMeans (a .own) (a .ap) (a .interval) (a .frame .now))
+of-body c {t} e =
+    let a = c .before .before .before .before .before .before .args in
+    ap (λ (s : List ℕ). frameLaid (sent (head (c .before) .toAll) (kindOf (a .interval) t s))) (c .body .ensures)
+    ∙ ap (λ (x : Subtype). frameLaid (sent (head (c .before) .toAll) (kindOf (a .interval) x (bodyOf (a .frame .now))))) (sym e)
+    ∙ ap frameLaid (framed (a .own) (a .ap) (a .interval) (a .frame .now) _ (header-read (c .before)))
 
 returns : tie.Need-returns
 returns c =
@@ -46,13 +36,13 @@ returns c =
     c .alone .ensures ∙ ap frameLaid (framed (a .own) (a .ap) (a .interval) (a .frame .now) _ (ap headerTold (sym (c .before .before .refusal .given .1)) ∙ c .before .before .before .before .read .ensures))
 
 returns-2 : tie.Need-returns-2
-returns-2 c = c .read-notice .ensures ∙ of-body (c .before .before .before .before) _ (c .before .enum-told .given .1)
+returns-2 c = c .read-notice .ensures ∙ of-body (c .before .before .before) (c .before .enum-told .given .1)
 
 returns-3 : tie.Need-returns-3
-returns-3 c = c .read-notice2 .ensures ∙ of-body (c .before .before .before .before) _ (c .before .enum-told2 .given .1)
+returns-3 c = c .read-notice2 .ensures ∙ of-body (c .before .before .before) (c .before .enum-told2 .given .1)
 
 returns-4 : tie.Need-returns-4
-returns-4 c = c .read-action .ensures ∙ of-body (c .before .before .before .before) _ (c .before .enum-told3 .given .1)
+returns-4 c = c .read-action .ensures ∙ of-body (c .before .before .before) (c .before .enum-told3 .given .1)
 
 pub read-spec : {M : Type 1} → statement M
 read-spec =
@@ -62,9 +52,7 @@ read-spec =
     (λ c. search needs)
     (λ c κs. search needs)
     (λ c. search needs)
-    sub-body
-    part-body-start
-    (λ c. search needs)
+    (λ c κs. search needs)
     (λ c. search needs)
     (λ c κs. search needs)
     (λ c. search needs)

@@ -3,13 +3,14 @@ use mathlib.Core.Bool.{false}
 use mathlib.Core.List.{List}
 use Prim.Native.Nat.{ℕ, _-_, _≤_}
 use lib.ListN.{length, take, drop}
-use Rattle.answer.specs.Checks.{Outcome, refused, accepted}
+use Rattle.answer.specs.Checks.{Outcome, refused, accepted, andThen}
 use Rattle.answer.specs.declared.Refusal.{Refusal}
+use Rattle.header.specs.Headers.{bodyOf, headerMeans}
 use Rattle.measurement_body.specs.Surveys.{placeIn}
 use Rattle.measurement_body.specs.declared.kinds.Kind as Measurements
 use Rattle.measurement_body.specs.declared.surveying.Place.{Place}
 use Rattle.frame.specs.Actions.{Body, requests, reports, tpcRequest, tpcReport, switch}
-use Rattle.frame.specs.Frames.{Kind, beacon, probeResponse, action, sent}
+use Rattle.frame.specs.Frames.{Kind, beacon, probeResponse, action, kindOf, sent}
 use Rattle.frame.specs.Laid.{frameLaid}
 use Rattle.frame.specs.declared.Frame.{Frame}
 use Rattle.frame.specs.declared.Reading.{Reading}
@@ -39,6 +40,10 @@ locatedIn i body (refused r) = unplaced (Reading.Refused r)
 locatedIn i body (accepted (beacon t)) = unplaced (frameLaid (sent false (accepted (beacon t))) .reading)
 locatedIn i body (accepted (probeResponse t)) = unplaced (frameLaid (sent false (accepted (probeResponse t))) .reading)
 locatedIn i body (accepted (action b)) = located i body (accepted b)
+
+-- of a frame
+unfoldable pub kindMeans : List ℕ → List ℕ → ℕ → List ℕ → Outcome Kind
+kindMeans own ap b f = andThen (headerMeans own ap f) (λ h. kindOf b (h .subtype) (bodyOf f))
 
 -- ---- what is read there
 

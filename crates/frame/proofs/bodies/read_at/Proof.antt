@@ -9,7 +9,7 @@ use Rattle.answer.specs.Checks.{andThen}
 use Rattle.element.specs.ChannelSwitch.{switchMeans}
 use Rattle.element.specs.TpcReport.{tpcReportMeans}
 use Rattle.element.specs.TpcRequest.{tpcRequestMeans}
-use Rattle.single_body.specs.Singles.{single}
+use Rattle.single_body.specs.declared.kinds.Single.{Single}
 use Rattle.walk.specs.Elements.{elementsIn}
 use Rattle.frame.specs.Actions.{tpcRequest, tpcReport, switch, afterOpening, actionMeans}
 use Rattle.frame.specs.CodeTerms.Located.{located}
@@ -36,10 +36,10 @@ returns c = c .unplaced .ensures ∙ after (c .before .before .before .before) (
 
 returns-2 : tie.Need-returns-2
 returns-2 c =
-    let a = c .before .before .before .before .before .before .args in
-    c .unplaced2 .ensures
-    ∙ one-element (a .body .now) (a .index) (single 37 switchMeans (elementsIn (drop switchFixedFields (a .body .now)))) switch (λ s. refl) (c .before .read-switch .ensures)
-    ∙ after (c .before .before .before .before) (c .before .before .enum-told .given .1)
+    let a = c .before .before .before .before .before .args in
+    c .read-single .ensures
+    ∙ one-element (a .body .now) (a .index) 37 switchMeans (elementsIn (drop switchFixedFields (a .body .now))) 0 Single.ChannelSwitch switch (λ s. refl)
+    ∙ after (c .before .before .before) (c .before .enum-told .given .1)
 
 returns-3 : tie.Need-returns-3
 returns-3 c =
@@ -53,21 +53,21 @@ returns-4 c =
 
 returns-5 : tie.Need-returns-5
 returns-5 c =
-    let a = c .before .before .before .before .before .before .before .before .args in
-    let token = c .before .before .before .before .action .given .0 .1 .0 in
-    c .unplaced3 .ensures
-    ∙ one-element (a .body .now) (a .index) (single 34 tpcRequestMeans (elementsIn (drop fixedFields (a .body .now)))) (λ u. tpcRequest token) (λ u. refl) (c .before .read-tpc-request .ensures)
-    ∙ numbered (a .index) (a .body .now) token (c .before .before .match2 .keys3) ∙ after (c .before .before .before .before .before .before) (c .before .before .before .before .action .given .1)
+    let a = c .before .before .before .before .before .before .before .args in
+    let token = c .before .before .before .action .given .0 .1 .0 in
+    c .read-single2 .ensures
+    ∙ one-element (a .body .now) (a .index) 34 tpcRequestMeans (elementsIn (drop fixedFields (a .body .now))) token (λ u. Single.TpcRequest) (λ u. tpcRequest token) (λ u. refl)
+    ∙ numbered (a .index) (a .body .now) token (c .before .match2 .keys3) ∙ after (c .before .before .before .before .before) (c .before .before .before .action .given .1)
 
 returns-6 : tie.Need-returns-6
 returns-6 c =
-    let a = c .before .before .before .before .before .before .before .before .args in
-    let token = c .before .before .before .before .action .given .0 .1 .0 in
-    let other = c .before .before .match2 .rest in
-    c .unplaced4 .ensures
-    ∙ one-element (a .body .now) (a .index) (single 35 tpcReportMeans (elementsIn (drop fixedFields (a .body .now)))) (tpcReport token) (λ t. refl) (c .before .read-tpc-report .ensures)
-    ∙ ap (located (a .index) (a .body .now)) (sym (last (a .body .now) (c .before .before .before .before .action .given .0 .0) token (other .0 .0 .1) (other .0 .1) (other .1)))
-    ∙ after (c .before .before .before .before .before .before) (c .before .before .before .before .action .given .1)
+    let a = c .before .before .before .before .before .before .before .args in
+    let token = c .before .before .before .action .given .0 .1 .0 in
+    let other = c .before .match2 .rest in
+    c .read-single3 .ensures
+    ∙ one-element (a .body .now) (a .index) 35 tpcReportMeans (elementsIn (drop fixedFields (a .body .now))) token Single.TpcReport (tpcReport token) (λ t. refl)
+    ∙ ap (located (a .index) (a .body .now)) (sym (last (a .body .now) (c .before .before .before .action .given .0 .0) token (other .0 .0 .1) (other .0 .1) (other .1)))
+    ∙ after (c .before .before .before .before .before) (c .before .before .before .action .given .1)
 
 pub read-at-spec : {M : Type 1} → statement M
 read-at-spec =
@@ -78,10 +78,7 @@ read-at-spec =
     (λ c κs. search needs)
     (λ c. search needs)
     (λ c κs. search needs)
-    (λ c κs. search needs)
     (λ c. search needs)
-    (λ c κs. search needs)
-    (λ c κs. search needs)
     (λ c κs. search needs)
     (λ c κs. search needs)
     (λ c κs. search needs)

@@ -1,70 +1,27 @@
--- `report_at` meets its contract: the header, then what is found in the body and read there.
-use mathlib.Core.Path.{_≡_, sym, ap, subst, _∙_}
-use Prim.Native.Nat.{ℕ, _-_, _≤_}
-use mathlib.Core.List.{List}
-use lib.ListN.{length, take, drop}
-use Rattle.answer.specs.Checks.{accepted}
-use Rattle.header.specs.Headers.{headerLength, headerTold, Head, headerMeans}
-use Rattle.measurement_element.specs.MeasurementReport.{reportMeans, reportLaid}
-use Rattle.frame.specs.CodeTerms.Located.{PlaceWithin, readThere}
-use Rattle.frame.specs.Frames.{reportIn}
-use Rattle.frame.specs.declared.bodies.Located.{Located}
-use Rattle.frame.proofs.ReadFrames.{headed}
-use Rattle.frame.proofs.Indexing.{in-kind, no-header, after-header}
-use Rattle.frame.proofs.Tails.{tail}
+-- `report_at` meets its contract: what is found in the frame, and what is read there.
+use mathlib.Core.Path.{ap, _∙_}
+use Rattle.measurement_element.specs.MeasurementReport.{reportLaid}
+use Rattle.frame.proofs.Indexing.{found-there}
 use borrow.Author.Needs.{needs}
 use Rattle.frame.proofs.index.report_at.Statement.{statement}
 use Rattle.frame.proofs.index.report_at.Tie as tie
 
--- the header that was read, and the body as it is lent
-abbrev head : tie.After-known-told2 → Head
-head c = record { subtype = c .before .subtype .given .0 .0; toAll = c .before .subtype .given .0 .1 .0 }
-
-header-read : (c : tie.After-known-told2) → accepted (head c) ≡ headerMeans (c .before .before .before .before .before .args .own) (c .before .before .before .before .before .args .ap) (c .before .before .before .before .before .args .frame .now)
-header-read c = ap headerTold (sym (c .before .subtype .given .1)) ∙ c .before .before .before .read .ensures
-
-abbrev body : tie.After-known-told2 → List ℕ
-body c = let f = c .before .before .before .before .before .args .frame .now in take (length f - headerLength) (drop headerLength f)
-
-long : (c : tie.After-known-told2) → headerLength ≤ length (c .before .before .before .before .before .args .frame .now)
-long c = let a = c .before .before .before .before .before .args in headed (a .own) (a .ap) (a .interval) (a .frame .now) (head c) (header-read c)
-
-sub-body : tie.Need-sub-body
-sub-body c = long c
-
-part-body-start : tie.Need-part-body-start
-part-body-start c = long c
-
 report-there-requires : tie.Need-report-there-requires
 report-there-requires c κs =
-    let h = c .before .before in
-    let a = c .before .before .before .before .before .before .before .args in
-    subst (λ (l : Located). PlaceWithin (body h) (l .report)) (sym (c .locate .ensures)) (in-kind (body h) (a .index) (a .interval) (head h .subtype) .report-within)
+    let a = c .before .before .before .args in
+    found-there (a .own) (a .ap) (a .interval) (a .frame .now) (a .index) (c .body .ensures) (c .before .locate .ensures) .report-within
 
 returns : tie.Need-returns
 returns c =
-    let a = c .before .before .before .before .before .before .args in
-    c .refused .ensures ∙ ap reportLaid (no-header reportIn (a .index) (a .own) (a .ap) (a .interval) (a .frame .now) (ap headerTold (sym (c .before .before .refusal .given .1)) ∙ c .before .before .before .before .read .ensures))
-
-returns-2 : tie.Need-returns-2
-returns-2 c =
-    let h = c .before .before .before in
-    let a = c .before .before .before .before .before .before .before .before .args in
-    c .report-there .ensures
-    ∙ ap reportLaid (ap (λ (l : Located). readThere reportMeans (body h) (l .reading) (l .report)) (c .before .locate .ensures) ∙ in-kind (body h) (a .index) (a .interval) (head h .subtype) .report-is ∙ after-header reportIn (a .index) (a .own) (a .ap) (a .interval) (a .frame .now) (head h) (header-read h) (tail headerLength (a .frame .now)))
+    let a = c .before .before .before .before .args in
+    let there = found-there (a .own) (a .ap) (a .interval) (a .frame .now) (a .index) (c .before .body .ensures) (c .before .before .locate .ensures) in
+    c .report-there .ensures ∙ ap reportLaid (there .report-is)
 
 pub report-at-spec : {M : Type 1} → statement M
 report-at-spec =
     tie.close
     (tie.spec
     (λ c κs. search needs)
-    (λ c. search needs)
-    (λ c κs. search needs)
-    (λ c. search needs)
-    sub-body
-    part-body-start
-    (λ c. search needs)
     (λ c κs. search needs)
     report-there-requires
-    returns
-    returns-2)
+    returns)

@@ -1,17 +1,14 @@
 -- `request_of` meets its contract: the header, then the body by its subtype.
 use mathlib.Core.List.{List}
 use mathlib.Core.Path.{_≡_, sym, ap, _∙_}
-use Prim.Native.Nat.{ℕ, _≤_}
-use lib.ListN.{length}
+use Prim.Native.Nat.{ℕ}
 use Rattle.answer.specs.Checks.{accepted}
-use Rattle.frame.proofs.Tails.{tail}
 use Rattle.frame.specs.Actions.{actionMeans}
-use Rattle.frame.specs.Frames.{bodyOf}
-use Rattle.header.specs.Headers.{headerLength, headerTold, Head, headerMeans}
+use Rattle.header.specs.Headers.{bodyOf, headerTold, Head, headerMeans}
 use Rattle.header.specs.declared.management.Subtype.{Subtype}
 use Rattle.reply.specs.CodeTerms.Asked.{dueOf}
 use Rattle.reply.specs.Due.{orNone, bySubtype, dueMeans}
-use Rattle.reply.proofs.Owing.{header-refused, to-all, by-kind, headed}
+use Rattle.reply.proofs.Owing.{header-refused, to-all, by-kind}
 use borrow.Author.Needs.{needs}
 use Rattle.reply.proofs.due.request_of.Statement.{statement}
 use Rattle.reply.proofs.due.request_of.Tie as tie
@@ -32,11 +29,6 @@ by-subtype c e =
     ap (λ (t : Subtype). dueOf (a .index) (bySubtype t (bodyOf (a .frame .now)))) (sym e)
     ∙ by-kind (a .index) (a .own) (a .ap) (a .frame .now) _ _ (header-read (c .before)) (c .if1 .left)
 
-long : (c : tie.After-enum-told) → headerLength ≤ length (c .before .before .before .before .before .before .before .before .args .frame .now)
-long c =
-    let a = c .before .before .before .before .before .before .before .before .args in
-    headed (a .index) (a .own) (a .ap) (a .frame .now) _ (header-read (c .before .before .before))
-
 returns : tie.Need-returns
 returns c =
     let a = c .before .before .before .before .before .before .args in
@@ -50,7 +42,7 @@ returns-2 c =
 returns-3 : tie.Need-returns-3
 returns-3 c =
     let a = c .before .before .before .before .before .before .before .before .before .before .args in
-    c .request-in .ensures ∙ ap (λ (s : List ℕ). dueOf (a .index) (orNone (actionMeans s))) (tail headerLength (a .frame .now))
+    c .request-in .ensures ∙ ap (λ (s : List ℕ). dueOf (a .index) (orNone (actionMeans s))) (c .before .body .ensures)
     ∙ by-subtype (c .before .before .before .before) (c .before .before .enum-told .given .1)
 
 returns-4 : tie.Need-returns-4
@@ -68,9 +60,7 @@ request-of-spec =
     (λ c. search needs)
     returns
     (λ c. search needs)
-    long
-    long
-    (λ c. search needs)
+    (λ c κs. search needs)
     (λ c κs. search needs)
     (λ c. search needs)
     (λ c. search needs)

@@ -1,0 +1,107 @@
+-- `read` meets its contract: each way out is a way of a body of one element.
+use mathlib.Core.Path.{_≡_, sym, ap, ap₂, _∙_}
+use mathlib.Core.List.{List}
+use Prim.Native.Nat.{ℕ}
+use lib.ListN.{drop}
+use Rattle.walk.specs.Elements.{elementsIn}
+use Rattle.walk.proofs.Requiring.{Lies, lies, is-not}
+use Rattle.single_body.specs.Kinds.{singleTold, contentsMean, idOf, fieldsBefore}
+use Rattle.single_body.specs.Singles.{single}
+use Rattle.single_body.specs.declared.kinds.Kind.{Kind}
+use Rattle.single_body.proofs.Singling.{not-there, bad, crowded, good}
+use borrow.Author.Needs.{needs}
+use Rattle.single_body.proofs.reading.read.Statement.{statement}
+use Rattle.single_body.proofs.reading.read.Tie as tie
+
+-- the body and its kind, where the element was looked for
+abbrev body : tie.After-required-at → List ℕ
+body c = c .before .before .before .before .args .body .now
+
+abbrev kind : tie.After-required-at → Kind
+kind c = c .before .before .before .before .args .kind
+
+abbrev at : tie.After-required-at → ℕ
+at c = c .before .before .fixed-fields .result
+
+abbrev id : tie.After-required-at → ℕ
+id c = c .before .id .result
+
+-- the place and the ID are those of the kind
+by-kind : (c : tie.After-required-at) → single (id c) (contentsMean (kind c)) (elementsIn (drop (at c) (body c)))
+    ≡ single (idOf (kind c)) (contentsMean (kind c)) (elementsIn (drop (fieldsBefore (kind c)) (body c)))
+by-kind c =
+    ap₂ (λ (i n : ℕ). single i (contentsMean (kind c)) (elementsIn (drop n (body c)))) (c .before .id .ensures) (c .before .before .fixed-fields .ensures)
+
+-- where the contents lie
+module _ (c : tie.After-known-told2) where
+  abbrev start : ℕ
+  start = c .before .start .given .0 .0
+
+  abbrev stop : ℕ
+  stop = c .before .start .given .0 .1 .0
+
+  place : Lies (body (c .before .before .before)) (at (c .before .before .before)) (id (c .before .before .before)) start stop
+  place =
+      let m = c .before .before .before in
+      lies (body m) (at m) (id m) (m .required-at .result) (m .required-at .ensures .0) (m .required-at .ensures .1) (c .before .start .given .1)
+
+sub-read-contents : tie.Need-sub-read-contents
+sub-read-contents c = place c .ordered
+
+part-read-contents-start : tie.Need-part-read-contents-start
+part-read-contents-start c = place c .ordered
+
+part-read-contents-end : tie.Need-part-read-contents-end
+part-read-contents-end c = place c .inside
+
+returns : tie.Need-returns
+returns c =
+    let m = c .before .before .before in
+    let p = m .before .before .before .before in
+    let r = p .before .before .before in
+    crowded (id r) (contentsMean (kind r)) (place p) (ap singleTold (sym (m .said .given .1)) ∙ m .before .before .read-contents .ensures)
+    (sym (c .before .has-left-over .ensures) ∙ c .if1 .taken)
+    ∙ by-kind r
+
+returns-2 : tie.Need-returns-2
+returns-2 c =
+    let r = c .before .before .before in
+    not-there (id r) (contentsMean (kind r)) _ (is-not (body r) (at r) (id r) (r .required-at .result) (r .required-at .ensures .0) (c .before .refusal .given .1))
+    ∙ by-kind r
+
+returns-3 : tie.Need-returns-3
+returns-3 c =
+    let m = c .before .before .before in
+    let p = m .before .before in
+    let r = p .before .before .before in
+    bad (id r) (contentsMean (kind r)) (place p) (ap singleTold (sym (c .before .refusal2 .given .1)) ∙ m .read-contents .ensures) ∙ by-kind r
+
+returns-4 : tie.Need-returns-4
+returns-4 c =
+    let m = c .before .before .before in
+    let p = m .before .before .before .before in
+    let r = p .before .before .before in
+    good (id r) (contentsMean (kind r)) (place p) (ap singleTold (sym (m .said .given .1)) ∙ m .before .before .read-contents .ensures)
+    (sym (c .before .has-left-over .ensures) ∙ c .if1 .left)
+    ∙ by-kind r
+
+pub read-spec : {M : Type 1} → statement M
+read-spec =
+    tie.close
+    (tie.spec
+    (λ c κs. search needs)
+    (λ c κs. search needs)
+    (λ c κs. search needs)
+    (λ c. search needs)
+    (λ c. search needs)
+    sub-read-contents
+    part-read-contents-start
+    part-read-contents-end
+    (λ c κs. search needs)
+    (λ c. search needs)
+    (λ c. search needs)
+    (λ c κs. search needs)
+    returns
+    returns-2
+    returns-3
+    returns-4)
