@@ -17,7 +17,7 @@ use Rattle.element.specs.declared.quiet.Quiet.{Quiet}
 use Rattle.element.specs.declared.tpc_report.TpcReport.{TpcReport}
 use Rattle.octets.specs.Numbers.{number}
 use Rattle.walk.specs.Elements.{Elements, more, elementsIn}
-use Rattle.beacon.specs.Beacons.{Told, opening, fixedLength, elementMeans, takes, says, beaconMeans}
+use Rattle.beacon.specs.Beacons.{Told, opening, fixedLength, withoutMargin, elementMeans, takes, says, beaconMeans}
 use Rattle.beacon.specs.declared.elements.Element.{Element}
 
 -- ---- an element by its ID: `o` is what its reader told
@@ -27,7 +27,7 @@ module _ (b id : ℕ) (c : List ℕ) where
   unfolding elementMeans
   is-power e f = simp (e, f)
 
-  pub is-report : id ≡ 35 → {o : Outcome TpcReport} → o ≡ tpcReportMeans c → andThen o (λ t. accepted (Element.Report t)) ≡ elementMeans b id c
+  pub is-report : id ≡ 35 → {o : Outcome TpcReport} → o ≡ tpcReportMeans c → andThen o (λ t. accepted (Element.Report (withoutMargin t))) ≡ elementMeans b id c
   unfolding elementMeans
   is-report e f = simp (e, f)
 

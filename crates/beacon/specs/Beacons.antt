@@ -4,6 +4,7 @@ use mathlib.Core.Bool.{not}
 use mathlib.Core.List.{List, [], _∷_, _++_}
 use Prim.Native.Nat.{ℕ}
 use lib.Dec.{ltb, leb, eqb}
+use lib.IntN.{pos}
 use lib.ListN.{length, drop}
 use Rattle.answer.specs.Checks.{Outcome, refused, accepted, pick, _⇒_, checked, judged, andThen}
 use Rattle.answer.specs.declared.Refusal.{Refusal}
@@ -12,6 +13,7 @@ use Rattle.element.specs.PowerConstraint.{powerMeans}
 use Rattle.element.specs.Quiet.{quietMeans}
 use Rattle.element.specs.TpcReport.{tpcReportMeans}
 use Rattle.element.specs.declared.quiet.Quiet.{Quiet}
+use Rattle.element.specs.declared.tpc_report.TpcReport.{TpcReport}
 use Rattle.octets.specs.Numbers.{number}
 use Rattle.walk.specs.Elements.{Elements, end, cutHeader, cutContents, more, elementsIn}
 use Rattle.beacon.specs.Notices.{elementless, withPower, withReport, withSwitch, hasPower, hasReport, hasSwitch}
@@ -34,11 +36,15 @@ pub record Told : Type 0 where
 abbrev pub tells : Notice → List Quiet → Told
 tells n qs = record { notice = n; quiets = qs }
 
+-- a TPC Report in a beacon or a probe response: its margin is set to 0 there, and is ignored (7.3.2.18)
+abbrev pub withoutMargin : TpcReport → TpcReport
+withoutMargin t = record { power = t .power; margin = pos 0 }
+
 -- a whole element by its ID: length (8), value (9)
 unfoldable pub elementMeans : ℕ → ℕ → List ℕ → Outcome Element
 elementMeans b id c =
     pick (eqb id 32) (andThen (powerMeans c) (λ p. accepted (Element.Power p)))
-    (pick (eqb id 35) (andThen (tpcReportMeans c) (λ t. accepted (Element.Report t)))
+    (pick (eqb id 35) (andThen (tpcReportMeans c) (λ t. accepted (Element.Report (withoutMargin t))))
     (pick (eqb id 37) (andThen (switchMeans c) (λ s. accepted (Element.Switch s)))
     (pick (eqb id 40) (andThen (quietMeans b c) (λ q. accepted (Element.Quiet q)))
     (accepted Element.Other))))

@@ -1,6 +1,6 @@
 // A whole element of a beacon or a probe response, by its ID (document 01, "Octets").
 ghost use mathlib.Core.Path.{_≡_};
-ghost use Rattle.beacon.specs.Beacons.{elementMeans};
+ghost use Rattle.beacon.specs.Beacons.{withoutMargin, elementMeans};
 ghost use Rattle.beacon.specs.CodeTerms.Adding.{elementTold};
 use answer::Refusal;
 use element::channel_switch;
@@ -26,6 +26,16 @@ pub enum Reading {
     Is(Element),
 }
 
+// A TPC Report as a beacon or a probe response says it: the margin is set to 0 there, and is ignored (7.3.2.18).
+fn without_margin(report: TpcReport) -> TpcReport
+    ensures { λ r. ⌜ r ≡ withoutMargin report ⌝ }
+{
+    TpcReport {
+        margin: 0,
+        ..report
+    }
+}
+
 pub fn element_of(id: u8, contents: &[u8], interval: u16) -> Reading
     ensures { λ r. ⌜ elementTold r ≡ elementMeans interval id (now (contents .entry)) ⌝ }
 {
@@ -36,7 +46,7 @@ pub fn element_of(id: u8, contents: &[u8], interval: u16) -> Reading
         },
         tpc_report::ID => match tpc_report::read(contents) {
             tpc_report::Reading::Refused(refusal) => Reading::Refused(refusal),
-            tpc_report::Reading::Is(report) => Reading::Is(Element::Report(report)),
+            tpc_report::Reading::Is(report) => Reading::Is(Element::Report(without_margin(report))),
         },
         channel_switch::ID => match channel_switch::read(contents) {
             channel_switch::Reading::Refused(refusal) => Reading::Refused(refusal),

@@ -7,6 +7,9 @@ use Rattle.element.specs.ChannelSwitch.{switchTold}
 use Rattle.element.specs.PowerConstraint.{powerTold}
 use Rattle.element.specs.Quiet.{quietTold}
 use Rattle.element.specs.TpcReport.{tpcReportTold}
+use Rattle.element.specs.declared.tpc_report.TpcReport.{TpcReport}
+use Rattle.answer.specs.Checks.{accepted}
+use Rattle.beacon.specs.declared.elements.Element.{Element}
 use Rattle.beacon.proofs.Saying.{is-power, is-report, is-switch, is-quiet, is-other}
 use Rattle.beacon.proofs.elements.element_of.Statement.{statement}
 use Rattle.beacon.proofs.elements.element_of.Tie as tie
@@ -31,9 +34,10 @@ returns-3 c =
 
 returns-4 : tie.Need-returns-4
 returns-4 c =
-    let k = c .before .before .before in
+    let k = c .before .before .before .before in
     let a = k .before .before .before .args in
-    is-report (a .interval) (a .id) (now (a .contents)) (k .before .match .keys2) (ap tpcReportTold (sym (c .before .report .given .1)) ∙ k .read2 .ensures)
+    ap (λ (t : TpcReport). accepted (Element.Report t)) (c .without-margin .ensures)
+    ∙ is-report (a .interval) (a .id) (now (a .contents)) (k .before .match .keys2) (ap tpcReportTold (sym (c .before .before .report .given .1)) ∙ k .read2 .ensures)
 
 returns-5 : tie.Need-returns-5
 returns-5 c =
@@ -75,6 +79,7 @@ element-of-spec =
     (λ c κs. search needs)
     (λ c. search needs)
     (λ c. search needs)
+    (λ c κs. search needs)
     (λ c κs. search needs)
     (λ c. search needs)
     (λ c. search needs)
