@@ -2,7 +2,7 @@
 -- of octets 0 to 509, modulo 65,536. A wrong check, a used length over 508 or a short last block is damaged.
 use mathlib.Core.Bool.{Bool, not, _||_}
 use mathlib.Core.List.{List}
-use Prim.Native.Nat.{ℕ, _+_, _%_}
+use Prim.Native.Nat.{ℕ, _+_, _%_, _-_, _/_}
 use lib.Dec.{ltb, leb, eqb}
 use lib.ListN.{length, take, drop}
 use Rattle.answer.specs.Checks.{pick}
@@ -39,3 +39,7 @@ usedPart b = take (usedLength b) (drop 2 b)
 -- where a block ends that begins at a place of a file of so many octets: a last one may be short
 abbrev pub endAfter : ℕ → ℕ → ℕ
 endAfter at size = pick (leb (at + blockSize) size) (at + blockSize) size
+
+-- how many blocks so many octets are: a last one may be short
+abbrev pub blocksOf : ℕ → ℕ
+blocksOf size = (size + (blockSize - 1)) / blockSize

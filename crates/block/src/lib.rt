@@ -3,7 +3,7 @@ ghost use mathlib.Core.Path.{_≡_};
 ghost use Prim.Native.Nat.{_*_, _≤_};
 ghost use lib.ListN.{length, take};
 ghost use Rattle.octets.specs.Sums.{sumOf};
-ghost use Rattle.block.specs.Blocks.{checkedLength, endAfter, blockMeans};
+ghost use Rattle.block.specs.Blocks.{checkedLength, endAfter, blockMeans, blocksOf};
 
 // How many octets a block has, how many of them come before its check, and how many of these the records may use.
 pub const SIZE: usize = 512;
@@ -61,4 +61,15 @@ pub fn end_after(at: usize, size: usize) -> usize
         return size;
     }
     at + SIZE
+}
+
+// How many blocks so many octets are: a last one may be short.
+pub fn count_in(size: usize) -> usize
+    ensures { λ r. ⌜ r ≡ blocksOf size ⌝ }
+{
+    let whole = size / SIZE;
+    if size % SIZE == 0 {
+        return whole;
+    }
+    whole + 1
 }

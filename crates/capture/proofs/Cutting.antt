@@ -27,7 +27,7 @@ after zero os = refl
 after (suc skip) [] = refl
 after (suc skip) (o ∷ os) = after skip os
 
-first-block : (os : List ℕ) → 0 < length os → blocksIn os ≡ take 512 os ∷ blocksIn (drop 512 os)
+pub first-block : (os : List ℕ) → 0 < length os → blocksIn os ≡ take 512 os ∷ blocksIn (drop 512 os)
 unfolding blocksAfter blocksIn
 first-block [] h = absurd (omega arith)
 first-block (o ∷ os) h = ap (λ (bs : List (List ℕ)). take 512 (o ∷ os) ∷ bs) (after 511 os)

@@ -1,23 +1,27 @@
 -- What a block leaves of the lister. Assumes nothing.
 use mathlib.Core.Bool.{Bool, true, false}
-use mathlib.Core.List.{List}
-use mathlib.Core.Path.{_≡_, refl, sym, ap, _∙_}
-use Prim.Native.Nat.{ℕ, _-_, _<_, _≤_}
+use mathlib.Core.List.{List, [], _∷_}
+use mathlib.Core.Path.{_≡_, refl, sym, ap, ap₂, _∙_}
+use Prim.Native.Nat.{ℕ, _+_, _*_, _-_, _<_, _≤_}
 use native.Mathlib.Omega.{arith}
-use borrow.Author.Tests.{lt-ltb, le-ltb, le-leb, lt-leb}
-use lib.Dec.{ltb, leb}
+use borrow.Author.Tests.{le-ltb, ltb-false}
 use lib.ListN.{length, take, drop, length-drop}
 use lib.Seq.{take-all}
-use Rattle.answer.specs.Checks.{pick}
+use Rattle.answer.proofs.Judged.{past, done, passed}
+use Rattle.answer.specs.Checks.{Outcome, refused, accepted, _⇒_, checked, judged, andThen}
+use Rattle.answer.specs.declared.Refusal.{Refusal}
 use Rattle.block.proofs.Judging.{used-within}
 use Rattle.block.specs.Blocks.{usedPart, blockMeans}
 use Rattle.block.specs.declared.Block.{Block}
 use Rattle.octets.specs.Writing.{filled}
+use Rattle.octets.specs.declared.writing.Wrote.{Wrote}
 use Rattle.capture.specs.CodeTerms.Following.{Listed, Fed}
-use Rattle.capture.specs.Feeding.{enoughRoom, linesOf, fedBy, leftBy}
+use Rattle.capture.specs.CodeTerms.Rooms.{roomFor, listedAs}
+use Rattle.capture.specs.Feeding.{enoughRoom, feedMeans, listingOf, filledBy, FedWith}
 use Rattle.capture.specs.Listers.{blockLimit, oneBlockMore, Fits, Sound}
-use Rattle.capture.specs.Lists.{Told, damagedTold, judged, blockTold}
-use Rattle.capture.specs.declared.feeding.Feed.{Feed}
+use Rattle.capture.specs.Lists as Lists
+use Rattle.capture.specs.Lists.{Told, damagedTold, blockTold}
+use Rattle.capture.specs.declared.feeding.Listing.{Listing}
 use Rattle.capture.specs.declared.lister.Lister.{Lister}
 use Rattle.capture.specs.declared.listing.Put.{Put}
 use Rattle.capture.proofs.StaysSound.{none-sound}
@@ -52,56 +56,53 @@ used-part b n e =
     ∙ ap (λ (k : ℕ). take k (drop 2 b)) (used-within b n e .1)
 
 -- what a block tells, by how it was judged
-pub told-as : (l : Lister) (b : List ℕ) (j : Block) → blockMeans b ≡ j → judged j b l ≡ blockTold b l
+pub told-as : (l : Lister) (b : List ℕ) (j : Block) → blockMeans b ≡ j → Lists.judged j b l ≡ blockTold b l
 unfolding blockTold
-told-as l b j e = ap (λ (k : Block). judged k b l) (sym e)
+told-as l b j e = ap (λ (k : Block). Lists.judged k b l) (sym e)
 
 -- ---- feeding
 
-module _ (l : Lister) (b out : List ℕ) where
-  module _ (h : length out < enoughRoom) where
-    pub fed-no-room : record { feed = Feed.NoRoom; lister = l } ≡ fedBy l b (length out)
-    unfolding fedBy
-    fed-no-room = rw (lt-ltb (length out) enoughRoom h)
+unfold-room : {A : Type 0} (t : A) (a b : Bool) (r q : Refusal) → judged (a ⇒ r ∷ b ⇒ q ∷ []) t ≡ andThen (judged {A = Unit {0}} (a ⇒ r ∷ b ⇒ q ∷ []) tt) (λ u. accepted t)
+unfolding checked
+unfold-room t true b r q = refl
+unfold-room t false true r q = refl
+unfold-room t false false r q = refl
 
-    pub left-no-room : out ≡ leftBy l b out
-    unfolding leftBy
-    left-no-room = rw (lt-ltb (length out) enoughRoom h)
+module _ (l : Lister) (many : ℕ) (t : Told) (out : List ℕ) where
+  by-room : {o : Outcome (Unit {0})} → o ≡ roomFor (l .blocks) many (length out) → feedMeans l many t (length out) ≡ andThen o (λ u. accepted t)
+  unfolding feedMeans roomFor
+  by-room e = unfold-room t _ _ _ _ ∙ ap (λ (o : Outcome (Unit {0})). andThen o (λ u. accepted t)) (sym e)
 
-  module _ (h : enoughRoom ≤ length out) where
-    module _ (k : blockLimit ≤ l .blocks) where
-      pub fed-full : record { feed = Feed.Full; lister = l } ≡ fedBy l b (length out)
-      unfolding fedBy
-      fed-full = rw (le-ltb (length out) enoughRoom h, le-leb blockLimit (l .blocks) k)
+  pub not-fed : {r : Refusal} → refused r ≡ roomFor (l .blocks) many (length out) → FedWith (feedMeans l many t (length out)) l out (record { wrote = Wrote.Refused r; lister = l }) out
+  not-fed e = record { answers = ap (listingOf l) (sym (by-room e)); leaves = ap (λ (o : Outcome Told). filledBy o out) (sym (by-room e)) }
 
-      pub left-full : out ≡ leftBy l b out
-      unfolding leftBy
-      left-full = rw (le-ltb (length out) enoughRoom h, le-leb blockLimit (l .blocks) k)
+  module _ (e : accepted tt ≡ roomFor (l .blocks) many (length out)) where
+    -- there is room, and the limit is not reached
+    pub roomy : (l .blocks + many ≤ blockLimit) × (many * enoughRoom ≤ length out)
+    unfolding roomFor
+    roomy =
+        let p = passed _ _ _ (sym e) in
+        let q = passed _ _ _ (p .1) in
+        (ltb-false blockLimit (l .blocks + many) (p .0), ltb-false (length out) (many * enoughRoom) (q .0))
 
-    module _ (k : l .blocks < blockLimit) where
-      pub fed-lines : (put : Put) → Fed l (blockTold b l) put → record { feed = Feed.Lines (put .count); lister = put .lister } ≡ fedBy l b (length out)
-      unfolding fedBy
-      fed-lines put w = rw (le-ltb (length out) enoughRoom h, lt-leb blockLimit (l .blocks) k, w .same, w .many)
+    pub fed : (put : Put) {exit : List ℕ} → Fed l t put → exit ≡ filled (t .text) out → FedWith (feedMeans l many t (length out)) l out (listedAs put) exit
+    fed put w f =
+        record {
+          answers = ap₂ (λ (n : ℕ) (x : Lister). record { wrote = Wrote.Length n; lister = x }) (w .many) (w .same) ∙ ap (listingOf l) (sym (by-room e));
+          leaves = f ∙ ap (λ (o : Outcome Told). filledBy o out) (sym (by-room e));
+        }
 
-      pub feeds : fedBy l b (length out) ≡ linesOf (blockTold b l)
-      unfolding fedBy
-      feeds = rw (le-ltb (length out) enoughRoom h, lt-leb blockLimit (l .blocks) k)
+  -- with enough room, and short of the limit, the lines are there
+  pub always-fed : many * enoughRoom ≤ length out → l .blocks + many ≤ blockLimit → feedMeans l many t (length out) ≡ accepted t
+  unfolding feedMeans
+  always-fed room few = sym (past _ _ _ (le-ltb blockLimit (l .blocks + many) few) (past _ _ _ (le-ltb (length out) (many * enoughRoom) room) (done _)))
 
-      pub left-lines : filled (blockTold b l .text) out ≡ leftBy l b out
-      unfolding leftBy
-      left-lines = rw (le-ltb (length out) enoughRoom h, lt-leb blockLimit (l .blocks) k)
-
--- what is known of a block that has lines
-by-room : (l : Lister) (t : Told) (out : List ℕ) (n : ℕ) (short full : Bool)
-    → pick short (record { feed = Feed.NoRoom; lister = l }) (pick full (record { feed = Feed.Full; lister = l }) (linesOf t)) .feed ≡ Feed.Lines n
-    → (n ≡ length (t .text))
-    × (pick short (record { feed = Feed.NoRoom; lister = l }) (pick full (record { feed = Feed.Full; lister = l }) (linesOf t)) .lister ≡ t .lister)
-    × (pick short out (pick full out (filled (t .text) out)) ≡ filled (t .text) out)
-by-room l t out n true full e = absurd (let z : _≡_ {A = ℕ} 0 1 = cc in omega arith)
-by-room l t out n false true e = absurd (let z : _≡_ {A = ℕ} 0 1 = cc in omega arith)
-by-room l t out n false false e = (cc, refl, refl)
-
-pub has-lines : (l : Lister) (b out : List ℕ) (n : ℕ) → fedBy l b (length out) .feed ≡ Feed.Lines n
-    → (n ≡ length (blockTold b l .text)) × (fedBy l b (length out) .lister ≡ blockTold b l .lister) × (leftBy l b out ≡ filled (blockTold b l .text) out)
-unfolding fedBy leftBy
-has-lines l b out n = by-room l (blockTold b l) out n (ltb (length out) enoughRoom) (leb blockLimit (l .blocks))
+-- what is known of blocks that have lines
+pub has-lines : {o : Outcome Told} {l : Lister} {out exit : List ℕ} {x : Listing} {n : ℕ} → FedWith o l out x exit → x .wrote ≡ Wrote.Length n
+    → (t : Told) × (o ≡ accepted t) × (n ≡ length (t .text)) × (x .lister ≡ t .lister) × (exit ≡ filled (t .text) out)
+has-lines {o} {l} {out} {exit} {x} {n} w e = by o (w .answers) (w .leaves)
+  where
+    by : (o : Outcome Told) → x ≡ listingOf l o → exit ≡ filledBy o out
+        → (t : Told) × (o ≡ accepted t) × (n ≡ length (t .text)) × (x .lister ≡ t .lister) × (exit ≡ filled (t .text) out)
+    by (refused r) a f = let g : Wrote.Length n ≡ Wrote.Refused r = sym e ∙ ap (λ (y : Listing). y .wrote) a in absurd (let z : _≡_ {A = ℕ} 0 1 = cc in omega arith)
+    by (accepted t) a f = let g : Wrote.Length n ≡ Wrote.Length (length (t .text)) = sym e ∙ ap (λ (y : Listing). y .wrote) a in (t, refl, cc, ap (λ (y : Listing). y .lister) a, f)

@@ -1,15 +1,17 @@
--- Feeding a block (01, "Capture blocks and the evening list"): its lines in front of the buffer. A buffer under the room that always suffices, and
--- a block past the limit that no file reaches, leave lister and buffer as they are.
-use mathlib.Core.List.{List}
-use Prim.Native.Nat.{ℕ, _*_}
-use lib.Dec.{ltb, leb}
+-- Feeding blocks (01, "Capture blocks and the evening list"): their lines in front of the buffer, or a refusal in 01's order ("Write: 16, 13"), which leaves lister and
+-- buffer as they are.
+use mathlib.Core.List.{List, [], _∷_}
+use mathlib.Core.Path.{_≡_}
+use Prim.Native.Nat.{ℕ, _+_, _*_}
+use lib.Dec.{ltb}
 use lib.ListN.{length}
-use Rattle.answer.specs.Checks.{pick}
+use Rattle.answer.specs.Checks.{Outcome, refused, accepted, _⇒_, judged}
+use Rattle.answer.specs.declared.Refusal.{Refusal}
 use Rattle.line.specs.Backs.{lineRoom}
 use Rattle.octets.specs.Writing.{filled}
+use Rattle.octets.specs.declared.writing.Wrote.{Wrote}
 use Rattle.capture.specs.Listers.{blockLimit, mostLines}
-use Rattle.capture.specs.Lists.{Told, blockTold}
-use Rattle.capture.specs.declared.feeding.Feed.{Feed}
+use Rattle.capture.specs.Lists.{Told}
 use Rattle.capture.specs.declared.feeding.Listing.{Listing}
 use Rattle.capture.specs.declared.lister.Lister.{Lister}
 
@@ -17,15 +19,24 @@ use Rattle.capture.specs.declared.lister.Lister.{Lister}
 abbrev pub enoughRoom : ℕ
 enoughRoom = mostLines * lineRoom
 
--- by which of the three it is
-abbrev pub byFeed : {A : Type 0} → Lister → ℕ → A → A → A → A
-byFeed l size noRoom full lines = pick (ltb size enoughRoom) noRoom (pick (leb blockLimit (l .blocks)) full lines)
+-- so many blocks more, which tell this, for a buffer of so many octets: past the limit that no file reaches they are not listed (16), and a buffer under the room that the
+-- lines of so many blocks always find is too short (13)
+unfoldable pub feedMeans : Lister → ℕ → Told → ℕ → Outcome Told
+feedMeans l many t size =
+    judged
+    (ltb blockLimit (l .blocks + many) ⇒ Refusal.Impossible ∷ ltb size (many * enoughRoom) ⇒ Refusal.BufferShort ∷ [])
+    t
 
-abbrev pub linesOf : Told → Listing
-linesOf t = record { feed = Feed.Lines (length (t .text)); lister = t .lister }
+-- how many octets the lines are, and the lister after them
+abbrev pub listingOf : Lister → Outcome Told → Listing
+listingOf l (refused r) = record { wrote = Wrote.Refused r; lister = l }
+listingOf l (accepted t) = record { wrote = Wrote.Length (length (t .text)); lister = t .lister }
 
-unfoldable pub fedBy : Lister → List ℕ → ℕ → Listing
-fedBy l b size = byFeed l size (record { feed = Feed.NoRoom; lister = l }) (record { feed = Feed.Full; lister = l }) (linesOf (blockTold b l))
+abbrev pub filledBy : Outcome Told → List ℕ → List ℕ
+filledBy (refused r) out = out
+filledBy (accepted t) out = filled (t .text) out
 
-unfoldable pub leftBy : Lister → List ℕ → List ℕ → List ℕ
-leftBy l b out = byFeed l (length out) out out (filled (blockTold b l .text) out)
+-- what is promised of feeding: the listing, and the buffer as it is left
+pub record FedWith (o : Outcome Told) (l : Lister) (out : List ℕ) (listing : Listing) (exit : List ℕ) : Type 0 where
+  pub answers : listing ≡ listingOf l o
+  pub leaves : exit ≡ filledBy o out

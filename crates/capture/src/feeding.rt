@@ -1,12 +1,13 @@
 // Listing a capture block by block (document 01, "Capture blocks and the evening list").
 ghost use mathlib.Core.Path.{_≡_};
-ghost use Prim.Native.Nat.{_<_, _≤_};
+ghost use Prim.Native.Nat.{_+_, _*_, _<_, _≤_};
 ghost use lib.ListN.{length};
-ghost use Rattle.octets.specs.Writing.{filled};
+ghost use Rattle.octets.specs.Writing.{over, filled};
 ghost use Rattle.capture.specs.CodeTerms.Following.{Fed};
-ghost use Rattle.capture.specs.Feeding.{enoughRoom, fedBy, leftBy};
+ghost use Rattle.capture.specs.CodeTerms.Rooms.{answerTold, roomFor, Added, listedAs};
+ghost use Rattle.capture.specs.Feeding.{enoughRoom, feedMeans, FedWith};
 ghost use Rattle.capture.specs.Listers.{blockLimit, oneBlockMore, Fits};
-ghost use Rattle.capture.specs.Lists.{damagedTold, blockTold};
+ghost use Rattle.capture.specs.Lists.{damagedTold, blockTold, blocksIn, blocksTold};
 use crate::Lister;
 use crate::lister;
 use crate::listing;
@@ -17,19 +18,11 @@ use answer::Answer;
 use answer::Refusal;
 use block::Block;
 use line::Word;
+use octets::Wrote;
 
-// What feeding a block answers: how many octets of the buffer are its lines, or why there are none.
-pub enum Feed {
-    Lines(usize),
-    // The buffer is under `Lister::ROOM`.
-    NoRoom,
-    // `Lister::BLOCK_LIMIT` blocks were listed.
-    Full,
-}
-
-// The answer, and the lister after the block: the same as before where there are no lines.
+// How many octets of the buffer are lines, or why there are none, and the lister after them: the same as before where there are none.
 pub struct Listing {
-    pub feed: Feed,
+    pub wrote: Wrote,
     pub lister: Lister,
 }
 
@@ -77,25 +70,96 @@ pub fn put_block(lister: Lister, block: &[u8], out: &mut [u8]) -> Put
     }
 }
 
+// One block more after the lines before it.
+fn add_block(before: Put, block: &[u8], out: &mut [u8]) -> Put
+    requires { ⌜ Fits (before .lister) ⌝ }
+    requires { ⌜ (before .lister .blocks < blockLimit) × (before .count + enoughRoom ≤ length (now out)) ⌝ }
+    ensures { λ r. ⌜ Added before (blockTold (now (block .entry)) (before .lister)) r ⌝ }
+    ensures { λ _. ⌜ now (out .exit) ≡ over (now (out .entry)) (before .count) (blockTold (now (block .entry)) (before .lister) .text) ⌝ }
+{
+    let start = before.count;
+    let end = start + Lister::ROOM;
+    let put = put_block(before.lister, block, &mut out[start..end]);
+    let lister = put.lister;
+    Put {
+        lister,
+        count: start + put.count,
+    }
+}
+
+// The lines of the blocks of some octets.
+fn put_blocks(lister: Lister, blocks: &[u8], out: &mut [u8]) -> Put
+    requires { ⌜ Fits lister ⌝ }
+    requires { ⌜ (lister .blocks + length (blocksIn (now blocks)) ≤ blockLimit) × (length (blocksIn (now blocks)) * enoughRoom ≤ length (now out)) ⌝ }
+    ensures { λ r. ⌜ Fed lister (blocksTold (blocksIn (now (blocks .entry))) lister) r ⌝ }
+    ensures { λ _. ⌜ now (out .exit) ≡ filled (blocksTold (blocksIn (now (blocks .entry))) lister .text) (now (out .entry)) ⌝ }
+{
+    let mut next = Put { lister, count: 0 };
+    let mut at = 0;
+    while at < blocks.len() {
+        let end = block::end_after(at, blocks.len());
+        next = add_block(next, &blocks[at..end], out);
+        at = end;
+    }
+    next
+}
+
+// Whether so many blocks more may be listed into a buffer of so many octets. What the limit and the buffer leave is compared, since a sum or a product could wrap.
+fn room_for(blocks: u64, many: usize, size: usize) -> Answer
+    requires { ⌜ blocks ≤ blockLimit ⌝ }
+    ensures { λ r. ⌜ answerTold r ≡ roomFor blocks many size ⌝ }
+{
+    if Lister::BLOCK_LIMIT - blocks < many as u64 {
+        return Answer::Refused(Refusal::Impossible);
+    }
+    if size / Lister::ROOM < many {
+        return Answer::Refused(Refusal::BufferShort);
+    }
+    Answer::Accepted
+}
+
+fn listed(put: Put) -> Listing
+    ensures { λ r. ⌜ r ≡ listedAs put ⌝ }
+{
+    let lister = put.lister;
+    let wrote = Wrote::Length(put.count);
+    Listing { wrote, lister }
+}
+
 impl Lister {
     // The lines of a block, from the front of the buffer on. Any octets may be handed in as a block: a short last one is damaged.
     pub fn feed(self, block: &[u8], out: &mut [u8]) -> Listing
         requires { ⌜ Fits self ⌝ }
-        ensures { λ r. ⌜ r ≡ fedBy self (now (block .entry)) (length (now (out .entry))) ⌝ }
+        ensures { λ r. ⌜ FedWith (feedMeans self 1 (blockTold (now (block .entry)) self) (length (now (out .entry)))) self (now (out .entry)) r (now (out .exit)) ⌝ }
         ensures { λ r. ⌜ Fits (r .lister) ⌝ }
-        ensures { λ _. ⌜ now (out .exit) ≡ leftBy self (now (block .entry)) (now (out .entry)) ⌝ }
     {
-        if out.len() < Lister::ROOM {
-            let feed = Feed::NoRoom;
-            return Listing { feed, lister: self };
+        match room_for(self.blocks, 1, out.len()) {
+            Answer::Refused(refusal) => {
+                let wrote = Wrote::Refused(refusal);
+                Listing {
+                    wrote,
+                    lister: self,
+                }
+            }
+            Answer::Accepted => listed(put_block(self, block, out)),
         }
-        if Lister::BLOCK_LIMIT <= self.blocks {
-            let feed = Feed::Full;
-            return Listing { feed, lister: self };
+    }
+
+    // The lines of the blocks of some octets, in the same way.
+    pub fn feed_all(self, blocks: &[u8], out: &mut [u8]) -> Listing
+        requires { ⌜ Fits self ⌝ }
+        ensures { λ r. ⌜ FedWith (feedMeans self (length (blocksIn (now (blocks .entry)))) (blocksTold (blocksIn (now (blocks .entry))) self) (length (now (out .entry)))) self (now (out .entry)) r (now (out .exit)) ⌝ }
+        ensures { λ r. ⌜ Fits (r .lister) ⌝ }
+    {
+        match room_for(self.blocks, block::count_in(blocks.len()), out.len()) {
+            Answer::Refused(refusal) => {
+                let wrote = Wrote::Refused(refusal);
+                Listing {
+                    wrote,
+                    lister: self,
+                }
+            }
+            Answer::Accepted => listed(put_blocks(self, blocks, out)),
         }
-        let put = put_block(self, block, out);
-        let lister = put.lister;
-        let feed = Feed::Lines(put.count);
-        Listing { feed, lister }
     }
 }

@@ -6,6 +6,5 @@ mod noting;
 mod response;
 mod stepping;
 
-pub use feeding::Feed;
 pub use feeding::Listing;
 pub use lister::Lister;

@@ -77,11 +77,13 @@ module _ (there os buffer : List ℕ) (fits : length there + length os ≤ lengt
       ∙ drop-drop (length os) (length there) buffer
       ∙ ap (λ (n : ℕ). drop n buffer) (sym (length-append there os))
 
-  pub after-left : left true os (length there) (filled there buffer) ≡ filled (there ++ os) buffer
-  after-left =
-      room-left os (length there) (filled there buffer) (omega (arith, filled-length there buffer (omega arith)))
-      ∙ ap (λ (r : List ℕ). r ++ os ++ drop (length there + length os) (filled there buffer)) (take-append-seam there (drop (length there) buffer))
+  pub after-over : over (filled there buffer) (length there) os ≡ filled (there ++ os) buffer
+  after-over =
+      ap (λ (r : List ℕ). r ++ os ++ drop (length there + length os) (filled there buffer)) (take-append-seam there (drop (length there) buffer))
       ∙ ap (λ (r : List ℕ). there ++ os ++ r) later
+
+  pub after-left : left true os (length there) (filled there buffer) ≡ filled (there ++ os) buffer
+  after-left = room-left os (length there) (filled there buffer) (omega (arith, filled-length there buffer (omega arith))) ∙ after-over
 
 pub front-left : (os buffer : List ℕ) → length os ≤ length buffer → left true os 0 buffer ≡ filled os buffer
 front-left os buffer h = after-left [] os buffer (omega arith)
