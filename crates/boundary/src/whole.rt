@@ -9,7 +9,6 @@ ghost use Rattle.capture.specs.Listers.{blockLimit, Fits};
 ghost use Rattle.capture.specs.Lists.{blockTold, fileTold, listOf};
 ghost use Rattle.boundary.specs.CodeTerms.Passing.{Passed};
 use answer::Refusal;
-use capture::Feed;
 use capture::Lister;
 use line::Text;
 use octets::Wrote;
@@ -58,17 +57,15 @@ fn pass_block(
     ensures { λ _. ⌜ now (out .exit) ≡ left store (blockTold (now (block .entry)) lister .text) count (now (out .entry)) ⌝ }
 {
     let listing = lister.feed(block, room);
-    let feed = listing.feed;
+    let wrote = listing.wrote;
     let next = listing.lister;
-    let stopped = Progress {
-        fits: false,
-        count,
-        lister,
-    };
-    match feed {
-        Feed::Lines(many) => put_lines(next, &room[..many], store, out, count),
-        Feed::NoRoom => stopped,
-        Feed::Full => stopped,
+    match wrote {
+        Wrote::Length(many) => put_lines(next, &room[..many], store, out, count),
+        Wrote::Refused(_) => Progress {
+            fits: false,
+            count,
+            lister,
+        },
     }
 }
 

@@ -1,15 +1,15 @@
 -- A file's blocks one after the other, and how many there were. Assumes nothing.
 use mathlib.Core.Bool.{Bool, true, false}
-use mathlib.Core.List.{List, [], _∷_}
+use mathlib.Core.List.{List, [], _∷_, _++_}
 use mathlib.Core.Path.{_≡_, refl, sym, ap, ap₂, _∙_}
-use Prim.Native.Nat.{ℕ, zero, suc, _+_, _-_, _<_}
+use Prim.Native.Nat.{ℕ, zero, suc, _+_, _-_, _%_, _<_, _≤_}
 use native.Mathlib.Omega.{arith}
 use borrow.Author.Tests.{leb-false}
 use lib.Dec.{leb}
 use lib.ListN.{length, take, drop, length-drop, drop-of-length-le}
-use lib.Seq.{take-all, drop-drop}
+use lib.Seq.{take-all, drop-drop, take-append-le, drop-append-le}
 use Rattle.answer.specs.Checks.{Outcome, refused, accepted, pick}
-use Rattle.block.specs.Blocks.{endAfter, usedPart, blockMeans}
+use Rattle.block.specs.Blocks.{blockSize, endAfter, usedPart, blockMeans}
 use Rattle.block.specs.declared.Block.{Block}
 use Rattle.capture_record.specs.Entries.{Noted, malformed, starting, advancing, hearing, asking, entryMeans}
 use Rattle.capture_record.specs.Records.{Records, end, cut, more, recordsIn}
@@ -49,6 +49,23 @@ module _ (file : List ℕ) (at : ℕ) (h : at < length file) where
   next-block =
       let w = ends (leb (at + 512) (length file)) refl in
       first-block (drop at file) (omega (arith, length-drop at file)) ∙ ap₂ (λ (b rest : List ℕ). b ∷ blocksIn rest) (sym (w .0)) (w .1)
+
+-- octets that are cut at the end of a block have the blocks of both parts
+pub cut-at-block : (os rest : List ℕ) → length os % blockSize ≡ 0 → blocksIn (os ++ rest) ≡ blocksIn os ++ blocksIn rest
+cut-at-block os rest = by (length os) os (omega arith)
+  where
+    by : (bound : ℕ) (xs : List ℕ) → length xs ≤ bound → length xs % blockSize ≡ 0 → blocksIn (xs ++ rest) ≡ blocksIn xs ++ blocksIn rest
+    by zero [] h e = unfold blocksIn blocksAfter in refl
+    by zero (x ∷ xs) h e = absurd (omega arith)
+    by (suc bound) [] h e = unfold blocksIn blocksAfter in refl
+    by (suc bound) (x ∷ xs) h e =
+        let ys = x ∷ xs in
+        let long : 512 ≤ length ys = omega arith in
+        let left = length-drop 512 ys in
+        first-block (ys ++ rest) (omega arith)
+        ∙ ap₂ (λ (b os : List ℕ). b ∷ blocksIn os) (take-append-le 512 ys rest long) (drop-append-le 512 ys rest long)
+        ∙ ap (λ (bs : List (List ℕ)). take 512 ys ∷ bs) (by bound (drop 512 ys) (omega (arith, left)) (omega (arith, left, e)))
+        ∙ ap (λ (bs : List (List ℕ)). bs ++ blocksIn rest) (sym (first-block ys (omega arith)))
 
 -- ---- a block counts as one
 

@@ -31,6 +31,12 @@ blocks-counted os = by (length os) os (omega arith)
         let rest = by bound (drop 512 (x ∷ xs)) (omega (arith, length-drop 512 (x ∷ xs))) in
         omega (arith, ap length (first-block (x ∷ xs) (omega arith)), rest, length-drop 512 (x ∷ xs))
 
+-- blocks after others
+pub told-after : (xs ys : List (List ℕ)) (l : Lister) → blocksTold (xs ++ ys) l ≡ before (blocksTold xs l .text) (blocksTold ys (blocksTold xs l .lister))
+unfolding blocksTold
+told-after [] ys l = refl
+told-after (x ∷ xs) ys l = ap (before (blockTold x l .text)) (told-after xs ys (blockTold x l .lister)) ∙ before-before (blockTold x l .text) _ _
+
 -- the blocks before a place are listed
 pub record Standing (file : List ℕ) (first : Lister) (out₀ out : List ℕ) (p : Put) (at : ℕ) : Type 0 where
   pub lines : List ℕ

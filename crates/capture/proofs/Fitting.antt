@@ -7,7 +7,7 @@ use native.Mathlib.Omega.{arith}
 use borrow.Author.Tests.{le-ltb, ltb-false}
 use lib.ListN.{length, take, drop, length-drop}
 use lib.Seq.{take-all}
-use Rattle.answer.proofs.Judged.{past, done, passed}
+use Rattle.answer.proofs.Judged.{past, done, passed, kept}
 use Rattle.answer.specs.Checks.{Outcome, refused, accepted, _⇒_, checked, judged, andThen}
 use Rattle.answer.specs.declared.Refusal.{Refusal}
 use Rattle.block.proofs.Judging.{used-within}
@@ -92,10 +92,11 @@ module _ (l : Lister) (many : ℕ) (t : Told) (out : List ℕ) where
           leaves = f ∙ ap (λ (o : Outcome Told). filledBy o out) (sym (by-room e));
         }
 
-  -- with enough room, and short of the limit, the lines are there
-  pub always-fed : many * enoughRoom ≤ length out → l .blocks + many ≤ blockLimit → feedMeans l many t (length out) ≡ accepted t
-  unfolding feedMeans
-  always-fed room few = sym (past _ _ _ (le-ltb blockLimit (l .blocks + many) few) (past _ _ _ (le-ltb (length out) (many * enoughRoom) room) (done _)))
+-- with enough room, and short of the limit, the lines are there
+pub always-fed : (l : Lister) (many : ℕ) (t : Told) (size : ℕ) → many * enoughRoom ≤ size → l .blocks + many ≤ blockLimit → feedMeans l many t size ≡ accepted t
+unfolding feedMeans
+always-fed l many t size room few =
+    sym (past _ _ _ (le-ltb blockLimit (l .blocks + many) few) (past _ _ _ (le-ltb size (many * enoughRoom) room) (done _)))
 
 -- what is known of blocks that have lines
 pub has-lines : {o : Outcome Told} {l : Lister} {out exit : List ℕ} {x : Listing} {n : ℕ} → FedWith o l out x exit → x .wrote ≡ Wrote.Length n
@@ -106,3 +107,8 @@ has-lines {o} {l} {out} {exit} {x} {n} w e = by o (w .answers) (w .leaves)
         → (t : Told) × (o ≡ accepted t) × (n ≡ length (t .text)) × (x .lister ≡ t .lister) × (exit ≡ filled (t .text) out)
     by (refused r) a f = let g : Wrote.Length n ≡ Wrote.Refused r = sym e ∙ ap (λ (y : Listing). y .wrote) a in absurd (let z : _≡_ {A = ℕ} 0 1 = cc in omega arith)
     by (accepted t) a f = let g : Wrote.Length n ≡ Wrote.Length (length (t .text)) = sym e ∙ ap (λ (y : Listing). y .wrote) a in (t, refl, cc, ap (λ (y : Listing). y .lister) a, f)
+
+-- and what they are
+pub fed-is : (l : Lister) (many : ℕ) (t : Told) (size : ℕ) {u : Told} → feedMeans l many t size ≡ accepted u → u ≡ t
+unfolding feedMeans
+fed-is l many t size e = sym (kept _ (passed _ _ _ (passed _ _ _ e .1) .1))

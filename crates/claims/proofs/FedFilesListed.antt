@@ -1,57 +1,67 @@
--- Fed block by block, a file gives exactly its list (01, "Capture blocks and the evening list"), of the code's own results. Assumes nothing.
-use mathlib.Core.List.{List, [], _∷_, _++_}
-use mathlib.Core.Path.{_≡_, sym, ap, ap₂, _∙_, subst}
-use Prim.Native.Nat.{ℕ, _≤_, _<_}
-use borrow.Author.Tests.{le-ltb, lt-leb}
+-- Fed piece by piece, a file gives exactly its list (01, "Capture blocks and the evening list"), of the code's own results. Assumes nothing.
+use mathlib.Core.List.{List, [], _∷_, _++_, append-nil}
+use mathlib.Core.Path.{_≡_, refl, sym, ap, ap₂, _∙_, subst}
+use Prim.Native.Nat.{ℕ}
 use denote.Ref.{now}
-use lib.ListN.{length, take}
-use Rattle.capture.proofs.Fitting.{has-lines}
+use lib.ListN.{length}
+use Rattle.answer.specs.Checks.{accepted}
+use Rattle.capture.proofs.Cutting.{cut-at-block}
+use Rattle.capture.proofs.FedBlocks.{told-after}
+use Rattle.capture.proofs.Fitting.{has-lines, fed-is}
 use Rattle.octets.proofs.Storing.{filled-front}
-use Rattle.capture.specs.Feeding.{enoughRoom, fedBy, leftBy}
-use Rattle.capture.specs.Listers.{blockLimit, fresh}
-use Rattle.capture.specs.Lists.{Told, blockTold, blocksIn, blocksTold, listOf}
-use Rattle.capture.specs.declared.feeding.Feed.{Feed}
-use Rattle.capture.specs.declared.feeding.Listing.{Listing}
+use Rattle.capture.specs.Listers.{fresh}
+use Rattle.capture.specs.Lists.{Told, nothing, before, blocksAfter, blocksIn, blocksTold, listOf}
 use Rattle.capture.specs.declared.lister.Lister.{Lister}
 use Rattle.line.proofs.InRoom.{from-place}
 use Rattle.line.specs.Lines.{closingOf}
-use Rattle.claims.specs.FedFiles.{Begins, Feeds, FedAll, Closes}
+use Rattle.claims.specs.FedFiles.{Begins, Feeds, FedAll, CutAtBlocks, joined, Closes}
 
--- ---- a block
+-- ---- a piece
 
-fed-told : (l : Lister) (b out exit : List ℕ) (x : Listing) (n : ℕ) → x ≡ fedBy l b (length out) → exit ≡ leftBy l b out → x .feed ≡ Feed.Lines n → (take n exit ≡ blockTold b l .text) × (x .lister ≡ blockTold b l .lister)
-fed-told l b out exit x n e f lines =
-    let w = has-lines l b out n (sym (ap (λ (r : Listing). r .feed) e) ∙ lines) in
-    (filled-front (blockTold b l .text) out exit (f ∙ w .2) n (w .0), ap (λ (r : Listing). r .lister) e ∙ w .1)
+abbrev tells : List ℕ → Lister → Told
+tells piece l = blocksTold (blocksIn piece) l
 
-feeds-told : (l : Lister) (b text : List ℕ) (next : Lister) → Feeds l b text next → (text ≡ blockTold b l .text) × (next ≡ blockTold b l .lister)
-feeds-told l b text next (κs, a, x, e, post, same-lister, same-block, n, lines, front, left-lister) =
-    let w = fed-told (a .0) (now (a .1 .0)) (now (a .1 .1 .0)) (now (e .1 .1 .0)) x n (post .0) (post .1 .1) lines in
-    let same : blockTold (now (a .1 .0)) (a .0) ≡ blockTold b l = ap₂ blockTold same-block same-lister in
-    (sym front ∙ w .0 ∙ ap (λ (t : Told). t .text) same, sym left-lister ∙ w .1 ∙ ap (λ (t : Told). t .lister) same)
+feeds-told : (l : Lister) (piece text : List ℕ) (next : Lister) → Feeds l piece text next → (text ≡ tells piece l .text) × (next ≡ tells piece l .lister)
+feeds-told l piece text next (κs, a, x, e, post, same-lister, same-piece, n, lines, front, left-lister) =
+    let w = has-lines (post .0) lines in
+    let told : w .0 ≡ tells piece l = fed-is (a .0) _ _ _ (w .1) ∙ ap₂ tells same-piece same-lister in (
+      sym front ∙ filled-front (w .0 .text) (now (a .1 .1 .0)) (now (e .1 .1 .0)) (w .4) n (w .2) ∙ ap (λ (t : Told). t .text) told,
+      sym left-lister ∙ w .3 ∙ ap (λ (t : Told). t .lister) told,
+    )
 
 -- ---- a file
 
-all-told : (bs : List (List ℕ)) (l : Lister) (text : List ℕ) (last : Lister) → FedAll bs l text last → (text ≡ blocksTold bs l .text) × (last ≡ blocksTold bs l .lister)
-unfolding FedAll blocksTold
-all-told [] l text last (none, same) = (none, same)
-all-told (b ∷ bs) l text last (next, first, rest, fed, others, whole) =
-    let w = feeds-told l b first next fed in
-    let v = all-told bs next rest last others in
-    let same : blocksTold bs next ≡ blocksTold bs (blockTold b l .lister) = ap (blocksTold bs) (w .1) in
-    (whole ∙ ap₂ _++_ (w .0) (v .0 ∙ ap (λ (t : Told). t .text) same), v .1 ∙ ap (λ (t : Told). t .lister) same)
+-- a piece and what follows it
+goes-on : (piece rest : List ℕ) (l : Lister) → blocksIn (piece ++ rest) ≡ blocksIn piece ++ blocksIn rest → tells (piece ++ rest) l ≡ before (tells piece l .text) (tells rest (tells piece l .lister))
+goes-on piece rest l e = ap (λ (bs : List (List ℕ)). blocksTold bs l) e ∙ told-after (blocksIn piece) (blocksIn rest) l
+
+all-told : (ps : List (List ℕ)) → CutAtBlocks ps → (l : Lister) (text : List ℕ) (last : Lister) → FedAll ps l text last → (text ≡ tells (joined ps) l .text) × (last ≡ tells (joined ps) l .lister)
+unfolding FedAll joined
+all-told [] c l text last (none, same) = (none ∙ unfold blocksIn blocksAfter blocksTold in refl, same ∙ unfold blocksIn blocksAfter blocksTold in refl)
+all-told (p ∷ []) c l text last (next, first, rest, fed, others, whole) =
+    let w = feeds-told l p first next fed in
+    let same : tells (p ++ []) l ≡ tells p l = ap (λ (os : List ℕ). tells os l) (append-nil p) in (
+      whole ∙ ap₂ _++_ (w .0) (others .0) ∙ append-nil _ ∙ sym (ap (λ (t : Told). t .text) same),
+      others .1 ∙ w .1 ∙ sym (ap (λ (t : Told). t .lister) same),
+    )
+all-told (p ∷ q ∷ ps) c l text last (next, first, rest, fed, others, whole) =
+    let w = feeds-told l p first next fed in
+    let v = all-told (q ∷ ps) (c .1) next rest last others in
+    let rests = joined (q ∷ ps) in
+    let after : tells rests next ≡ tells rests (tells p l .lister) = ap (tells rests) (w .1) in
+    let same : tells (p ++ rests) l ≡ before (tells p l .text) (tells rests (tells p l .lister)) = goes-on p rests l (cut-at-block p rests (c .0)) in (
+      whole ∙ ap₂ _++_ (w .0) (v .0 ∙ ap (λ (t : Told). t .text) after) ∙ sym (ap (λ (t : Told). t .text) same),
+      v .1 ∙ ap (λ (t : Told). t .lister) after ∙ sym (ap (λ (t : Told). t .lister) same),
+    )
 
 closes-told : (l : Lister) (text : List ℕ) → Closes l text → text ≡ closingOf (l .blocks) (l .damaged)
 closes-told l text (κs, a, x, e, post, blocks, damaged, whole) =
     sym whole ∙ from-place x (closingOf (a .0) (a .1 .0)) post ∙ ap₂ closingOf blocks damaged
 
-pub fed-file : (file lines closing : List ℕ) (first last : Lister) → Begins first → FedAll (blocksIn file) first lines last → Closes last closing → lines ++ closing ≡ listOf file
+-- a file that is fed in pieces, each but the last cut at the end of a block, and closed with the lister's counts, gives its list
+pub fed-file : (pieces : List (List ℕ)) → CutAtBlocks pieces → (lines closing : List ℕ) (first last : Lister) → Begins first → FedAll pieces first lines last → Closes last closing
+    → lines ++ closing ≡ listOf (joined pieces)
 unfolding listOf
-fed-file file lines closing first last (κs, a, e, post) fed closes =
-    let w = all-told (blocksIn file) fresh lines last (subst (λ (l : Lister). FedAll (blocksIn file) l lines last) (post .0) fed) in
+fed-file pieces cut lines closing first last (κs, a, e, post) fed closes =
+    let w = all-told pieces cut fresh lines last (subst (λ (l : Lister). FedAll pieces l lines last) (post .0) fed) in
     ap₂ _++_ (w .0) (closes-told last closing closes ∙ ap (λ (l : Lister). closingOf (l .blocks) (l .damaged)) (w .1))
-
--- with the room that always suffices, and short of the limit, there are lines
-pub always-lines : (l : Lister) (b : List ℕ) (size : ℕ) → enoughRoom ≤ size → l .blocks < blockLimit → fedBy l b size .feed ≡ Feed.Lines (length (blockTold b l .text))
-unfolding fedBy
-always-lines l b size room few = rw (le-ltb size enoughRoom room, lt-leb blockLimit (l .blocks) few)

@@ -8,13 +8,15 @@ use native.Mathlib.Omega.{arith}
 use borrow.Author.Needs.{needs}
 use denote.Ref.{now}
 use lib.ListN.{length, take, length-take}
+use Rattle.answer.specs.Checks.{accepted}
 use Rattle.octets.specs.Writing.{left, filled}
+use Rattle.octets.specs.declared.writing.Wrote.{Wrote}
 use Rattle.octets.proofs.Storing.{filled-inside, filled-front}
+use Rattle.capture.specs.Feeding.{feedMeans, listingOf}
 use Rattle.capture.specs.Lists.{Told, blockTold}
-use Rattle.capture.specs.declared.feeding.Feed.{Feed}
 use Rattle.capture.specs.declared.feeding.Listing.{Listing}
 use Rattle.capture.specs.declared.lister.Lister.{Lister}
-use Rattle.capture.proofs.Fitting.{has-lines, feeds}
+use Rattle.capture.proofs.Fitting.{has-lines, always-fed}
 use Rattle.boundary.specs.CodeTerms.Passing.{Passed}
 use Rattle.boundary.proofs.whole.pass_block.Statement.{statement}
 use Rattle.boundary.proofs.whole.pass_block.Tie as tie
@@ -27,51 +29,51 @@ toldIn k = let a = k .before .before .before .before .before .args in blockTold 
 abbrev roomIn : tie.After-feed → List ℕ
 roomIn k = k .feed .last .1 .1 .0
 
+-- there always are lines
+always : (k : tie.After-feed) → let a = k .before .before .before .before .before .args in feedMeans (a .lister) 1 (toldIn k) (length (now (a .room))) ≡ accepted (toldIn k)
+always k =
+    let s = k .before .before .before .before .before in
+    let a = s .args in
+    always-fed (a .lister) 1 (toldIn k) (length (now (a .room))) (omega (arith, s .pre .1 .1)) (omega (arith, s .pre .1 .0))
+
 -- so many octets of it are the block's lines
-lines : (k : tie.After-feed) (n : ℕ) → k .feed .result .feed ≡ Feed.Lines n
+lines : (k : tie.After-feed) (n : ℕ) → k .feed .result .wrote ≡ Wrote.Length n
     → (n ≡ length (toldIn k .text)) × (k .feed .result .lister ≡ toldIn k .lister) × (roomIn k ≡ filled (toldIn k .text) (now (k .before .before .before .before .before .args .room)))
 lines k n e =
-    let a = k .before .before .before .before .before .args in
-    let f = k .feed .ensures in
-    let w = has-lines (a .lister) (now (a .block)) (now (a .room)) n (ap (λ (r : Listing). r .feed) (sym (f .0)) ∙ e) in
-    (w .0, ap (λ (r : Listing). r .lister) (f .0) ∙ w .1, f .1 .1 ∙ w .2)
+    let room = now (k .before .before .before .before .before .args .room) in
+    let w = has-lines (k .feed .ensures .0) e in
+    let same : w .0 ≡ toldIn k = let g = w .1 in let h = always k in cc in
+    (w .2 ∙ ap (λ (t : Told). length (t .text)) same, w .3 ∙ ap (λ (t : Told). t .lister) same, w .4 ∙ ap (λ (t : Told). filled (t .text) room) same)
 
 -- they lie in the room
-made : (k : tie.After-feed) (n : ℕ) → k .feed .result .feed ≡ Feed.Lines n → n ≤ length (roomIn k)
+made : (k : tie.After-feed) (n : ℕ) → k .feed .result .wrote ≡ Wrote.Length n → n ≤ length (roomIn k)
 made k n e =
     let same : length (roomIn k) ≡ length (now (k .before .before .before .before .before .args .room)) = search needs in
     let w = lines k n e in
     omega (arith, same, w .0, filled-inside (toldIn k .text) _ _ (w .2) same)
 
--- there always are lines
-always : (k : tie.After-feed) (x : Feed) → k .feed .result .feed ≡ x → Feed.Lines (length (toldIn k .text)) ≡ x
-always k x e =
-    let s = k .before .before .before .before .before in
-    let a = s .args in
-    sym (ap (λ (r : Listing). r .feed) (k .feed .ensures .0 ∙ feeds (a .lister) (now (a .block)) (now (a .room)) (s .pre .1 .1) (s .pre .1 .0))) ∙ e
-
 slice-reshare-prefix-put-lines : tie.Need-slice-reshare-prefix-put-lines
 slice-reshare-prefix-put-lines c =
     let k = c .before .before .before .before .before .before in
-    made k _ (c .before .feed2 .given .1)
+    made k _ (c .before .wrote .given .1)
 
 slice-aggregate-put-lines : tie.Need-slice-aggregate-put-lines
 slice-aggregate-put-lines c =
     let k = c .before .before .before .before .before .before .before in
-    let n = c .before .before .feed2 .given .0 .0 in
-    omega (arith, made k n (c .before .before .feed2 .given .1), length-take n (roomIn k))
+    let n = c .before .before .wrote .given .0 .0 in
+    omega (arith, made k n (c .before .before .wrote .given .1), length-take n (roomIn k))
 
 put-lines-requires : tie.Need-put-lines-requires
 put-lines-requires c κs =
     let k = c .before .before .before .before .before .before .before .before in
-    (k .feed .ensures .1 .0, k .before .before .before .before .before .pre .1 .2)
+    (k .feed .ensures .1, k .before .before .before .before .before .pre .1 .2)
 
 returns : tie.Need-returns
 returns c =
     let k = c .before .before .before .before .before .before .before .before .before .before .before in
     let a = k .before .before .before .before .before .args in
-    let n = c .before .before .before .before .before .before .feed2 .given .0 .0 in
-    let w = lines k n (c .before .before .before .before .before .before .feed2 .given .1) in
+    let n = c .before .before .before .before .before .before .wrote .given .0 .0 in
+    let w = lines k n (c .before .before .before .before .before .before .wrote .given .1) in
     let text : take n (roomIn k) ≡ toldIn k .text = filled-front (toldIn k .text) _ _ (w .2) n (w .0) in
     let put = c .before .before .put-lines in (
       subst (λ (t : Told). Passed (a .count) t (length (now (a .out))) (put .result)) (ap₂ (λ (l : Lister) (os : List ℕ). record { lister = l; text = os }) (w .1) text) (put .ensures .0),
@@ -80,12 +82,9 @@ returns c =
 
 returns-2 : tie.Need-returns-2
 returns-2 c =
-    let e = always (c .before .before .before .before .before) Feed.NoRoom (c .enum-told .given .1) in
-    absurd (let z : _≡_ {A = ℕ} 0 1 = cc in omega arith)
-
-returns-3 : tie.Need-returns-3
-returns-3 c =
-    let e = always (c .before .before .before .before .before) Feed.Full (c .enum-told2 .given .1) in
+    let k = c .before .before .before .before .before in
+    let l = k .before .before .before .before .before .args .lister in
+    let e : Wrote.Length (length (toldIn k .text)) ≡ _ = sym (ap (λ (x : Listing). x .wrote) (k .feed .ensures .0 .answers ∙ ap (listingOf l) (always k))) ∙ c .enum-told .given .1 in
     absurd (let z : _≡_ {A = ℕ} 0 1 = cc in omega arith)
 
 pub pass-block-spec : {M : Type 1} → statement M
@@ -100,9 +99,6 @@ pass-block-spec =
     (λ c. search needs)
     (λ c. search needs)
     (λ c. search needs)
-    (λ c. search needs)
     returns
     (λ c. search needs)
-    returns-2
-    (λ c. search needs)
-    returns-3)
+    returns-2)
