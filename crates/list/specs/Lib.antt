@@ -1,1 +1,2 @@
+pub mod CodeTerms
 pub mod Program

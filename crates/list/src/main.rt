@@ -3,64 +3,69 @@
 mod input;
 mod output;
 
-ghost use Prim.Native.Nat.{ℕ};
 ghost use lib.ListN.{length};
-ghost use Rattle.list.specs.Program.{Ready};
+ghost use Prim.Native.Nat.{_%_};
+ghost use mathlib.Core.Path.{_≡_};
+ghost use Rattle.block.specs.Blocks.{blockSize};
+ghost use Rattle.capture.specs.Listers.{Fits};
+ghost use Rattle.list.specs.Program.{Turned, Reached};
 use capture::Lister;
 use input::Filled;
 use libc::STDERR_FILENO;
 use output::Fate;
 use output::Progress;
 
-// The listing ends this way, unless it has ended already.
-fn ending(progress: Progress, fate: Fate) -> Progress
-    ensures { λ r. ⌜ ((size : ℕ) → Ready progress size → Ready r size) ⌝ }
-{
-    if output::goes_on(progress) {
-        output::with_fate(progress, fate)
-    } else {
-        progress
-    }
-}
+// How many blocks are listed at a time, how many octets they are, and the room that their lines always find.
+const BLOCKS: usize = 32;
+
+const INPUT: usize = BLOCKS * block::SIZE;
+
+const OUTPUT: usize = BLOCKS * Lister::ROOM;
 
 // Reads a buffer of octets, and lists its blocks. One that is not full is the last. Where a read failed, a block that is cut there is not the
 // file's short last one, so only whole blocks are listed.
-fn turn(progress: Progress, input: &mut [u8], out: &mut [u8]) -> Progress
-    requires { ⌜ Ready progress (length (now out)) ⌝ }
-    ensures { λ r. ⌜ Ready r (length (now (out .entry))) ⌝ }
+fn turn(lister: Lister, input: &mut [u8], out: &mut [u8]) -> Progress
+    requires { ⌜ Fits lister ⌝ }
+    ensures { λ r. ⌜ Turned lister (now (input .exit)) (now (out .entry)) r (now (out .exit)) ⌝ }
+    ensures { λ r. ⌜ Fits (r .lister) ⌝ }
 {
     match input::fill(input) {
         Filled::Failed(count) => {
             let whole = count - count % block::SIZE;
-            ending(
-                output::list_blocks(progress, &input[..whole], out),
-                Fate::ReadFailed,
-            )
+            output::list_blocks(lister, &input[..whole], out, Fate::ReadFailed)
         }
         Filled::Octets(count) => {
-            let listed = output::list_blocks(progress, &input[..count], out);
             if count < input.len() {
-                ending(listed, Fate::Whole)
-            } else {
-                listed
+                return output::list_blocks(lister, &input[..count], out, Fate::Whole);
             }
+            output::list_blocks(lister, &input[..count], out, Fate::Going)
         }
     }
 }
 
-// A proved loop has to end, and nothing says that the input does: each turn but the last lists a block, of which there are not so many.
-fn list() -> Fate {
-    let mut input_space = io::large_buffer();
-    let input: &mut [u8] = &mut input_space;
-    let mut out_space = io::large_buffer();
-    let out: &mut [u8] = &mut out_space;
-    let mut progress = output::fresh();
+// Turn after turn, as long as the listing goes on. A proved loop has to end, and nothing says that the input does: each turn but the last lists
+// a block, of which there are not so many.
+fn list_all(input: &mut [u8], out: &mut [u8]) -> Progress
+    requires { ⌜ length (now input) % blockSize ≡ 0 ⌝ }
+    ensures { λ r. ⌜ Reached r ⌝ }
+{
+    let lister = Lister::fresh();
+    let fate = Fate::Going;
+    let mut progress = Progress { lister, fate };
     let mut turns = Lister::BLOCK_LIMIT;
     while 0 < turns && output::goes_on(progress) {
-        progress = turn(progress, input, out);
+        progress = turn(progress.lister, input, out);
         turns -= 1;
     }
-    output::finish(progress, out)
+    progress
+}
+
+fn list() -> Fate {
+    let mut input_space = [0u8; INPUT];
+    let input: &mut [u8] = &mut input_space;
+    let mut out_space = [0u8; OUTPUT];
+    let out: &mut [u8] = &mut out_space;
+    output::finish(list_all(input, out))
 }
 
 fn tell(message: &[u8]) {

@@ -1,12 +1,18 @@
-// Listing blocks, with their lines written in large pieces.
+// Listing a piece of the file, with its lines written at once.
+ghost use mathlib.Core.Bool.{Bool, true};
 ghost use mathlib.Core.Path.{_≡_};
-ghost use Prim.Native.Nat.{ℕ, _<_};
+ghost use Prim.Native.Nat.{_≤_};
 ghost use lib.ListN.{length};
 ghost use Rattle.capture.specs.Listers.{Fits};
-ghost use Rattle.list.specs.Program.{Ready};
-use capture::Feed;
+ghost use Rattle.line.specs.Backs.{backed};
+ghost use Rattle.line.specs.Lines.{closingOf};
+ghost use Rattle.list.specs.Program.{ClosedAs, PieceListed};
+ghost use Rattle.list.specs.CodeTerms.Writing.{CountWithin, WroteAs, going};
 use capture::Lister;
+use capture::Listing;
 use libc::STDOUT_FILENO;
+use line::Text;
+use octets::Wrote;
 
 // How the listing stands, or ended.
 pub enum Fate {
@@ -19,32 +25,12 @@ pub enum Fate {
 
 pub struct Progress {
     pub lister: Lister,
-    // How many octets of the buffer wait to be written.
-    pub waiting: usize,
     pub fate: Fate,
 }
 
-// Nothing is listed yet.
-pub fn fresh() -> Progress
-    ensures { λ r. ⌜ (Fits (r .lister)) × (r .waiting ≡ 0) ⌝ }
+pub fn goes_on(progress: Progress) -> bool
+    ensures { λ r. ⌜ r ≡ going (progress .fate) ⌝ }
 {
-    let lister = Lister::fresh();
-    let fate = Fate::Going;
-    Progress {
-        lister,
-        waiting: 0,
-        fate,
-    }
-}
-
-// The same lister with the same lines waiting, and another fate.
-pub fn with_fate(progress: Progress, fate: Fate) -> Progress
-    ensures { λ r. ⌜ ((size : ℕ) → Ready progress size → Ready r size) ⌝ }
-{
-    Progress { fate, ..progress }
-}
-
-pub fn goes_on(progress: Progress) -> bool {
     let fate = progress.fate;
     match fate {
         Fate::Going => true,
@@ -55,105 +41,64 @@ pub fn goes_on(progress: Progress) -> bool {
     }
 }
 
-// The lines of a block after those that wait.
-fn add_block(progress: Progress, block: &[u8], out: &mut [u8]) -> Progress
-    requires { ⌜ Ready progress (length (now out)) ⌝ }
-    ensures { λ r. ⌜ Ready r (length (now (out .entry))) ⌝ }
+// Writes the lines that stand in front of the buffer. The listing then stands as `said`, unless they could not be made or written.
+fn write_lines(listing: Listing, out: &[u8], said: Fate) -> Progress
+    requires { ⌜ CountWithin (listing .wrote) (length (now out)) ⌝ }
+    ensures { λ r. ⌜ (r .lister ≡ listing .lister) × WroteAs (listing .wrote) said (r .fate) ⌝ }
 {
-    let waiting = progress.waiting;
-    let fed = progress.lister.feed(block, &mut out[waiting..]);
-    let feed = fed.feed;
-    match feed {
-        Feed::Lines(count) => {
-            let lister = fed.lister;
-            let fate = progress.fate;
-            Progress {
-                lister,
-                waiting: waiting + count,
-                fate,
+    let lister = listing.lister;
+    let wrote = listing.wrote;
+    match wrote {
+        Wrote::Refused(_) => {
+            let fate = Fate::TooLong;
+            Progress { lister, fate }
+        }
+        Wrote::Length(count) => {
+            if io::write_all(STDOUT_FILENO, &out[..count]) {
+                return Progress { lister, fate: said };
             }
+            let fate = Fate::WriteFailed;
+            Progress { lister, fate }
         }
-        Feed::NoRoom => with_fate(progress, Fate::WriteFailed),
-        Feed::Full => with_fate(progress, Fate::TooLong),
     }
 }
 
-// Writes what waits.
-fn write_waiting(progress: Progress, out: &[u8]) -> Progress
-    requires { ⌜ Ready progress (length (now out)) ⌝ }
-    ensures { λ r. ⌜ Ready r (length (now (out .entry))) ⌝ }
+// The blocks of a piece of the file.
+pub fn list_blocks(lister: Lister, piece: &[u8], out: &mut [u8], said: Fate) -> Progress
+    requires { ⌜ Fits lister ⌝ }
+    ensures { λ r. ⌜ PieceListed lister (now (piece .entry)) (now (out .entry)) said r (now (out .exit)) ⌝ }
+    ensures { λ r. ⌜ Fits (r .lister) ⌝ }
 {
-    let waiting = progress.waiting;
-    if io::write_all(STDOUT_FILENO, &out[..waiting]) {
-        Progress {
-            waiting: 0,
-            ..progress
-        }
-    } else {
-        with_fate(progress, Fate::WriteFailed)
-    }
+    let listing = lister.feed_all(piece, out);
+    write_lines(listing, out, said)
 }
 
-// Writes what waits where the room after it may not do for another block.
-fn make_room(progress: Progress, out: &[u8]) -> Progress
-    requires { ⌜ Ready progress (length (now out)) ⌝ }
-    ensures { λ r. ⌜ Ready r (length (now (out .entry))) ⌝ }
+// The closing line of a listing.
+fn closing(lister: Lister) -> Text
+    ensures { λ r. ⌜ r ≡ backed (closingOf (lister .blocks) (lister .damaged)) ⌝ }
 {
-    if Lister::ROOM <= out.len() - progress.waiting {
-        progress
-    } else {
-        write_waiting(progress, out)
-    }
+    line::closing(lister.blocks, lister.damaged)
 }
 
-// A block: its lines wait, or the listing ends.
-fn list_block(progress: Progress, block: &[u8], out: &mut [u8]) -> Progress
-    requires { ⌜ Ready progress (length (now out)) ⌝ }
-    ensures { λ r. ⌜ Ready r (length (now (out .entry))) ⌝ }
+fn write_closing(lister: Lister) -> bool {
+    let text = closing(lister);
+    let bytes = text.bytes;
+    let from = text.from;
+    io::write_all(STDOUT_FILENO, &bytes[from..])
+}
+
+// The closing line is written only where the listing is whole.
+pub fn finish(progress: Progress) -> Fate
+    ensures { λ r. ⌜ ClosedAs (progress .fate) r ⌝ }
 {
-    let roomy = make_room(progress, out);
-    if goes_on(roomy) {
-        add_block(roomy, block, out)
-    } else {
-        roomy
-    }
-}
-
-// The blocks in the octets that were read.
-pub fn list_blocks(progress: Progress, octets: &[u8], out: &mut [u8]) -> Progress
-    requires { ⌜ Ready progress (length (now out)) ⌝ }
-    ensures { λ r. ⌜ Ready r (length (now (out .entry))) ⌝ }
-{
-    let mut next = progress;
-    let mut at = 0;
-    while at < octets.len() && goes_on(next) {
-        let end = block::end_after(at, octets.len());
-        next = list_block(next, &octets[at..end], out);
-        at = end;
-    }
-    next
-}
-
-fn write_closing(progress: Progress) -> Fate {
-    let lister = progress.lister;
-    let closing = line::closing(lister.blocks, lister.damaged);
-    let bytes = closing.bytes;
-    let from = closing.from;
-    if io::write_all(STDOUT_FILENO, &bytes[from..]) {
-        progress.fate
-    } else {
-        Fate::WriteFailed
-    }
-}
-
-// What waits is written however the listing ended; the closing line only where it is whole.
-pub fn finish(progress: Progress, out: &[u8]) -> Fate
-    requires { ⌜ Ready progress (length (now out)) ⌝ }
-{
-    let written = write_waiting(progress, out);
-    let fate = written.fate;
+    let fate = progress.fate;
     match fate {
-        Fate::Whole => write_closing(written),
+        Fate::Whole => {
+            if write_closing(progress.lister) {
+                return Fate::Whole;
+            }
+            Fate::WriteFailed
+        }
         Fate::Going => Fate::TooLong,
         Fate::ReadFailed => Fate::ReadFailed,
         Fate::WriteFailed => Fate::WriteFailed,

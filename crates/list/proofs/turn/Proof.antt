@@ -1,65 +1,122 @@
--- `turn` is safe: what was read lies in the buffer, and the lister stays one that its calls have made.
--- Assumes nothing.
-use mathlib.Core.Path.{_≡_, sym, subst}
-use Prim.Native.Nat.{ℕ, _≤_, _-_, _%_}
-use native.Mathlib.Omega.{arith}
 use borrow.Author.Needs.{needs}
-use denote.Ref.{now}
-use lib.ListN.{length}
-use lib.Seq.{length-take-le}
-use Rattle.list.specs.Program.{Within}
-use Rattle.list.specs.declared.input.Filled.{Filled}
 use Rattle.list.proofs.turn.Statement.{statement}
 use Rattle.list.proofs.turn.Tie as tie
+use Rattle.list.proofs.turn.Reads as reads
+use Rattle.list.proofs.turn.Lts as lts
+use Rattle.list.proofs.input.fill.Reads as fill-reads
+use Rattle.list.proofs.output.list_blocks.Reads as list-blocks-reads
 
--- what was read lies in the buffer as the read leaves it
-read : (c : tie.After-fill) (r : Filled) → c .fill .result ≡ r → Within r (length (c .fill .last .0))
-read c r e =
-    let a = c .before .before .before .before .args in
-    let same : length (c .fill .last .0) ≡ length (now (a .input)) = search needs in
-    subst (λ (n : ℕ). Within r n) (sym same) (subst (λ (x : Filled). Within x (length (now (a .input)))) e (c .fill .ensures))
+-- src/main.rt:32:11
+fill-requires : tie.Need-fill-requires
+fill-requires c κs = search needs
 
--- before a read failed: whole blocks of it
-failed : (c : tie.After-known-told) → let n = c .before .count .given .0 .0 in n - n % 512 ≤ length (c .before .before .before .before .before .fill .last .0)
-failed c = omega (arith, read (c .before .before .before .before .before) _ (c .before .count .given .1))
+-- src/main.rt:33:24
+enum-known-count : tie.Need-enum-known-count
+enum-known-count c = search needs
 
+-- src/main.rt:34:25
+sub-whole : tie.Need-sub-whole
+sub-whole c = search needs
+
+-- src/main.rt:35:41
+slice-reshare-prefix-list-blocks : tie.Need-slice-reshare-prefix-list-blocks
+slice-reshare-prefix-list-blocks c = ?
+
+-- src/main.rt:35:41
 slice-aggregate-list-blocks : tie.Need-slice-aggregate-list-blocks
-slice-aggregate-list-blocks c = sym (length-take-le _ _ (failed (c .before)))
+slice-aggregate-list-blocks c = ?
 
-filled : (c : tie.After-known-told2) → c .before .count2 .given .0 .0 ≤ length (c .before .before .before .before .before .fill .last .0)
-filled c = read (c .before .before .before .before .before) _ (c .before .count2 .given .1)
+-- src/main.rt:35:13
+list-blocks-requires : tie.Need-list-blocks-requires
+list-blocks-requires c κs = search needs
 
+-- src/main.rt:37:24
+enum-known-count-2 : tie.Need-enum-known-count-2
+enum-known-count-2 c = search needs
+
+-- src/main.rt:39:52
+slice-reshare-prefix-list-blocks-2 : tie.Need-slice-reshare-prefix-list-blocks-2
+slice-reshare-prefix-list-blocks-2 c = search needs
+
+-- src/main.rt:39:52
 slice-aggregate-list-blocks-2 : tie.Need-slice-aggregate-list-blocks-2
-slice-aggregate-list-blocks-2 c = sym (length-take-le _ _ (filled (c .before)))
+slice-aggregate-list-blocks-2 c = ?
 
+-- src/main.rt:39:17
+list-blocks-requires-2 : tie.Need-list-blocks-requires-2
+list-blocks-requires-2 c κs = search needs
+
+-- src/main.rt:39:17
+same-length : tie.Need-same-length
+same-length c = search needs
+
+-- src/main.rt:39:17
+same-length-2 : tie.Need-same-length-2
+same-length-2 c = search needs
+
+-- src/main.rt:39:17
 returns : tie.Need-returns
-returns c = c .ending .ensures _ (c .before .before .before .list-blocks .ensures)
+returns c = search needs
 
+-- src/main.rt:41:41
+slice-reshare-prefix-list-blocks-3 : tie.Need-slice-reshare-prefix-list-blocks-3
+slice-reshare-prefix-list-blocks-3 c = ?
+
+-- src/main.rt:41:41
+slice-aggregate-list-blocks-3 : tie.Need-slice-aggregate-list-blocks-3
+slice-aggregate-list-blocks-3 c = ?
+
+-- src/main.rt:41:13
+list-blocks-requires-3 : tie.Need-list-blocks-requires-3
+list-blocks-requires-3 c κs = search needs
+
+-- src/main.rt:27:1
+same-length-3 : tie.Need-same-length-3
+same-length-3 c = search needs
+
+-- src/main.rt:27:1
+same-length-4 : tie.Need-same-length-4
+same-length-4 c = search needs
+
+-- src/main.rt:27:1
 returns-2 : tie.Need-returns-2
-returns-2 c = c .ending2 .ensures _ (c .before .before .before .before .list-blocks2 .ensures)
+returns-2 c = ?
+
+-- src/main.rt:27:1
+same-length-5 : tie.Need-same-length-5
+same-length-5 c = search needs
+
+-- src/main.rt:27:1
+same-length-6 : tie.Need-same-length-6
+same-length-6 c = search needs
+
+-- src/main.rt:27:1
+returns-3 : tie.Need-returns-3
+returns-3 c = ?
 
 pub turn-spec : {M : Type 1} → statement M
 turn-spec =
     tie.close
     (tie.spec
-    (λ c κs. search needs)
-    (λ c. search needs)
-    (λ c. search needs)
-    failed
+    fill-requires
+    enum-known-count
+    sub-whole
+    slice-reshare-prefix-list-blocks
     slice-aggregate-list-blocks
-    (λ c κs. search needs)
-    (λ c κs. search needs)
-    (λ c. search needs)
-    filled
+    list-blocks-requires
+    enum-known-count-2
+    slice-reshare-prefix-list-blocks-2
     slice-aggregate-list-blocks-2
-    (λ c κs. search needs)
-    (λ c κs. search needs)
-    (λ c. search needs)
-    (λ c. search needs)
+    list-blocks-requires-2
+    same-length
+    same-length-2
     returns
-    (λ c. search needs)
-    (λ c. search needs)
+    slice-reshare-prefix-list-blocks-3
+    slice-aggregate-list-blocks-3
+    list-blocks-requires-3
+    same-length-3
+    same-length-4
     returns-2
-    (λ c. search needs)
-    (λ c. search needs)
-    (λ c. search needs))
+    same-length-5
+    same-length-6
+    returns-3)

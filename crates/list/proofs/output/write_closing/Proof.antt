@@ -1,38 +1,42 @@
--- `write_closing` is safe: the closing line lies in its room.
--- Assumes nothing.
-use mathlib.Core.Path.{_≡_, ap}
-use Prim.Native.Nat.{_≤_}
-use native.Mathlib.Omega.{arith}
 use borrow.Author.Needs.{needs}
-use lib.ListN.{length}
-use Rattle.line.specs.declared.back.Text.{Text}
 use Rattle.list.proofs.output.write_closing.Statement.{statement}
 use Rattle.list.proofs.output.write_closing.Tie as tie
+use Rattle.list.proofs.output.write_closing.Reads as reads
+use Rattle.list.proofs.output.write_closing.Lts as lts
+use Rattle.io.proofs.write_all.Reads as write-all-reads
+use Rattle.list.proofs.output.closing.Reads as closing-reads
 
--- the text begins within its room
-begins : (c : tie.After-closing) → c .closing .result .from ≤ 64
-begins c = omega (arith, ap (λ (t : Text). t .from) (c .closing .ensures))
+-- src/output.rt:84:9
+closing-requires : tie.Need-closing-requires
+closing-requires c κs = search needs
 
-sixty-four : (c : tie.After-closing) → length (c .closing .result .bytes) ≡ 64
-sixty-four c = search needs
-
+-- src/output.rt:87:34
 sub-write-all : tie.Need-sub-write-all
-sub-write-all c = omega (arith, begins (c .before))
+sub-write-all c = ?
 
+-- src/output.rt:87:34
 part-write-all-start : tie.Need-part-write-all-start
-part-write-all-start c = omega (arith, begins (c .before .before))
+part-write-all-start c = ?
 
+-- src/output.rt:87:34
 part-write-all-end : tie.Need-part-write-all-end
-part-write-all-end c = omega (arith, begins (c .before .before), sixty-four (c .before .before))
+part-write-all-end c = ?
+
+-- src/output.rt:87:5
+write-all-requires : tie.Need-write-all-requires
+write-all-requires c κs = search needs
+
+-- src/output.rt:83:1
+returns : tie.Need-returns
+returns c = search needs
 
 pub write-closing-spec : {M : Type 1} → statement M
 write-closing-spec =
     tie.close
     (tie.spec
-    (λ c κs. search needs)
+    closing-requires
     sub-write-all
     part-write-all-start
     part-write-all-end
-    (λ c κs. search needs)
-    (λ c. search needs)
-    (λ c. search needs))
+    write-all-requires
+    returns)

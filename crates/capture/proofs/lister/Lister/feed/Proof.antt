@@ -38,7 +38,7 @@ returns-2 c =
     let told = blockTold (now (a .block)) (a .self) in
     let put = p .put-block in (
       subst (λ (x : Listing). FedWith (feedMeans (a .self) 1 told (length (now (a .out)))) (a .self) (now (a .out)) x (put .last .1 .1 .0)) (sym (c .listed .ensures))
-      (fed (a .self) 1 told (now (a .out)) (room e) (put .result) (put .ensures .0) (put .ensures .1)),
+          (fed (a .self) 1 told (now (a .out)) (room e) (put .result) (put .ensures .0) (put .ensures .1)),
       subst (λ (x : Listing). Fits (x .lister)) (sym (c .listed .ensures)) (put .ensures .0 .fits),
     )
 

@@ -53,7 +53,7 @@ returns-2 c =
     let told = blocksTold bs (a .self) in
     let put = p .put-blocks in (
       subst (λ (x : Listing). FedWith (feedMeans (a .self) (length bs) told (length (now (a .out)))) (a .self) (now (a .out)) x (put .last .1 .1 .0)) (sym (c .listed .ensures))
-      (fed (a .self) (length bs) told (now (a .out)) (room e) (put .result) (put .ensures .0) (put .ensures .1)),
+          (fed (a .self) (length bs) told (now (a .out)) (room e) (put .result) (put .ensures .0) (put .ensures .1)),
       subst (λ (x : Listing). Fits (x .lister)) (sym (c .listed .ensures)) (put .ensures .0 .fits),
     )
 

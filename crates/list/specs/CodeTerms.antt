@@ -1,0 +1,2 @@
+-- The code's own terms.
+pub mod Writing
