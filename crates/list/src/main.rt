@@ -8,7 +8,7 @@ ghost use Prim.Native.Nat.{_%_};
 ghost use mathlib.Core.Path.{_≡_};
 ghost use Rattle.block.specs.Blocks.{blockSize};
 ghost use Rattle.capture.specs.Listers.{Fits};
-ghost use Rattle.list.specs.Program.{Turned, Reached};
+ghost use Rattle.list.specs.Program.{Within, CutAs, Turned, Reached};
 use capture::Lister;
 use input::Filled;
 use libc::STDERR_FILENO;
@@ -22,25 +22,48 @@ const INPUT: usize = BLOCKS * block::SIZE;
 
 const OUTPUT: usize = BLOCKS * Lister::ROOM;
 
-// Reads a buffer of octets, and lists its blocks. One that is not full is the last. Where a read failed, a block that is cut there is not the
-// file's short last one, so only whole blocks are listed.
+// So many octets are listed, and the listing then stands so.
+struct Piece {
+    count: usize,
+    said: Fate,
+}
+
+// The piece of the file in a buffer of so many octets. One that does not fill it is the last. Where a read failed, a block that is cut there is not
+// the file's short last one, so only whole blocks are listed.
+fn cut(filled: Filled, size: usize) -> Piece
+    requires { ⌜ Within filled size ⌝ }
+    ensures { λ r. ⌜ CutAs (r .said) (r .count) size ⌝ }
+{
+    match filled {
+        Filled::Failed(count) => {
+            let said = Fate::ReadFailed;
+            Piece {
+                count: count - count % block::SIZE,
+                said,
+            }
+        }
+        Filled::Octets(count) => {
+            if count < size {
+                let said = Fate::Whole;
+                return Piece { count, said };
+            }
+            let said = Fate::Going;
+            Piece { count, said }
+        }
+    }
+}
+
+// Reads a buffer of octets, and lists its blocks.
 fn turn(lister: Lister, input: &mut [u8], out: &mut [u8]) -> Progress
     requires { ⌜ Fits lister ⌝ }
     ensures { λ r. ⌜ Turned lister (now (input .exit)) (now (out .entry)) r (now (out .exit)) ⌝ }
     ensures { λ r. ⌜ Fits (r .lister) ⌝ }
 {
-    match input::fill(input) {
-        Filled::Failed(count) => {
-            let whole = count - count % block::SIZE;
-            output::list_blocks(lister, &input[..whole], out, Fate::ReadFailed)
-        }
-        Filled::Octets(count) => {
-            if count < input.len() {
-                return output::list_blocks(lister, &input[..count], out, Fate::Whole);
-            }
-            output::list_blocks(lister, &input[..count], out, Fate::Going)
-        }
-    }
+    let filled = input::fill(input);
+    let piece = cut(filled, input.len());
+    let count = piece.count;
+    let said = piece.said;
+    output::list_blocks(lister, &input[..count], out, said)
 }
 
 // Turn after turn, as long as the listing goes on. A proved loop has to end, and nothing says that the input does: each turn but the last lists

@@ -1,68 +1,43 @@
+-- `list_all` meets its contract: turn after turn the lister is one that some file leaves.
+use mathlib.Core.Path.{_≡_, refl, sym, ap, _∙_}
+use Prim.Native.Nat.{ℕ, _%_}
+use lib.ListN.{length}
+use Rattle.block.specs.Blocks.{blockSize}
+use Rattle.capture.specs.Listers.{Fits}
+use Rattle.list.specs.Program.{Reached}
+use Rattle.list.proofs.Pieces.{started, is-going, one-turn-more}
+use borrow.Author.Needs.{needs}
 use Rattle.list.proofs.list_all.Statement.{statement}
 use Rattle.list.proofs.list_all.Tie as tie
-use Rattle.list.proofs.list_all.Reads as reads
-use Rattle.list.proofs.list_all.Lts as lts
-use Rattle.capture.proofs.lister.Lister.fresh.Reads as fresh-reads
-use Rattle.list.proofs.output.goes_on.Reads as goes-on-reads
-use Rattle.list.proofs.turn.Reads as turn-reads
 
 abbrev Inv-loop : tie.InvT-loop
-Inv-loop input₀ out₀ progress₀ turns₀ input out progress turns = ?
+Inv-loop input₀ out₀ progress₀ turns₀ input out progress turns =
+    Reached progress × Fits (progress .lister) × (length input ≡ length input₀) × (length out ≡ length out₀) × (length input % blockSize ≡ 0)
 
 abbrev μ-loop : tie.MeasureT-loop
-μ-loop input₀ out₀ progress₀ turns₀ input out progress turns = ?
+μ-loop input₀ out₀ progress₀ turns₀ input out progress turns = turns
 
--- src/main.rt:52:9
-fresh-requires : tie.Need-fresh-requires Inv-loop μ-loop
-fresh-requires c κs = ?
-
--- src/main.rt:56:5
 loop-holds : tie.Need-loop-holds Inv-loop μ-loop
-loop-holds c = ?
+loop-holds c = (started (c .fresh .result) (c .fresh .ensures .0), c .fresh .ensures .1, refl, refl, c .before .before .before .pre)
 
--- src/main.rt:56:24
-goes-on-requires : tie.Need-goes-on-requires Inv-loop μ-loop
-goes-on-requires c κs = ?
-
--- src/main.rt:57:9
 turn-requires : tie.Need-turn-requires Inv-loop μ-loop
-turn-requires c κs = ?
+turn-requires c κs = c .before .before .before .before .before .loop .inv .1
 
--- src/main.rt:58:9
-sub-turns : tie.Need-sub-turns Inv-loop μ-loop
-sub-turns c = ?
-
--- src/main.rt:56:5
-loop-less : tie.Need-loop-less Inv-loop μ-loop
-loop-less c = ?
-
--- src/main.rt:56:5
 loop-again : tie.Need-loop-again Inv-loop μ-loop
-loop-again c = ?
+loop-again c =
+    let t = c .before .before .before .before in
+    let g = t .before .before .before .before in
+    let i = g .before .before .loop .inv in
+    let on = is-going _ (sym (g .goes-on .ensures) ∙ t .before .before .before .if1 .taken) in
+    let same : length (t .turn .last .1 .0) ≡ length (g .before .before .loop .input) = search needs in
+    let whole : length (t .turn .last .1 .0) % blockSize ≡ 0 = ap (λ (n : ℕ). n % blockSize) same ∙ i .4 in
+    (one-turn-more (i .0) on whole (t .turn .ensures .0), t .turn .ensures .1, same ∙ i .2, search needs, whole)
 
--- src/main.rt:48:1
-same-length : tie.Need-same-length Inv-loop μ-loop
-same-length c = ?
-
--- src/main.rt:48:1
-same-length-2 : tie.Need-same-length-2 Inv-loop μ-loop
-same-length-2 c = ?
-
--- src/main.rt:48:1
 returns : tie.Need-returns Inv-loop μ-loop
-returns c = ?
+returns c = c .before .before .before .loop .inv .0
 
--- src/main.rt:48:1
-same-length-3 : tie.Need-same-length-3 Inv-loop μ-loop
-same-length-3 c = ?
-
--- src/main.rt:48:1
-same-length-4 : tie.Need-same-length-4 Inv-loop μ-loop
-same-length-4 c = ?
-
--- src/main.rt:48:1
 returns-2 : tie.Need-returns-2 Inv-loop μ-loop
-returns-2 c = ?
+returns-2 c = c .before .loop .inv .0
 
 pub list-all-spec : {M : Type 1} → statement M
 list-all-spec =
@@ -70,16 +45,16 @@ list-all-spec =
     (tie.spec
     Inv-loop
     μ-loop
-    fresh-requires
+    (λ c κs. search needs)
     loop-holds
-    goes-on-requires
+    (λ c κs. search needs)
     turn-requires
-    sub-turns
-    loop-less
+    (λ c. search needs)
+    (λ c. search needs)
     loop-again
-    same-length
-    same-length-2
+    (λ c. search needs)
+    (λ c. search needs)
     returns
-    same-length-3
-    same-length-4
+    (λ c. search needs)
+    (λ c. search needs)
     returns-2)

@@ -1,69 +1,41 @@
+-- `finish` meets its contract, case by case.
+use mathlib.Core.Logic.{_⊎_}
+use mathlib.Core.Path.{refl, sym, subst}
+use Rattle.list.specs.Program.{ClosedAs}
+use Rattle.list.specs.declared.output.Fate.{Fate}
 use borrow.Author.Needs.{needs}
 use Rattle.list.proofs.output.finish.Statement.{statement}
 use Rattle.list.proofs.output.finish.Tie as tie
-use Rattle.list.proofs.output.finish.Reads as reads
-use Rattle.list.proofs.output.finish.Lts as lts
-use Rattle.list.proofs.output.write_closing.Reads as write-closing-reads
 
--- src/output.rt:97:16
-enum-told : tie.Need-enum-told
-enum-told c = search needs
-
--- src/output.rt:97:16
-write-closing-requires : tie.Need-write-closing-requires
-write-closing-requires c κs = search needs
-
--- src/output.rt:98:17
 returns : tie.Need-returns
-returns c = ?
+returns c = subst (λ (f : Fate). ClosedAs f Fate.Whole) (sym (c .before .before .enum-told .given .1)) (_⊎_.inl refl)
 
--- src/output.rt:102:24
-enum-told-2 : tie.Need-enum-told-2
-enum-told-2 c = search needs
-
--- src/output.rt:103:29
-enum-told-3 : tie.Need-enum-told-3
-enum-told-3 c = search needs
-
--- src/output.rt:104:30
-enum-told-4 : tie.Need-enum-told-4
-enum-told-4 c = search needs
-
--- src/output.rt:105:26
-enum-told-5 : tie.Need-enum-told-5
-enum-told-5 c = search needs
-
--- src/output.rt:91:1
 returns-2 : tie.Need-returns-2
-returns-2 c = ?
+returns-2 c = subst (λ (f : Fate). ClosedAs f Fate.WriteFailed) (sym (c .before .before .enum-told .given .1)) (_⊎_.inr refl)
 
--- src/output.rt:91:1
 returns-3 : tie.Need-returns-3
-returns-3 c = ?
+returns-3 c = subst (λ (f : Fate). ClosedAs f Fate.TooLong) (sym (c .enum-told2 .given .1)) refl
 
--- src/output.rt:91:1
 returns-4 : tie.Need-returns-4
-returns-4 c = ?
+returns-4 c = subst (λ (f : Fate). ClosedAs f Fate.ReadFailed) (sym (c .enum-told3 .given .1)) refl
 
--- src/output.rt:91:1
 returns-5 : tie.Need-returns-5
-returns-5 c = ?
+returns-5 c = subst (λ (f : Fate). ClosedAs f Fate.WriteFailed) (sym (c .enum-told4 .given .1)) refl
 
--- src/output.rt:91:1
 returns-6 : tie.Need-returns-6
-returns-6 c = ?
+returns-6 c = subst (λ (f : Fate). ClosedAs f Fate.TooLong) (sym (c .enum-told5 .given .1)) refl
 
 pub finish-spec : {M : Type 1} → statement M
 finish-spec =
     tie.close
     (tie.spec
-    enum-told
-    write-closing-requires
+    (λ c. search needs)
+    (λ c κs. search needs)
     returns
-    enum-told-2
-    enum-told-3
-    enum-told-4
-    enum-told-5
+    (λ c. search needs)
+    (λ c. search needs)
+    (λ c. search needs)
+    (λ c. search needs)
     returns-2
     returns-3
     returns-4

@@ -1,42 +1,36 @@
+-- `write_closing` is safe: the closing line lies in its room.
+use mathlib.Core.Path.{_≡_, ap}
+use Prim.Native.Nat.{_≤_}
+use native.Mathlib.Omega.{arith}
+use lib.ListN.{length}
+use Rattle.line.specs.declared.back.Text.{Text}
 use borrow.Author.Needs.{needs}
 use Rattle.list.proofs.output.write_closing.Statement.{statement}
 use Rattle.list.proofs.output.write_closing.Tie as tie
-use Rattle.list.proofs.output.write_closing.Reads as reads
-use Rattle.list.proofs.output.write_closing.Lts as lts
-use Rattle.io.proofs.write_all.Reads as write-all-reads
-use Rattle.list.proofs.output.closing.Reads as closing-reads
 
--- src/output.rt:84:9
-closing-requires : tie.Need-closing-requires
-closing-requires c κs = search needs
+-- the text begins within its room
+begins : (c : tie.After-closing) → c .closing .result .from ≤ 64
+begins c = omega (arith, ap (λ (t : Text). t .from) (c .closing .ensures))
 
--- src/output.rt:87:34
+sixty-four : (c : tie.After-closing) → length (c .closing .result .bytes) ≡ 64
+sixty-four c = search needs
+
 sub-write-all : tie.Need-sub-write-all
-sub-write-all c = ?
+sub-write-all c = omega (arith, begins (c .before))
 
--- src/output.rt:87:34
 part-write-all-start : tie.Need-part-write-all-start
-part-write-all-start c = ?
+part-write-all-start c = omega (arith, begins (c .before .before))
 
--- src/output.rt:87:34
 part-write-all-end : tie.Need-part-write-all-end
-part-write-all-end c = ?
-
--- src/output.rt:87:5
-write-all-requires : tie.Need-write-all-requires
-write-all-requires c κs = search needs
-
--- src/output.rt:83:1
-returns : tie.Need-returns
-returns c = search needs
+part-write-all-end c = omega (arith, begins (c .before .before), sixty-four (c .before .before))
 
 pub write-closing-spec : {M : Type 1} → statement M
 write-closing-spec =
     tie.close
     (tie.spec
-    closing-requires
+    (λ c κs. search needs)
     sub-write-all
     part-write-all-start
     part-write-all-end
-    write-all-requires
-    returns)
+    (λ c κs. search needs)
+    (λ c. search needs))

@@ -1,46 +1,48 @@
+-- `write_lines` meets its contract: the lines lie in the buffer, and the listing stands by whether they were made and written.
+use mathlib.Core.Logic.{_⊎_}
+use mathlib.Core.Path.{_≡_, refl, sym, subst}
+use Prim.Native.Nat.{_≤_}
+use denote.Ref.{now}
+use lib.ListN.{length}
+use lib.Seq.{length-take-le}
+use Rattle.octets.specs.declared.writing.Wrote.{Wrote}
+use Rattle.list.specs.CodeTerms.Writing.{CountWithin, WroteAs}
+use Rattle.list.specs.declared.output.Fate.{Fate}
 use borrow.Author.Needs.{needs}
 use Rattle.list.proofs.output.write_lines.Statement.{statement}
 use Rattle.list.proofs.output.write_lines.Tie as tie
-use Rattle.list.proofs.output.write_lines.Reads as reads
-use Rattle.list.proofs.output.write_lines.Lts as lts
-use Rattle.io.proofs.write_all.Reads as write-all-reads
 
--- src/output.rt:53:17
-enum-told : tie.Need-enum-told
-enum-told c = search needs
+inside : (c : tie.After-known-told) → c .before .wrote .given .0 .0 ≤ length (now (c .before .before .before .before .before .args .out))
+inside c =
+    let s = c .before .before .before .before .before in
+    subst (λ (w : Wrote). CountWithin w (length (now (s .args .out)))) (c .before .wrote .given .1) (s .pre)
 
--- src/output.rt:56:23
-enum-known-wrote : tie.Need-enum-known-wrote
-enum-known-wrote c = search needs
-
--- src/output.rt:57:45
 slice-aggregate-write-all : tie.Need-slice-aggregate-write-all
-slice-aggregate-write-all c = ?
+slice-aggregate-write-all c = sym (length-take-le _ _ (inside (c .before)))
 
--- src/output.rt:57:16
-write-all-requires : tie.Need-write-all-requires
-write-all-requires c κs = search needs
-
--- src/output.rt:58:17
 returns : tie.Need-returns
-returns c = ?
+returns c =
+    let s = c .before .before .before .before .before .before .before .before in
+    (refl, subst (λ (w : Wrote). WroteAs w (s .args .said) (s .args .said)) (sym (c .before .before .before .before .wrote .given .1)) (_⊎_.inl refl))
 
--- src/output.rt:45:1
 returns-2 : tie.Need-returns-2
-returns-2 c = ?
+returns-2 c =
+    let s = c .before .before .before .before in
+    (refl, subst (λ (w : Wrote). WroteAs w (s .args .said) Fate.TooLong) (sym (c .enum-told .given .1)) refl)
 
--- src/output.rt:45:1
 returns-3 : tie.Need-returns-3
-returns-3 c = ?
+returns-3 c =
+    let s = c .before .before .before .before .before .before .before .before in
+    (refl, subst (λ (w : Wrote). WroteAs w (s .args .said) Fate.WriteFailed) (sym (c .before .before .before .before .wrote .given .1)) (_⊎_.inr refl))
 
 pub write-lines-spec : {M : Type 1} → statement M
 write-lines-spec =
     tie.close
     (tie.spec
-    enum-told
-    enum-known-wrote
+    (λ c. search needs)
+    (λ c. search needs)
     slice-aggregate-write-all
-    write-all-requires
+    (λ c κs. search needs)
     returns
     returns-2
     returns-3)
