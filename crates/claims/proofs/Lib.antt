@@ -4,6 +4,7 @@ pub mod Bodies
 pub mod CountingTbtts
 pub mod CoveredUnits
 pub mod Demand3
+pub mod DueFrames
 pub mod Elements
 pub mod FedFilesListed
 pub mod HistoriesTell
@@ -23,6 +24,8 @@ pub mod QuietUnits
 pub mod Refusals
 pub mod Replies
 pub mod RepliesRead
+pub mod ReplyHeads
+pub mod ReplyParts
 pub mod Same
 pub mod Schedules
 pub mod StationWitnesses

@@ -7,6 +7,7 @@ pub mod Moments
 pub mod Numbered
 pub mod OpenUnits
 pub mod Records
+pub mod ReplyHeads
 pub mod Runs
 pub mod Standing
 pub mod Tbtts
