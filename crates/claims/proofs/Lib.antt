@@ -1,4 +1,5 @@
 pub mod Agreement
+pub mod AnsweredRequests
 pub mod Asked
 pub mod Bodies
 pub mod CountingTbtts
@@ -19,6 +20,7 @@ pub mod OneOutcomeWalk
 pub mod OneRecord
 pub mod OneSaying
 pub mod Others
+pub mod OwedReports
 pub mod Pendings
 pub mod QuietUnits
 pub mod Refusals
