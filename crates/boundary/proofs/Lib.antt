@@ -3,5 +3,7 @@ pub mod FieldLengths
 pub mod OneOutcome
 pub mod Passes
 pub mod QuietsByIndex
+pub mod RefusalNumbers
+pub mod SignedAnswers
 pub mod Unlaid
 pub mod Wholes

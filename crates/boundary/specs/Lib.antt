@@ -4,3 +4,4 @@ pub mod ElementFields
 pub mod Findings
 pub mod FrameFields
 pub mod Given
+pub mod SignedAnswers

@@ -1,9 +1,11 @@
 pub mod Agreement
+pub mod AnsweredRequests
 pub mod Asked
 pub mod Bodies
 pub mod CountingTbtts
 pub mod CoveredUnits
 pub mod Demand3
+pub mod DueFrames
 pub mod Elements
 pub mod FedFilesListed
 pub mod HistoriesTell
@@ -18,11 +20,14 @@ pub mod OneOutcomeWalk
 pub mod OneRecord
 pub mod OneSaying
 pub mod Others
+pub mod OwedReports
 pub mod Pendings
 pub mod QuietUnits
 pub mod Refusals
 pub mod Replies
 pub mod RepliesRead
+pub mod ReplyHeads
+pub mod ReplyParts
 pub mod Same
 pub mod Schedules
 pub mod StationWitnesses

@@ -1,3 +1,4 @@
+pub mod AnsweredRequests
 pub mod BodyCalls
 pub mod Exchanged
 pub mod FedFiles
@@ -6,7 +7,10 @@ pub mod HistoryLines
 pub mod Moments
 pub mod Numbered
 pub mod OpenUnits
+pub mod PossibleReadings
 pub mod Records
+pub mod RepliesRead
+pub mod ReplyHeads
 pub mod Runs
 pub mod Standing
 pub mod Tbtts

@@ -1,0 +1,123 @@
+-- What a frame that is due a reply says of itself (01, "Replies": "Due only for accepted Action frames whose DA is the station"): its three
+-- addresses, and its body. Assumes nothing.
+use mathlib.Core.Bool.{Bool, true, false, _||_}
+use mathlib.Core.List.{List, [], _∷_}
+use mathlib.Core.Path.{_≡_, refl, sym, ap, ap₂, _∙_, subst}
+use Prim.Native.Nat.{ℕ, _-_}
+use borrow.Author.Tests.{eqb-true, not-false}
+use lib.Dec.{eqb}
+use lib.ListN.{take, drop, take-append-drop}
+use Rattle.action.specs.Openings.{fixedFields}
+use Rattle.answer.proofs.Booleans.{clash, both, neither}
+use Rattle.answer.proofs.Judged.{never, passed, kept}
+use Rattle.answer.specs.Checks.{Outcome, refused, accepted, andThen}
+use Rattle.frame.proofs.ActionParts.{parts}
+use Rattle.frame.specs.Actions.{Body, requests, actionMeans}
+use Rattle.header.specs.Headers.{headerLength, bodyOf, same, da, sa, bssid, toAll, foreignAddress, managementMeans, addressMeans, headerMeans}
+use Rattle.header.specs.declared.management.Subtype.{Subtype}
+use Rattle.measurement_body.proofs.PlacesRead.{Reads, place-reads}
+use Rattle.measurement_body.specs.Lists.{measurementsIn, nth}
+use Rattle.measurement_body.specs.Requests.{requestSort}
+use Rattle.measurement_body.specs.Surveys.{placeIn}
+use Rattle.measurement_body.specs.declared.surveying.Place.{Place}
+use Rattle.measurement_element.proofs.RequestTrip.{request-trip}
+use Rattle.measurement_element.specs.MeasurementRequest.{requestMeans, requestForbids, RequestFits}
+use Rattle.measurement_element.specs.declared.measurement_request.Request.{Request}
+use Rattle.octets.specs.Numbers.{Octets}
+use Rattle.walk.proofs.RunLaws.{octets-front, octets-after}
+use Rattle.reply.specs.Due.{orNone, afterHeader, dueMeans}
+
+same-is-equal : (xs ys : List ℕ) → same xs ys ≡ true → xs ≡ ys
+same-is-equal [] [] e = refl
+same-is-equal [] (y ∷ ys) e = clash (sym e)
+same-is-equal (x ∷ xs) [] e = clash (sym e)
+same-is-equal (x ∷ xs) (y ∷ ys) e =
+    let p = both (eqb x y) (same xs ys) e in
+    ap₂ (λ (z : ℕ) (zs : List ℕ). z ∷ zs) (eqb-true x y (p .0)) (same-is-equal xs ys (p .1))
+
+first-holds : (a b : Bool) → (a || b) ≡ true → b ≡ false → a ≡ true
+first-holds true b e k = refl
+first-holds false b e k = clash (sym e ∙ k)
+
+-- the AP sent it to the station alone, and its body asks this
+pub record AsksStation (own ap f : List ℕ) (body : Body) : Type 0 where
+  pub toStation : da f ≡ own
+  pub toOne : toAll f ≡ false
+  pub fromAp : sa f ≡ ap
+  pub ofBss : bssid f ≡ ap
+  pub asks : actionMeans (bodyOf f) ≡ accepted body
+
+module _ (own ap' f : List ℕ) (body : Body) where
+  -- past the checks on the addresses, and not to all ones
+  addressed : addressMeans own ap' f ≡ accepted false → actionMeans (bodyOf f) ≡ accepted body → AsksStation own ap' f body
+  unfolding addressMeans foreignAddress
+  addressed e asks =
+      let p = passed _ _ _ e in
+      let one : toAll f ≡ false = kept _ (p .1) in
+      let from = neither _ _ (p .0) in
+      let bss = neither _ _ (from .1) in
+      record {
+        toStation = same-is-equal _ _ (first-holds _ _ (not-false _ (bss .1)) one);
+        toOne = one;
+        fromAp = same-is-equal _ _ (not-false _ (from .0));
+        ofBss = same-is-equal _ _ (not-false _ (bss .0));
+        asks = asks;
+      }
+
+  -- only a body that is accepted is due
+  accepted-body : (o : Outcome Body) → orNone o ≡ accepted body → o ≡ accepted body
+  accepted-body (refused r) e = absurd (never e)
+  accepted-body (accepted b) e = e
+
+  by-checks : (m : Outcome Subtype) (o : Outcome Bool) → addressMeans own ap' f ≡ o
+      → andThen (andThen m (λ s. andThen o (λ t. accepted (record { subtype = s; toAll = t })))) (afterHeader f) ≡ accepted body → AsksStation own ap' f body
+  by-checks (refused r) o a e = absurd (never e)
+  by-checks (accepted s) (refused r) a e = absurd (never e)
+  by-checks (accepted s) (accepted true) a e = absurd (never e)
+  by-checks (accepted Subtype.Beacon) (accepted false) a e = absurd (never e)
+  by-checks (accepted Subtype.ProbeResponse) (accepted false) a e = absurd (never e)
+  by-checks (accepted Subtype.Action) (accepted false) a e = addressed a (accepted-body _ e)
+
+  pub due-asks : dueMeans own ap' f ≡ accepted body → AsksStation own ap' f body
+  unfolding dueMeans headerMeans
+  due-asks e = by-checks (managementMeans f) (addressMeans own ap' f) refl e
+
+-- ---- an element of its Measurement Request is what some of its octets mean
+
+octets-take : (n : ℕ) (os : List ℕ) → Octets os → Octets (take n os)
+octets-take n os o = octets-front (take n os) (drop n os) (subst Octets (sym (take-append-drop n os)) o)
+
+octets-drop : (n : ℕ) (os : List ℕ) → Octets os → Octets (drop n os)
+octets-drop n os o = octets-after (take n os) (drop n os) (subst Octets (sym (take-append-drop n os)) o)
+
+record Said (f : List ℕ) (q : Request) : Type 0 where
+  contents : List ℕ
+  octets : Octets f → Octets contents
+  means : requestMeans contents ≡ accepted q
+
+module _ (own ap' f : List ℕ) (token : ℕ) (rs : List Request) (i : ℕ) (q : Request) (due : dueMeans own ap' f ≡ accepted (requests token rs)) (at : nth i rs ≡ accepted q) where
+  by-place : (p : Place) → Reads requestSort (bodyOf f) (nth i rs) p → Said f q
+  by-place Place.Absent e = absurd (never (sym e ∙ at))
+  by-place (Place.Contents start stop) e =
+      record {
+        contents = take (stop - start) (drop start (bodyOf f));
+        octets = λ o. octets-take (stop - start) (drop start (bodyOf f)) (octets-drop start (bodyOf f) (octets-drop headerLength f o));
+        means = e .2 ∙ at;
+      }
+
+  said : Said f q
+  said =
+      let p = parts (bodyOf f) (requests token rs) (due-asks own ap' f (requests token rs) due .asks) in
+      by-place (placeIn i (bodyOf f))
+      (place-reads requestSort (bodyOf f) rs (ap (λ (c : List ℕ). measurementsIn requestSort (drop fixedFields c)) (p .front) ∙ p .holds .1) i)
+
+  -- so it fits its fields
+  pub element-fits : Octets f → RequestFits q
+  element-fits o = request-trip .fits (said .contents) q (said .octets o) (said .means)
+
+  -- and says nothing that is forbidden
+  pub element-allowed : requestForbids q ≡ false
+  unfolding requestMeans
+  element-allowed =
+      let p = passed _ _ _ (passed _ _ _ (passed _ _ _ (said .means) .1) .1) in
+      subst (λ (x : Request). requestForbids x ≡ false) (kept _ (p .1)) (p .0)
