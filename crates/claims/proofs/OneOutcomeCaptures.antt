@@ -5,9 +5,11 @@ use Prim.Native.Nat.{ℕ, _-_}
 use native.Mathlib.Omega.{arith}
 use denote.Ref.{now}
 use lib.ListN.{length, take, drop}
+use Rattle.block.proofs.count_in as Block-count-in
 use Rattle.block.proofs.end_after as End-after
 use Rattle.block.proofs.judge as Judge
 use Rattle.capture.proofs.lister.Lister.feed as Feed-block
+use Rattle.capture.proofs.lister.Lister.feed_all as Feed-all
 use Rattle.capture.proofs.lister.Lister.fresh as Fresh
 use Rattle.capture_record.proofs.entry_of as Entry-of
 use Rattle.capture_record.proofs.settings_in as Settings-in
@@ -42,7 +44,13 @@ pub lister-fresh : OneResult 0 Fresh.Kinds.ps Fresh.Kinds.r Fresh.Reads.Post
 lister-fresh κs a e f x y p q = once (p .0) (q .0)
 
 pub lister-feed : OneOutcome 2 Feed-block.Kinds.ps Feed-block.Kinds.r Feed-block.Reads.Post (λ κs e. now (e .1 .1 .0))
-lister-feed κs a e f x y p q = (once (p .0) (q .0), once (p .1 .1) (q .1 .1))
+lister-feed κs a e f x y p q = (once (p .0 .answers) (q .0 .answers), once (p .0 .leaves) (q .0 .leaves))
+
+pub lister-feed-all : OneOutcome 2 Feed-all.Kinds.ps Feed-all.Kinds.r Feed-all.Reads.Post (λ κs e. now (e .1 .1 .0))
+lister-feed-all κs a e f x y p q = (once (p .0 .answers) (q .0 .answers), once (p .0 .leaves) (q .0 .leaves))
+
+pub block-count-in : OneResult 0 Block-count-in.Kinds.ps Block-count-in.Kinds.r Block-count-in.Reads.Post
+block-count-in κs a e f x y p q = once p q
 
 -- ---- records
 
