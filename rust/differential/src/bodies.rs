@@ -30,9 +30,6 @@ fn ample<S: Sort>(records: usize) -> usize {
     AMPLE.min(3 + (records + 1) * S::LONGEST)
 }
 
-/// Refused: the document's 16.
-const IMPOSSIBLE: u8 = 16;
-
 pub fn run(count: &mut Count) {
     let mut rng = count.begin("bodies", SEED);
     tpc_request_bodies(count);
@@ -115,6 +112,13 @@ trait Sort {
     /// The library's call.
     fn append(buffer: &mut [u8], used: usize, dialog: u8, record: Self::Record) -> Written;
     /// The twin's.
+    fn twin_append(
+        buffer: &mut [u8],
+        used: usize,
+        dialog: u8,
+        record: Self::Record,
+    ) -> Result<usize, u8>;
+    /// A whole body, as the twin writes it.
     fn write(dialog: u8, records: &[Self::Record], out: &mut [u8]) -> Result<usize, u8>;
     /// Token and records of a body, as the twin reads it.
     fn read(body: &[u8]) -> Option<(u8, Vec<Self::Record>)>;
@@ -146,6 +150,15 @@ impl Sort for Requests {
 
     fn append(buffer: &mut [u8], used: usize, dialog: u8, record: twin::Request) -> Written {
         oneiralth::append_request(buffer, used, dialog, pairs::request(record))
+    }
+
+    fn twin_append(
+        buffer: &mut [u8],
+        used: usize,
+        dialog: u8,
+        record: twin::Request,
+    ) -> Result<usize, u8> {
+        twin::append_measurement_request(dialog, record, used, buffer)
     }
 
     fn write(dialog: u8, records: &[twin::Request], out: &mut [u8]) -> Result<usize, u8> {
@@ -185,9 +198,10 @@ impl Sort for Requests {
     }
 
     fn shortest(place: usize) -> twin::Request {
+        // With a type over 2 the two bits would be reserved.
         twin::Request {
             token: token(place),
-            kind: place as u8,
+            kind: (place % 3) as u8,
             asks: twin::Asks::Enable {
                 request: place % 2 == 0,
                 report: place % 3 == 0,
@@ -219,6 +233,15 @@ impl Sort for Reports {
 
     fn append(buffer: &mut [u8], used: usize, dialog: u8, record: twin::Report) -> Written {
         oneiralth::append_report(buffer, used, dialog, pairs::report(record))
+    }
+
+    fn twin_append(
+        buffer: &mut [u8],
+        used: usize,
+        dialog: u8,
+        record: twin::Report,
+    ) -> Result<usize, u8> {
+        twin::append_measurement_report(dialog, record, used, buffer)
     }
 
     fn write(dialog: u8, records: &[twin::Report], out: &mut [u8]) -> Result<usize, u8> {
@@ -507,7 +530,7 @@ fn append_after<S: Sort>(
         S::append(buffer, used, dialog, record)
     });
     let twin = lend_after(front, length, |buffer| {
-        twin_append::<S>(buffer, used, dialog, record)
+        S::twin_append(buffer, used, dialog, record)
     });
     count.buffers(Call::WriteBody, &library, &twin, || {
         let front = hex(front);
@@ -516,29 +539,4 @@ fn append_after<S: Sort>(
             dialog, record, used, front, length
         )
     });
-}
-
-/// An append by the twin, as docs/DECISIONS.md says ("Measurement bodies are
-/// written one element at a time"): what is there must be a body of the same
-/// action and token with nothing uninterpreted and no reserved bit set, so one
-/// that the twin would write from the records that it reads there.
-fn twin_append<S: Sort>(
-    buffer: &mut [u8],
-    used: usize,
-    dialog: u8,
-    record: S::Record,
-) -> Result<usize, u8> {
-    let front = buffer.get(..used).ok_or(IMPOSSIBLE)?;
-    let mut records = Vec::new();
-    if !front.is_empty() {
-        let (token, held) = S::read(front).ok_or(IMPOSSIBLE)?;
-        let mut again = vec![0; used];
-        let same = S::write(token, &held, &mut again) == Ok(used) && again == front;
-        if token != dialog || !same {
-            return Err(IMPOSSIBLE);
-        }
-        records = held;
-    }
-    records.push(record);
-    S::write(dialog, &records, buffer).map(|all| all - used)
 }

@@ -33,8 +33,8 @@ pub const BUFFER_SHORT: u8 = 13;
 pub const CLOCK: u8 = 14;
 /// At start: B is 0, channel over 200, or an address with its group bit set.
 pub const START: u8 = 15;
-/// Record that cannot be written, impossible readings, index past the last,
-/// or a centre asked over channel 200.
+/// Record that cannot be written, impossible readings, index past the last or
+/// on a kind without elements, or a centre asked over channel 200.
 pub const IMPOSSIBLE: u8 = 16;
 /// Damaged block.
 pub const DAMAGED_BLOCK: u8 = 17;

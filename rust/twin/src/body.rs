@@ -3,7 +3,8 @@
 //! "Octets").
 
 use crate::answer::{
-    ACTION, ELEMENT_PLACE, FRAME_SHORT, IMPOSSIBLE, INTERVAL, NINTH_QUIET, REPEATED, VALUE,
+    ACTION, BUFFER_SHORT, ELEMENT_PLACE, FRAME_SHORT, IMPOSSIBLE, INTERVAL, NINTH_QUIET, REPEATED,
+    VALUE,
 };
 use crate::element::{
     channel_switch_octets, cut_any, cut_required, read_channel_switch, read_power_constraint,
@@ -66,7 +67,7 @@ pub(crate) fn read_notice(body: &[u8], interval: u16) -> Result<Notice, u8> {
 fn note(notice: &mut Notice, cut: &Cut<'_>, interval: u16) -> Result<(), u8> {
     match cut.id {
         POWER_CONSTRAINT => set_once(&mut notice.constraint, read_power_constraint(cut.contents)?),
-        TPC_REPORT => set_once(&mut notice.tpc_report, read_tpc_report(cut.contents)?),
+        TPC_REPORT => set_once(&mut notice.tpc_report, read_unasked(cut.contents)?),
         CHANNEL_SWITCH => set_once(&mut notice.switch, read_channel_switch(cut.contents)?),
         QUIET => {
             let quiet = read_quiet(cut.contents, interval)?;
@@ -78,6 +79,13 @@ fn note(notice: &mut Notice, cut: &Cut<'_>, interval: u16) -> Result<(), u8> {
         }
         _ => Ok(()),
     }
+}
+
+/// Reads a TPC Report that no request asked for: its margin "shall be set to 0
+/// and shall be ignored", so it is read as 0 (802.11h 7.3.2.18).
+fn read_unasked(contents: &[u8]) -> Result<(i8, i8), u8> {
+    let (power, _) = read_tpc_report(contents)?;
+    Ok((power, 0))
 }
 
 /// Fills an empty place; a second element of its kind is 10.
@@ -206,17 +214,7 @@ pub fn write_measurement_request_body(
     requests: &[Request],
     out: &mut [u8],
 ) -> Result<usize, u8> {
-    if token == 0 {
-        return Err(IMPOSSIBLE);
-    }
-    let mut used = [false; 256];
-    for request in requests {
-        if !first_use(&mut used, request.token) {
-            return Err(IMPOSSIBLE);
-        }
-    }
-    let head = [SPECTRUM_MANAGEMENT, ACTION_MEASUREMENT_REQUEST, token];
-    lay(&list_octets(head, requests, request_octets)?, out)
+    lay(&measurement_request_body_octets(token, requests)?, out)
 }
 
 /// Writes a Measurement Report body to the front of `out`. No report, a
@@ -227,6 +225,87 @@ pub fn write_measurement_report_body(
     out: &mut [u8],
 ) -> Result<usize, u8> {
     lay(&measurement_report_body_octets(token, reports)?, out)
+}
+
+/// Writes one more Measurement Request after the `used` octets of a body in
+/// `out`, and answers how many octets were put; with nothing there, the body's
+/// first three octets are put before it.
+///
+/// What `out` has of the `used` octets is judged first: it must be a request
+/// body of this dialog token with nothing uninterpreted and no reserved bit
+/// set, and with `request` a body that can be written, else 16. Fewer octets
+/// than `used`, or too few after them: 13.
+pub fn append_measurement_request(
+    token: u8,
+    request: Request,
+    used: usize,
+    out: &mut [u8],
+) -> Result<usize, u8> {
+    let mut requests = held_requests(held(out, used), token)?;
+    requests.push(request);
+    let body = measurement_request_body_octets(token, &requests)?;
+    lay_rest(&body, used, out)
+}
+
+/// Writes one more Measurement Report, by the rules of
+/// `append_measurement_request`; but a measurement token may be used again.
+pub fn append_measurement_report(
+    token: u8,
+    report: Report,
+    used: usize,
+    out: &mut [u8],
+) -> Result<usize, u8> {
+    let mut reports = held_reports(held(out, used), token)?;
+    reports.push(report);
+    let body = measurement_report_body_octets(token, &reports)?;
+    lay_rest(&body, used, out)
+}
+
+/// What the buffer has of the octets that are said to be in use.
+fn held(out: &[u8], used: usize) -> &[u8] {
+    &out[..used.min(out.len())]
+}
+
+/// The requests of a body that is appended to, none with nothing there. What
+/// is no request body of this dialog token is 16.
+fn held_requests(body: &[u8], token: u8) -> Result<Vec<Request>, u8> {
+    if body.is_empty() {
+        return Ok(Vec::new());
+    }
+    match read_action_body(body) {
+        Ok(Frame::MeasurementRequest {
+            token: held,
+            requests,
+        }) if held == token => Ok(requests),
+        _ => Err(IMPOSSIBLE),
+    }
+}
+
+/// The reports of a body that is appended to, none with nothing there. What
+/// is no report body of this dialog token is 16.
+fn held_reports(body: &[u8], token: u8) -> Result<Vec<Report>, u8> {
+    if body.is_empty() {
+        return Ok(Vec::new());
+    }
+    match read_action_body(body) {
+        Ok(Frame::MeasurementReport {
+            token: held,
+            reports,
+        }) if held == token => Ok(reports),
+        _ => Err(IMPOSSIBLE),
+    }
+}
+
+/// Puts what `body` has more than `out` holds after the `used` octets.
+///
+/// `body` is what `out` holds, read and written again, and one element more.
+/// Reserved bits are written as 0, so where one is set the two differ: 16. "A
+/// buffer that has fewer octets than are said to be in use is too short", and
+/// that comes after every 16.
+fn lay_rest(body: &[u8], used: usize, out: &mut [u8]) -> Result<usize, u8> {
+    let rest = body.strip_prefix(held(out, used)).ok_or(IMPOSSIBLE)?;
+    let free = out.get_mut(used..).ok_or(BUFFER_SHORT)?;
+    lay(rest, free)
 }
 
 /// Writes a TPC Request body to the front of `out`: 5 octets. Token 0: 16.
@@ -254,6 +333,21 @@ pub fn write_channel_switch_body(switch: Switch, out: &mut [u8]) -> Result<usize
     let mut body = vec![SPECTRUM_MANAGEMENT, ACTION_CHANNEL_SWITCH];
     body.append(&mut channel_switch_octets(switch)?);
     lay(&body, out)
+}
+
+/// A Measurement Request body in octets, or 16.
+fn measurement_request_body_octets(token: u8, requests: &[Request]) -> Result<Vec<u8>, u8> {
+    if token == 0 {
+        return Err(IMPOSSIBLE);
+    }
+    let mut used = [false; 256];
+    for request in requests {
+        if !first_use(&mut used, request.token) {
+            return Err(IMPOSSIBLE);
+        }
+    }
+    let head = [SPECTRUM_MANAGEMENT, ACTION_MEASUREMENT_REQUEST, token];
+    list_octets(head, requests, request_octets)
 }
 
 /// A Measurement Report body in octets, or 16.
@@ -320,7 +414,7 @@ mod tests {
     fn enable(token: u8) -> Request {
         Request {
             token,
-            kind: 255,
+            kind: 1,
             asks: Asks::Enable {
                 request: false,
                 report: true,
@@ -337,7 +431,7 @@ mod tests {
             Ok(24)
         );
         assert_eq!(out[..6], [0, 0, 9, 38, 14, 1]);
-        assert_eq!(out[19..], [38, 3, 255, 2 | 8, 255, 0xEE]);
+        assert_eq!(out[19..], [38, 3, 255, 2 | 8, 1, 0xEE]);
         assert_eq!(
             back(&out[..24]),
             Frame::MeasurementRequest {
@@ -356,12 +450,17 @@ mod tests {
             kind: 3,
             asks: Asks::Uninterpreted,
         };
+        let reserved = Request {
+            kind: 3,
+            ..enable(4)
+        };
         for (token, requests) in [
             (0, vec![measure(1)]),
             (9, vec![]),
             (9, vec![measure(1), enable(1)]),
             (9, vec![measure(0)]),
             (9, vec![measure(1), uninterpreted]),
+            (9, vec![measure(1), reserved]),
         ] {
             let mut out = [0xEE; 60];
             assert_eq!(
@@ -501,6 +600,279 @@ mod tests {
         );
     }
 
+    fn late(token: u8) -> Report {
+        Report {
+            token,
+            kind: 0,
+            says: Says::Late,
+        }
+    }
+
+    /// Appends `enable(200)` for dialog token 9 to these octets. A refusal
+    /// leaves the buffer alone; else the element stands after them.
+    fn append_request_to(there: &[u8]) -> u8 {
+        let mut out = there.to_vec();
+        out.resize(there.len() + 8, 0xEE);
+        let before = out.clone();
+        match append_measurement_request(9, enable(200), there.len(), &mut out) {
+            Ok(put) => {
+                assert_eq!(put, 5);
+                let expected = [there, &[38, 3, 200, 2 | 8, 1, 0xEE, 0xEE, 0xEE]].concat();
+                assert_eq!(out, expected);
+                0
+            }
+            Err(refusal) => {
+                assert_eq!(out, before);
+                refusal
+            }
+        }
+    }
+
+    /// Appends `late(200)` for dialog token 9 to these octets.
+    fn append_report_to(there: &[u8]) -> u8 {
+        let mut out = there.to_vec();
+        out.resize(there.len() + 8, 0xEE);
+        let before = out.clone();
+        match append_measurement_report(9, late(200), there.len(), &mut out) {
+            Ok(put) => {
+                assert_eq!(put, 5);
+                let expected = [there, &[39, 3, 200, 1, 0, 0xEE, 0xEE, 0xEE]].concat();
+                assert_eq!(out, expected);
+                0
+            }
+            Err(refusal) => {
+                assert_eq!(out, before);
+                refusal
+            }
+        }
+    }
+
+    #[test]
+    fn one_element_at_a_time() {
+        let mut out = [0xEE; 25];
+        // The first step puts the body's first three octets as well.
+        assert_eq!(
+            append_measurement_request(9, measure(1), 0, &mut out),
+            Ok(19)
+        );
+        assert_eq!(out[19..], [0xEE; 6]);
+        assert_eq!(
+            append_measurement_request(9, enable(255), 19, &mut out),
+            Ok(5)
+        );
+        let mut whole = [0xEE; 25];
+        let requests = [measure(1), enable(255)];
+        assert_eq!(
+            write_measurement_request_body(9, &requests, &mut whole),
+            Ok(24)
+        );
+        assert_eq!(out, whole);
+        // What stands past the octets in use is not looked at.
+        let mut out = [0xEE; 14];
+        assert_eq!(append_measurement_report(0, late(0), 0, &mut out), Ok(8));
+        assert_eq!(append_measurement_report(0, late(0), 8, &mut out), Ok(5));
+        assert_eq!(out, [0, 1, 0, 39, 3, 0, 1, 0, 39, 3, 0, 1, 0, 0xEE]);
+        assert_eq!(append_measurement_report(0, late(7), 0, &mut out), Ok(8));
+        assert_eq!(out, [0, 1, 0, 39, 3, 7, 1, 0, 39, 3, 0, 1, 0, 0xEE]);
+    }
+
+    #[test]
+    fn what_is_appended_to_is_a_body() {
+        assert_eq!(append_request_to(&[0, 0, 9, 38, 3, 1, 2, 0]), 0);
+        assert_eq!(append_report_to(&[0, 1, 9, 39, 3, 1, 1, 0]), 0);
+        for broken in [
+            // Half a body, a cut element, octets left over.
+            &[0][..],
+            &[0, 0],
+            &[0, 0, 9],
+            &[0, 0, 9, 38],
+            &[0, 0, 9, 38, 3, 1, 2],
+            &[0, 0, 9, 38, 3, 1, 2, 0, 38],
+            // Another category, action, token or element.
+            &[1, 0, 9, 38, 3, 1, 2, 0],
+            &[0, 1, 9, 39, 3, 1, 2, 0],
+            &[0, 2, 9, 34, 0],
+            &[0, 0, 8, 38, 3, 1, 2, 0],
+            &[0, 0, 9, 39, 3, 1, 2, 0],
+            // Values and repeats that the reader refuses.
+            &[0, 0, 9, 38, 3, 0, 2, 0],
+            &[0, 0, 9, 38, 3, 1, 2, 0, 38, 3, 1, 2, 0],
+            // Uninterpreted contents, even of no octets, wherever they stand.
+            &[0, 0, 9, 38, 3, 1, 0, 3],
+            &[0, 0, 9, 38, 4, 1, 0, 3, 0, 38, 3, 2, 2, 0],
+        ] {
+            assert_eq!(append_request_to(broken), 16, "{:?}", broken);
+        }
+        for broken in [
+            &[0, 1, 9][..],
+            &[0, 1, 9, 39, 3, 1, 1],
+            &[0, 0, 9, 38, 3, 1, 2, 0],
+            &[0, 1, 8, 39, 3, 1, 1, 0],
+            &[0, 1, 9, 39, 3, 1, 3, 0],
+            &[0, 1, 9, 39, 3, 1, 0, 3],
+        ] {
+            assert_eq!(append_report_to(broken), 16, "{:?}", broken);
+        }
+    }
+
+    #[test]
+    fn no_reserved_bit_is_appended_to() {
+        let measured = [36, 1, 2, 3, 4, 5, 6, 7, 8, 9, 10];
+        for mode in 0..=255u8 {
+            for kind in 0..=255u8 {
+                // Bits 2 and 3 are reserved with Enable and a type over 2 ...
+                let known = if kind <= 2 { 0b1110 } else { 0b0010 };
+                let plain = mode & 2 != 0 && mode & !known == 0;
+                let answer = append_request_to(&[0, 0, 9, 38, 3, 1, mode, kind]);
+                assert_eq!(answer, if plain { 0 } else { 16 });
+                let plain = [1, 2, 4].contains(&mode);
+                let answer = append_report_to(&[0, 1, 9, 39, 3, 1, mode, kind]);
+                assert_eq!(answer, if plain { 0 } else { 16 });
+            }
+            for kind in 0..=2u8 {
+                // ... and without Enable, as all others.
+                let there = [&[0, 0, 9, 38, 14, 1, mode, kind][..], &measured].concat();
+                assert_eq!(append_request_to(&there), if mode == 0 { 0 } else { 16 });
+            }
+            let there = [&[0, 1, 9, 39, 15, 1, mode, 1][..], &measured, &[7]].concat();
+            assert_eq!(append_report_to(&there), if mode == 0 { 0 } else { 16 });
+            // The same octet as a map.
+            let there = [&[0, 1, 9, 39, 15, 1, 0, 0][..], &measured, &[mode]].concat();
+            assert_eq!(append_report_to(&there), if mode <= 16 { 0 } else { 16 });
+        }
+        // The same of an element that is not the last.
+        let more = [38, 3, 2, 2, 0];
+        for (first, answer) in [
+            ([38, 3, 1, 2 | 4, 2], 0),
+            ([38, 3, 1, 2 | 4, 3], 16),
+            ([38, 3, 1, 2 | 8, 3], 16),
+            ([38, 3, 1, 2, 3], 0),
+        ] {
+            let there = [&[0, 0, 9][..], &first, &more].concat();
+            assert_eq!(append_request_to(&there), answer);
+        }
+    }
+
+    #[test]
+    fn what_cannot_be_appended() {
+        let there = [0, 0, 9, 38, 3, 1, 2, 0];
+        let reserved = Request {
+            kind: 3,
+            ..enable(2)
+        };
+        // Dialog token 0, a repeated token, a record that cannot be written.
+        for (token, request, used) in [
+            (0, measure(2), 0),
+            (9, measure(1), 8),
+            (9, measure(0), 8),
+            (9, reserved, 8),
+            (9, reserved, 0),
+        ] {
+            let mut out = [0xEE; 40];
+            out[..8].copy_from_slice(&there);
+            let before = out;
+            let refused = append_measurement_request(token, request, used, &mut out);
+            assert_eq!(refused, Err(16));
+            assert_eq!(out, before);
+            // 16 before 13.
+            let refused = append_measurement_request(token, request, used, &mut out[..8]);
+            assert_eq!(refused, Err(16));
+        }
+        let wrong = Report {
+            token: 1,
+            kind: 3,
+            says: Says::Uninterpreted,
+        };
+        assert_eq!(append_measurement_report(9, wrong, 0, &mut []), Err(16));
+        // A report may use a token again, its dialog token may be 0.
+        let mut out = [0, 1, 0, 39, 3, 1, 1, 0, 0, 0, 0, 0, 0];
+        assert_eq!(append_measurement_report(0, late(1), 8, &mut out), Ok(5));
+    }
+
+    #[test]
+    fn room_to_append_on_both_sides() {
+        let mut out = [0xEE; 8];
+        assert_eq!(
+            append_measurement_request(9, enable(1), 0, &mut out[..7]),
+            Err(13)
+        );
+        assert_eq!(out, [0xEE; 8]);
+        assert_eq!(append_measurement_request(9, enable(1), 0, &mut out), Ok(8));
+        let mut longer = [0xEE; 13];
+        longer[..8].copy_from_slice(&out);
+        let before = longer;
+        for length in 8..13 {
+            let refused = append_measurement_request(9, enable(2), 8, &mut longer[..length]);
+            assert_eq!(refused, Err(13));
+            assert_eq!(longer, before);
+        }
+        assert_eq!(
+            append_measurement_request(9, enable(2), 8, &mut longer),
+            Ok(5)
+        );
+    }
+
+    #[test]
+    fn fewer_octets_than_are_in_use() {
+        let whole = [0, 0, 9, 38, 3, 1, 2, 0, 38, 3, 2, 2, 0];
+        for length in 0..=whole.len() {
+            for used in (length + 1..20).chain([2313, usize::MAX]) {
+                let mut out = whole[..length].to_vec();
+                // What there is of a body is judged: nothing, or one or two
+                // whole elements, are a body that can be appended to.
+                let plain = [0, 8, 13].contains(&length);
+                let refused = append_measurement_request(9, enable(3), used, &mut out);
+                assert_eq!(refused, Err(if plain { 13 } else { 16 }));
+                // The second element's token is one of those in use only
+                // where the buffer has it.
+                let refused = append_measurement_request(9, enable(2), used, &mut out);
+                let plain = [0, 8].contains(&length);
+                assert_eq!(refused, Err(if plain { 13 } else { 16 }));
+                for (token, request) in [(8, enable(3)), (9, measure(0))] {
+                    let refused = append_measurement_request(token, request, used, &mut out);
+                    let plain = length == 0 && token == 8;
+                    assert_eq!(refused, Err(if plain { 13 } else { 16 }));
+                }
+                assert_eq!(out, whole[..length]);
+            }
+        }
+        // A reserved bit is seen in what the buffer has, and not past it.
+        let mut out = [0, 1, 9, 39, 3, 1, 1, 0, 39, 3, 1, 1 | 8, 0];
+        let short = append_measurement_report(9, late(1), 13, &mut out[..8]);
+        assert_eq!(short, Err(13));
+        let judged = append_measurement_report(9, late(1), 14, &mut out);
+        assert_eq!(judged, Err(16));
+        out[11] = 1;
+        let short = append_measurement_report(9, late(1), 14, &mut out);
+        assert_eq!(short, Err(13));
+    }
+
+    #[test]
+    fn appending_up_to_the_longest_body() {
+        // 3 + 461 * 5 = 2,308 octets; 3 + 5 + 144 * 16 = 2,312 are the most.
+        let mut out = [0; 3000];
+        let mut used = 0;
+        for _ in 0..461 {
+            used += append_measurement_report(1, late(1), used, &mut out).unwrap();
+        }
+        assert_eq!(used, 2308);
+        let over = append_measurement_report(1, late(1), used, &mut out);
+        assert_eq!(over, Err(16));
+        let over = append_measurement_report(1, late(1), used + 1, &mut out[..used]);
+        assert_eq!(over, Err(16));
+        let mut used = append_measurement_request(1, enable(145), 0, &mut out).unwrap();
+        for token in 1..=144 {
+            used += append_measurement_request(1, measure(token), used, &mut out).unwrap();
+        }
+        assert_eq!(used, 2312);
+        assert!(matches!(
+            back(&out[..2312]),
+            Frame::MeasurementRequest { requests, .. } if requests.len() == 145
+        ));
+        let over = append_measurement_request(1, enable(146), used, &mut out);
+        assert_eq!(over, Err(16));
+    }
+
     /// Writes an action frame's record again, where a writer can.
     fn rewrite(frame: &Frame, out: &mut [u8]) -> Result<usize, u8> {
         match frame {
@@ -519,6 +891,26 @@ mod tests {
             Frame::ChannelSwitch(switch) => write_channel_switch_body(*switch, out),
             Frame::Beacon(_) | Frame::ProbeResponse(_) => Err(0),
         }
+    }
+
+    /// A measurement body written one element at a time is the same body.
+    fn assert_appends_agree(frame: &Frame, body: &[u8]) {
+        let mut out = [0; 200];
+        let mut used = 0;
+        match frame {
+            Frame::MeasurementRequest { token, requests } => {
+                for &request in requests {
+                    used += append_measurement_request(*token, request, used, &mut out).unwrap();
+                }
+            }
+            Frame::MeasurementReport { token, reports } => {
+                for &report in reports {
+                    used += append_measurement_report(*token, report, used, &mut out).unwrap();
+                }
+            }
+            _ => return,
+        }
+        assert_eq!(&out[..used], body);
     }
 
     /// One element that is often right.
@@ -568,6 +960,7 @@ mod tests {
                     // The same length; only reserved bits may differ.
                     assert_eq!(length, body.len());
                     assert_eq!(back(&out[..length]), frame);
+                    assert_appends_agree(&frame, &out[..length]);
                     agreed[usize::from(action_number)] += 1;
                 }
                 Err(refusal) => {

@@ -65,7 +65,8 @@ pub struct Notice {
     pub capability: u16,
     /// Power Constraint in dB, if there is one.
     pub constraint: Option<u8>,
-    /// TPC Report, power in dBm and margin in dB, if there is one.
+    /// TPC Report, power in dBm and margin in dB, if there is one. The margin
+    /// is always 0: here it is ignored (802.11h 7.3.2.18).
     pub tpc_report: Option<(i8, i8)>,
     /// Channel Switch Announcement, if there is one.
     pub switch: Option<Switch>,
@@ -91,6 +92,16 @@ impl Frame {
         match self {
             Frame::MeasurementReport { reports, .. } => {
                 reports.get(index).copied().ok_or(IMPOSSIBLE)
+            }
+            _ => Err(IMPOSSIBLE),
+        }
+    }
+
+    /// The Quiet element of this index; 16 past the last or on another kind.
+    pub fn quiet(&self, index: usize) -> Result<Quiet, u8> {
+        match self {
+            Frame::Beacon(notice) | Frame::ProbeResponse(notice) => {
+                notice.quiets.get(index).copied().ok_or(IMPOSSIBLE)
             }
             _ => Err(IMPOSSIBLE),
         }
@@ -149,7 +160,8 @@ mod tests {
             timestamp: 0x0807_0605_0403_0201,
             capability: 0x0D0C,
             constraint: Some(3),
-            tpc_report: Some((-1, -128)),
+            // The margin that was sent, -128, is ignored here.
+            tpc_report: Some((-1, 0)),
             switch: Some(Switch {
                 mode: 1,
                 channel: 44,
@@ -184,6 +196,52 @@ mod tests {
                 frame: Frame::ProbeResponse(expected)
             })
         );
+    }
+
+    #[test]
+    fn the_margin_counts_in_a_tpc_report_frame_alone() {
+        for margin in [-128i8, -1, 0, 1, 127] {
+            for power in [-128i8, -1, 0, 127] {
+                let element = [35, 2, power as u8, margin as u8];
+                for subtype in [5, 8] {
+                    let received = read(&notice(subtype, OWN, 100, &element)).unwrap();
+                    match received.frame {
+                        Frame::Beacon(notice) | Frame::ProbeResponse(notice) => {
+                            assert_eq!(notice.tpc_report, Some((power, 0)))
+                        }
+                        other => panic!("{:?}", other),
+                    }
+                }
+                let body = [&[0, 3, 7][..], &element].concat();
+                assert_eq!(
+                    read(&action(OWN, &body)).map(|received| received.frame),
+                    Ok(Frame::TpcReport {
+                        token: 7,
+                        power,
+                        margin
+                    })
+                );
+            }
+        }
+    }
+
+    #[test]
+    fn quiets_by_their_index() {
+        let elements = [quiet(1, 2, 3, 4), vec![0, 0], quiet(5, 6, 7, 8)].concat();
+        for subtype in [5, 8] {
+            let frame = read(&notice(subtype, OWN, 100, &elements)).unwrap().frame;
+            assert_eq!(frame.quiet(0).map(|quiet| quiet.count), Ok(1));
+            assert_eq!(frame.quiet(1).map(|quiet| quiet.count), Ok(5));
+            assert_eq!(frame.quiet(2), Err(16));
+            assert_eq!(frame.quiet(usize::MAX), Err(16));
+            let frame = read(&notice(subtype, OWN, 100, &[])).unwrap().frame;
+            assert_eq!(frame.quiet(0), Err(16));
+            // A notice has no measurement elements.
+            assert_eq!(frame.request(0), Err(16));
+            assert_eq!(frame.report(0), Err(16));
+        }
+        let frame = read(&action(OWN, &[0, 2, 7, 34, 0])).unwrap().frame;
+        assert_eq!(frame.quiet(0), Err(16));
     }
 
     #[test]
@@ -340,11 +398,11 @@ mod tests {
 
     #[test]
     fn measurement_request_frame() {
-        let body = [0, 0, 5, 38, 3, 1, 2 | 4, 9, 38, 4, 2, 0, 77, 1];
+        let body = [0, 0, 5, 38, 3, 1, 2 | 4, 2, 38, 4, 2, 0, 77, 1];
         let received = read(&action(OWN, &body)).unwrap();
         let first = Request {
             token: 1,
-            kind: 9,
+            kind: 2,
             asks: Asks::Enable {
                 request: true,
                 report: false,
@@ -367,6 +425,19 @@ mod tests {
         assert_eq!(received.frame.request(2), Err(16));
         assert_eq!(received.frame.request(usize::MAX), Err(16));
         assert_eq!(received.frame.report(0), Err(16));
+        // Request and Report are reserved with a type over 2.
+        let reserved = [0, 0, 5, 38, 3, 1, 2 | 4 | 8, 3];
+        assert_eq!(
+            read(&action(OWN, &reserved)).and_then(|received| received.frame.request(0)),
+            Ok(Request {
+                token: 1,
+                kind: 3,
+                asks: Asks::Enable {
+                    request: false,
+                    report: false,
+                },
+            })
+        );
         // Left-over octets are judged as a further element.
         let with = |more: &[u8]| {
             let mut longer = body.to_vec();

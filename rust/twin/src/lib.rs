@@ -29,8 +29,9 @@ mod sample;
 pub type Address = [u8; 6];
 
 pub use body::{
-    write_channel_switch_body, write_measurement_report_body, write_measurement_request_body,
-    write_tpc_report_body, write_tpc_request_body,
+    append_measurement_report, append_measurement_request, write_channel_switch_body,
+    write_measurement_report_body, write_measurement_request_body, write_tpc_report_body,
+    write_tpc_request_body,
 };
 pub use capture::list;
 pub use channel::{centre, CENTRES};

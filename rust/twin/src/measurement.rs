@@ -17,7 +17,8 @@ const HEAD: usize = 3;
 /// A request that measures: head, channel, start (8), duration (2).
 const MEASURE: usize = HEAD + 11;
 
-// Request mode; bit 0 and bits 4 to 7 are reserved.
+// Request mode; bit 0 and bits 4 to 7 are reserved. Request and Report are
+// too, but for an Enable element of a type that is not reserved itself.
 const ENABLE: u8 = 1 << 1;
 const REQUEST: u8 = 1 << 2;
 const REPORT: u8 = 1 << 3;
@@ -47,7 +48,8 @@ pub struct Request {
 /// What a Measurement Request element asks for.
 #[derive(Clone, Copy, Debug, PartialEq, Eq)]
 pub enum Asks {
-    /// Enable is set: whether requests and autonomous reports are wanted.
+    /// Enable is set: whether requests and autonomous reports are wanted. With
+    /// a type over 2 both are reserved: never set in a read record.
     Enable {
         /// Mode bit 2.
         request: bool,
@@ -136,11 +138,8 @@ pub fn read_measurement_request(contents: &[u8]) -> Result<Request, u8> {
         return Err(VALUE);
     }
     let asks = if enable {
-        Asks::Enable {
-            request: mode & REQUEST != 0,
-            report: mode & REPORT != 0,
-        }
-    } else if kind > RPI {
+        read_enable(mode, kind)
+    } else if is_reserved(kind) {
         Asks::Uninterpreted
     } else {
         let (channel, start, duration) = read_measured(contents)?;
@@ -173,6 +172,22 @@ pub fn read_measurement_report(contents: &[u8]) -> Result<Report, u8> {
         _ => read_result(contents, kind)?,
     };
     Ok(Report { token, kind, says })
+}
+
+/// Whether a measurement type is reserved: 3 to 255 (802.11h 7.3.2.21 and
+/// 7.3.2.22, Tables 20b and 20c).
+fn is_reserved(kind: u8) -> bool {
+    kind > RPI
+}
+
+/// What an Enable element asks for. With a reserved type 802.11h 7.3.2.21 has
+/// Request and Report set to 0, as invalid: they are reserved and ignored.
+fn read_enable(mode: u8, kind: u8) -> Asks {
+    let valid = if is_reserved(kind) { 0 } else { mode };
+    Asks::Enable {
+        request: valid & REQUEST != 0,
+        report: valid & REPORT != 0,
+    }
 }
 
 /// The one length of a request, or `None` where 3 or more will do.
@@ -213,7 +228,7 @@ fn read_measured(contents: &[u8]) -> Result<(u8, u64, u16), u8> {
 
 /// The result in a report without an excuse, its length already checked.
 fn read_result(contents: &[u8], kind: u8) -> Result<Says, u8> {
-    if kind > RPI {
+    if is_reserved(kind) {
         return Ok(Says::Uninterpreted);
     }
     let (channel, start, duration) = read_measured(contents)?;
@@ -270,32 +285,40 @@ pub fn write_measurement_report(report: Report, out: &mut [u8]) -> Result<usize,
 
 /// A Measurement Request element in octets, or 16.
 pub(crate) fn request_octets(request: Request) -> Result<Vec<u8>, u8> {
-    if request.token == 0 {
+    let Request { token, kind, asks } = request;
+    if token == 0 {
         return Err(IMPOSSIBLE);
     }
     let mut mode = 0;
     let mut asked = Vec::new();
-    match request.asks {
-        Asks::Enable { request, report } => {
-            mode |= ENABLE;
-            mode |= if request { REQUEST } else { 0 };
-            mode |= if report { REPORT } else { 0 };
-        }
+    match asks {
+        Asks::Enable { request, report } => mode = enable_mode(kind, request, report)?,
         Asks::Measure {
             channel,
             start,
             duration,
         } => {
-            if request.kind > RPI || !is_channel(channel) {
+            if is_reserved(kind) || !is_channel(channel) {
                 return Err(IMPOSSIBLE);
             }
             put_measured(channel, start, duration, &mut asked);
         }
         Asks::Uninterpreted => return Err(IMPOSSIBLE),
     }
-    let mut contents = vec![request.token, mode, request.kind];
+    let mut contents = vec![token, mode, kind];
     contents.append(&mut asked);
     Ok(element_octets(MEASUREMENT_REQUEST, &contents))
+}
+
+/// The mode of an Enable element. Request or Report set with a reserved type
+/// is a record with a reserved bit set: 16.
+fn enable_mode(kind: u8, request: bool, report: bool) -> Result<u8, u8> {
+    if is_reserved(kind) && (request || report) {
+        return Err(IMPOSSIBLE);
+    }
+    let request = if request { REQUEST } else { 0 };
+    let report = if report { REPORT } else { 0 };
+    Ok(ENABLE | request | report)
 }
 
 /// A Measurement Report element in octets, or 16.
@@ -415,19 +438,46 @@ mod tests {
     fn an_enabling_request() {
         for mode in (0..=255u8).filter(|mode| mode & 2 != 0) {
             for kind in 0..=255u8 {
+                // With a type over 2 bits 2 and 3 are reserved as well.
+                let known = if kind <= 2 { 0b1110 } else { 0b0010 };
                 let request = Request {
                     token: 1,
                     kind,
                     asks: Asks::Enable {
-                        request: mode & 4 != 0,
-                        report: mode & 8 != 0,
+                        request: mode & known & 4 != 0,
+                        report: mode & known & 8 != 0,
                     },
                 };
                 assert_eq!(read_measurement_request(&[1, mode, kind]), Ok(request));
                 let mut out = [0xEE; 6];
                 assert_eq!(write_measurement_request(request, &mut out), Ok(5));
-                assert_eq!(out, [38, 3, 1, mode & 0b1110, kind, 0xEE]);
+                assert_eq!(out, [38, 3, 1, mode & known, kind, 0xEE]);
                 assert_eq!(write_measurement_request(request, &mut [0; 4]), Err(13));
+            }
+        }
+    }
+
+    #[test]
+    fn enable_bits_of_a_reserved_type_cannot_be_written() {
+        for kind in 0..=255u8 {
+            for (request, report) in [(false, false), (false, true), (true, false), (true, true)] {
+                let asks = Asks::Enable { request, report };
+                let record = Request {
+                    token: 1,
+                    kind,
+                    asks,
+                };
+                let mut out = [0xEE; 6];
+                let written = write_measurement_request(record, &mut out);
+                if kind > 2 && (request || report) {
+                    assert_eq!(written, Err(16));
+                    assert_eq!(out, [0xEE; 6]);
+                    // 16 before 13.
+                    assert_eq!(write_measurement_request(record, &mut []), Err(16));
+                } else {
+                    assert_eq!(written, Ok(5));
+                    assert_eq!(read_measurement_request(&out[2..5]), Ok(record));
+                }
             }
         }
     }
