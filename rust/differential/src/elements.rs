@@ -146,7 +146,8 @@ fn tpc_reports(count: &mut Count, rng: &mut Rng) {
             most: 4,
         };
         if let Some(element) = writers.in_all_lengths(count, ("TPC report", record)) {
-            let expected = beacon(|notice| notice.report = Some(pairs::tpc(record)));
+            // Its margin counts for nothing in a beacon.
+            let expected = beacon(|notice| notice.report = Some(pairs::tpc((record.0, 0))));
             read_back(count, &stage, &notice(&stage, BEACON, &element), expected);
         }
     }
