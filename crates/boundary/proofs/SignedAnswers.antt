@@ -53,7 +53,7 @@ number-tells (accepted m) (accepted n) h k e = ap accepted e
 -- an outcome in range, of which a refusal leaves what was lent
 answers : (o : Outcome ℕ) (code : ℕ) (lent exit : List ℕ) → InRange o → code ≡ codeOf o → ((r : Refusal) → o ≡ refused r → exit ≡ lent) → Answers code lent exit
 answers o code lent exit h e keeps =
-    record { outcome = o; inRange = h; number = e; only = λ p k f. number-tells p o k h (sym f ∙ e); keeps = by o h e keeps }
+    record { outcome = o; in-range = h; number = e; only = λ p k f. number-tells p o k h (sym f ∙ e); keeps = by o h e keeps }
   where
     by : (p : Outcome ℕ) → InRange p → code ≡ codeOf p → ((r : Refusal) → p ≡ refused r → exit ≡ lent) → IsNegative code → exit ≡ lent
     by (refused r) k f keep negative = keep r refl

@@ -20,7 +20,7 @@ InRange (accepted n) = n < 2 ^ 63
 -- the number stands for one outcome, and one under 0 leaves every lent octet as it was
 pub record Answers (code : ℕ) (lent left : List ℕ) : Type 0 where
   pub outcome : Outcome ℕ
-  pub inRange : InRange outcome
+  pub in-range : InRange outcome
   pub number : code ≡ codeOf outcome
   pub only : (o : Outcome ℕ) → InRange o → code ≡ codeOf o → o ≡ outcome
   pub keeps : IsNegative code → left ≡ lent

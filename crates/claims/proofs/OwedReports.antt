@@ -39,8 +39,8 @@ densities-length duration times ds e = ap length (sym (kept _ (passed _ _ _ e .1
 pub record Owed (clock : ℕ) (readings : Readings) (request : Request) (report : Report) : Type 0 where
   pub eight : length (readings .times) ≡ 8 → length (report .densities) ≡ 8
   pub fits : clock < 2 ^ 32 → RequestFits request → ReportMatterFits (report .matter)
-  pub sameToken : report .token ≡ request .token
-  pub sameType : report .kind ≡ request .kind
+  pub same-token : report .token ≡ request .token
+  pub same-type : report .kind ≡ request .kind
   -- where it may be written
   pub possible : reportMay report ≡ true → Possible clock readings request
   pub carries : reportMay report ≡ true → (span : Span) (f : Found) → report .matter ≡ Says.Matter.Measured span f
@@ -66,8 +66,8 @@ module _ (clock token kind : ℕ) (finding : Finding) (times : List ℕ) where
       record {
         eight = λ times-eight. refl;
         fits = λ within fits. tt;
-        sameToken = refl;
-        sameType = refl;
+        same-token = refl;
+        same-type = refl;
         possible = λ may. possible;
         carries = λ may span f e. absurd (let z : _≡_ {A = ℕ} 0 1 = cc in omega arith);
       }
@@ -90,12 +90,12 @@ module _ (clock token kind : ℕ) (finding : Finding) (times : List ℕ) where
           record {
             eight = so-many;
             fits = λ within fits. (begins within fits (eqb (s .start) 0), fits .1);
-            sameToken = refl;
-            sameType = refl;
+            same-token = refl;
+            same-type = refl;
             possible = λ may. carried refl (finds may);
             carries = λ may span g e.
                 subst₂ (λ (t : Span) (h : Found). CarriesReadings clock readings (request (Asks.Matter.Measure s)) t h ds) (let k : begun clock s ≡ span = cc in k) (let k : f ≡ g = cc in k)
-                (record { asked = s; asks = refl; sameChannel = refl; sameDuration = refl; start = refl; finds = finds may });
+                (record { asked = s; asks = refl; same-channel = refl; same-duration = refl; start = refl; finds = finds may });
           }
 
     -- only where the type asks for it

@@ -114,8 +114,8 @@ module _ (own ap' f : List ℕ) where
         read = λ b.
             ap (λ (xs : List ℕ). frameMeans own ap' b (exchanged xs)) (p .octets)
             ∙ heard-from-ap asked (p .due) (body token x) b (reports token (x ∷ [])) (short-body token x densities) (one-report token x (fits, densities) (p .may));
-        sameToken = o .sameToken;
-        sameType = o .sameType;
+        same-token = o .same-token;
+        same-type = o .same-type;
         owed = p .owed;
         carries = o .carries (p .may);
       }

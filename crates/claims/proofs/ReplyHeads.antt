@@ -21,15 +21,15 @@ module _ (own ap f : List ℕ) where
       let a = due-asks own ap f asked e in
       subst₂ (λ (o m : List ℕ). RepliesTo f o (replyFrame o m body)) (a .toStation) (a .fromAp)
       (record {
-        ofVersion = refl;
-        ofType = refl;
-        ofSubtype = refl;
-        toOldSender = refl;
-        fromStation = refl;
-        bssidKept = a .fromAp ∙ sym (a .ofBss);
-        noFlags = refl;
-        noDuration = refl;
-        noSequence = refl;
+        of-version = refl;
+        of-type = refl;
+        of-subtype = refl;
+        to-old-sender = refl;
+        from-station = refl;
+        bssid-kept = a .fromAp ∙ sym (a .ofBss);
+        no-flags = refl;
+        no-duration = refl;
+        no-sequence = refl;
       })
 
   module _ (os : List ℕ) where

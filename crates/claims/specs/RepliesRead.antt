@@ -25,8 +25,8 @@ use Rattle.claims.specs.PossibleReadings.{AsAsked}
 pub record CarriesReadings (clock : ℕ) (readings : Readings) (request : Request) (span : Span) (found : Found) (densities : List ℕ) : Type 0 where
   pub asked : Span
   pub asks : request .matter ≡ Asks.Matter.Measure asked
-  pub sameChannel : span .channel ≡ asked .channel
-  pub sameDuration : span .duration ≡ asked .duration
+  pub same-channel : span .channel ≡ asked .channel
+  pub same-duration : span .duration ≡ asked .duration
   pub start : span .start ≡ pick (eqb (asked .start) 0) (clock * 1024) (asked .start)
   pub finds : AsAsked (asked .duration) (readings .times) (request .kind) (readings .finding) found densities
 
@@ -41,8 +41,8 @@ pub record ReadsBack (own ap f : List ℕ) (clock index : ℕ) (readings : Readi
   -- heard from the AP, whatever the beacon interval, they are a frame of one report, with the request's tokens and type
   pub report : Report
   pub read : (b : ℕ) → frameMeans own ap b (exchanged os) ≡ accepted (record { toAll = false; kind = action (reports token (report ∷ [])) })
-  pub sameToken : report .token ≡ request .token
-  pub sameType : report .kind ≡ request .kind
+  pub same-token : report .token ≡ request .token
+  pub same-type : report .kind ≡ request .kind
   -- Incapable, Late, Refused or readings, by 01's rule; where it is measured it carries the caller's readings
   pub owed : reportFor clock readings request ≡ accepted report
   pub carries : (span : Span) (found : Found) → report .matter ≡ Says.Matter.Measured span found

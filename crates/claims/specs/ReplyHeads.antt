@@ -16,12 +16,12 @@ sequenceControl f = number 2 22 f
 -- `os` are the octets of a reply of the station `own` to the frame `f`
 pub record RepliesTo (f own os : List ℕ) : Type 0 where
   -- an action frame: its first octet is 208
-  pub ofVersion : version os ≡ 0
-  pub ofType : type os ≡ 0
-  pub ofSubtype : subtype os ≡ 13
-  pub toOldSender : da os ≡ sa f
-  pub fromStation : sa os ≡ own
-  pub bssidKept : bssid os ≡ bssid f
-  pub noFlags : flags os ≡ 0
-  pub noDuration : duration os ≡ 0
-  pub noSequence : sequenceControl os ≡ 0
+  pub of-version : version os ≡ 0
+  pub of-type : type os ≡ 0
+  pub of-subtype : subtype os ≡ 13
+  pub to-old-sender : da os ≡ sa f
+  pub from-station : sa os ≡ own
+  pub bssid-kept : bssid os ≡ bssid f
+  pub no-flags : flags os ≡ 0
+  pub no-duration : duration os ≡ 0
+  pub no-sequence : sequenceControl os ≡ 0

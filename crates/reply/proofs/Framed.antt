@@ -5,7 +5,6 @@ use mathlib.Core.Path.{_≡_, ap, _∙_}
 use Prim.Native.Nat.{ℕ, _+_}
 use native.Mathlib.Omega.{arith}
 use lib.ListN.{length, length-append, drop-of-length-le}
-use Rattle.frame.specs.Frames.{}
 use Rattle.header.specs.Headers.{headerLength}
 use Rattle.octets.specs.Numbers.{octet}
 use Rattle.octets.specs.Writing.{left}

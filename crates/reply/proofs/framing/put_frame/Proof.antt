@@ -9,7 +9,6 @@ use borrow.Author.Needs.{needs}
 use denote.Ref.{now}
 use lib.ListN.{length, length-append}
 use Rattle.octets.specs.Writing.{left}
-use Rattle.frame.specs.Frames.{}
 use Rattle.header.specs.Headers.{headerLength}
 use Rattle.reply.specs.Frames.{replyHead, replyFrame}
 use Rattle.octets.proofs.Storing.{short-written, parts-written}
