@@ -1,6 +1,8 @@
 pub mod BodyCalls
 pub mod Exchanged
 pub mod FedFiles
+pub mod FilteredFrames
+pub mod Filters
 pub mod Histories
 pub mod HistoryLines
 pub mod Moments
