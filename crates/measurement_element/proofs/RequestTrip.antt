@@ -1,6 +1,6 @@
 -- Demand 2 for Measurement Request. Assumes nothing.
 use mathlib.Core.Path.{_≡_, refl, sym, ap, ap₂, subst, _∙_}
-use mathlib.Core.Bool.{Bool, true, false, not, _&&_}
+use mathlib.Core.Bool.{Bool, true, false, not, _&&_, _||_}
 use mathlib.Core.List.{List, [], _∷_, _++_, append-nil}
 use Prim.Native.Nat.{ℕ, _+_, _/_, _%_, _<_}
 use native.Mathlib.Omega.{arith}
@@ -53,11 +53,17 @@ accepts c r l e m f =
     (past _ _ _ (ap requestForbids e ∙ f) (done _))))
     ∙ ap accepted e
 
-enable-same : (q p : Bool) (t k : ℕ) → requestIn (requestContents (made t k (Matter.Enable q p))) ≡ made t k (Matter.Enable q p)
-enable-same true true t k = refl
-enable-same true false t k = refl
-enable-same false true t k = refl
-enable-same false false t k = refl
+enable-same : (q p u : Bool) (t k : ℕ) → leb k 2 ≡ u → (u || not (q || p)) ≡ true → requestIn (requestContents (made t k (Matter.Enable q p))) ≡ made t k (Matter.Enable q p)
+enable-same true true true t k h w = ap (λ (b : Bool). made t k (Matter.Enable (b && true) (b && true))) h
+enable-same true false true t k h w = ap (λ (b : Bool). made t k (Matter.Enable (b && true) (b && false))) h
+enable-same false true true t k h w = ap (λ (b : Bool). made t k (Matter.Enable (b && false) (b && true))) h
+enable-same false false u t k h w = ap (λ (b : Bool). made t k (Matter.Enable b b)) (nothing (leb k 2))
+  where
+    nothing : (b : Bool) → (b && false) ≡ false
+    nothing true = refl
+    nothing false = refl
+enable-same true p false t k h w = clash (sym w)
+enable-same false true false t k h w = clash (sym w)
 
 measure-same : (s : Span) (t k : ℕ) → SpanFits s → leb k 2 ≡ true → requestIn (requestContents (made t k (Matter.Measure s))) ≡ made t k (Matter.Measure s)
 measure-same s t k f h =
@@ -66,7 +72,7 @@ measure-same s t k f h =
 
 there-matter : (m : Matter) (t k : ℕ) → RequestMatterFits m → (requestForbids (made t k m) ≡ false) × (requestAgrees m k ≡ true)
     → requestMeans (requestContents (made t k m)) ≡ accepted (made t k m)
-there-matter (Matter.Enable q p) t k f w = accepts _ _ refl (enable-same q p t k) refl (w .0)
+there-matter (Matter.Enable q p) t k f w = accepts _ _ refl (enable-same q p (leb k 2) t k refl (w .1)) refl (w .0)
 there-matter (Matter.Measure s) t k f w = accepts _ _ refl (measure-same s t k f (w .1)) refl (w .0)
 there-matter Matter.Uninterpreted t k f w = clash (sym (w .1))
 
@@ -98,10 +104,17 @@ mode-back m e h =
     let y = bit-value (m / 8) (bit 3 m) refl in
     omega (arith, weigh (bit 2 m) 4, weigh (bit 3 m) 8)
 
-enable-back : (c : List ℕ) → bit 1 (octet 1 c) ≡ true → requestClear c ≡ true → length c ≡ 3
-    → requestContents (made (octet 0 c) (octet 2 c) (Matter.Enable (bit 2 (octet 1 c)) (bit 3 (octet 1 c)))) ≡ c
-enable-back c p k e =
-    ap (λ (mode : ℕ). octet 0 c ∷ mode ∷ octet 2 c ∷ []) (mode-back (octet 1 c) p (simp p at k)) ∙ all-from 3 c e
+-- a request that enables or disables, as it is read
+abbrev enabling : List ℕ → Bool → Request
+enabling c u = made (octet 0 c) (octet 2 c) (Matter.Enable (u && bit 2 (octet 1 c)) (u && bit 3 (octet 1 c)))
+
+enable-back : (c : List ℕ) (u : Bool) → leb (octet 2 c) 2 ≡ u → bit 1 (octet 1 c) ≡ true → requestClear c ≡ true → length c ≡ 3
+    → requestContents (enabling c u) ≡ c
+enable-back c true h p k e =
+    ap (λ (mode : ℕ). octet 0 c ∷ mode ∷ octet 2 c ∷ []) (mode-back (octet 1 c) p (simp (p, h) at k)) ∙ all-from 3 c e
+enable-back c false h p k e =
+    let only : eqb (octet 1 c) 2 ≡ true = simp (p, h) at k in
+    ap (λ (mode : ℕ). octet 0 c ∷ mode ∷ octet 2 c ∷ []) (sym (eqb-true (octet 1 c) 2 only)) ∙ all-from 3 c e
 
 measure-back : (c : List ℕ) → Octets c → bit 1 (octet 1 c) ≡ false → requestClear c ≡ true → length c ≡ 14
     → requestContents (made (octet 0 c) (octet 2 c) (Matter.Measure (spanIn c))) ≡ c
@@ -111,17 +124,13 @@ measure-back c o p k e =
     ∙ all-from 14 c e
 
 -- a request read is one of three, by the mode's Enable bit and the type
-enabled : (c : List ℕ) (r : Request) → requestIn c ≡ r → bit 1 (octet 1 c) ≡ true
-    → made (octet 0 c) (octet 2 c) (Matter.Enable (bit 2 (octet 1 c)) (bit 3 (octet 1 c))) ≡ r
-enabled c r e p =
-    ap (λ (b : Bool). made (octet 0 c) (octet 2 c) (pick b (Matter.Enable (bit 2 (octet 1 c)) (bit 3 (octet 1 c))) (pick (leb (octet 2 c) 2) (Matter.Measure (spanIn c)) Matter.Uninterpreted))) (sym p)
-    ∙ e
+abbrev matterBy : List ℕ → Bool → Bool → Matter
+matterBy c t u =
+    pick t (Matter.Enable (u && bit 2 (octet 1 c)) (u && bit 3 (octet 1 c))) (pick u (Matter.Measure (spanIn c)) Matter.Uninterpreted)
 
-measured : (c : List ℕ) (r : Request) (u : Bool) → requestIn c ≡ r → bit 1 (octet 1 c) ≡ false → leb (octet 2 c) 2 ≡ u
-    → made (octet 0 c) (octet 2 c) (pick u (Matter.Measure (spanIn c)) Matter.Uninterpreted) ≡ r
-measured c r u e p q =
-    ap₂ (λ (b d : Bool). made (octet 0 c) (octet 2 c) (pick b (Matter.Enable (bit 2 (octet 1 c)) (bit 3 (octet 1 c))) (pick d (Matter.Measure (spanIn c)) Matter.Uninterpreted))) (sym p) (sym q)
-    ∙ e
+read-by : (c : List ℕ) (r : Request) (t u : Bool) → requestIn c ≡ r → bit 1 (octet 1 c) ≡ t → leb (octet 2 c) 2 ≡ u
+    → made (octet 0 c) (octet 2 c) (matterBy c t u) ≡ r
+read-by c r t u e p q = ap₂ (λ (x y : Bool). made (octet 0 c) (octet 2 c) (matterBy c x y)) (sym p) (sym q) ∙ e
 
 Back : List ℕ → Request → Type 0
 Back c r = (requestAgrees (r .matter) (r .kind) ≡ true) × (requestContents r ≡ c)
@@ -130,14 +139,19 @@ back-by : (c : List ℕ) (r : Request) → Octets c → Opened c r → requestIn
     → (t u : Bool) → bit 1 (octet 1 c) ≡ t → leb (octet 2 c) 2 ≡ u → Back c r
 unfolding Back
 back-by c r o x i k true u p q =
-    let e = enabled c r (x .same) p in
+    let e = read-by c r true u (x .same) p q in
     let l : not (eqb (length c) 3) ≡ false = ap (λ (y : Request). requestMisfits (y .matter) (length c)) e ∙ x .fitting in
-    subst (Back c) e (refl, enable-back c p k (eqb-true (length c) 3 (not-false (eqb (length c) 3) l)))
+    subst (Back c) e (agrees u q, enable-back c u q p k (eqb-true (length c) 3 (not-false (eqb (length c) 3) l)))
+  where
+    -- bits that are invalid are read as clear
+    agrees : (v : Bool) → leb (octet 2 c) 2 ≡ v → (leb (octet 2 c) 2 || not ((v && bit 2 (octet 1 c)) || (v && bit 3 (octet 1 c)))) ≡ true
+    agrees true h = ap (λ (b : Bool). b || not (bit 2 (octet 1 c) || bit 3 (octet 1 c))) h
+    agrees false h = ap (λ (b : Bool). b || true) h
 back-by c r o x i k false true p q =
-    let e = measured c r true (x .same) p q in
+    let e = read-by c r false true (x .same) p q in
     let l : not (eqb (length c) 14) ≡ false = ap (λ (y : Request). requestMisfits (y .matter) (length c)) e ∙ x .fitting in
     subst (Back c) e (q, measure-back c o p k (eqb-true (length c) 14 (not-false (eqb (length c) 14) l)))
-back-by c r o x i k false false p q = clash (sym (ap requestInterpreted (measured c r false (x .same) p q) ∙ i))
+back-by c r o x i k false false p q = clash (sym (ap requestInterpreted (read-by c r false false (x .same) p q) ∙ i))
 
 back : (c : List ℕ) (r : Request) → Octets c → requestMeans c ≡ accepted r → requestInterpreted r ≡ true → requestClear c ≡ true
     → (requestMay r ≡ true) × (requestContents r ≡ c)
@@ -151,11 +165,23 @@ back c r o e i k =
 
 agrees-by : (m : Matter) (t k : ℕ) (u : Bool) → leb k 2 ≡ u → requestIn (requestContents (made t k m)) ≡ made t k m → requestInterpreted (made t k m) ≡ true
     → requestAgrees m k ≡ true
-agrees-by (Matter.Enable q p) t k u h e i = refl
+agrees-by (Matter.Enable q p) t k true h e i = ap (λ (b : Bool). b || not (q || p)) h
+agrees-by (Matter.Enable q p) t k false h e i =
+    let c = requestContents (made t k (Matter.Enable q p)) in
+    let same : Matter.Enable false false ≡ Matter.Enable q p = invalid q p h e in
+    let off : false ≡ q = cc in
+    let out : false ≡ p = cc in
+    ap₂ (λ (b x : Bool). b || not x) h (ap₂ _||_ (sym off) (sym out))
+  where
+    invalid : (q p : Bool) → leb k 2 ≡ false → requestIn (requestContents (made t k (Matter.Enable q p))) ≡ made t k (Matter.Enable q p) → Matter.Enable false false ≡ Matter.Enable q p
+    invalid true true h e = ap (λ (b : Bool). Matter.Enable (b && true) (b && true)) (sym h) ∙ ap (λ (r : Request). r .matter) e
+    invalid true false h e = ap (λ (b : Bool). Matter.Enable (b && true) (b && false)) (sym h) ∙ ap (λ (r : Request). r .matter) e
+    invalid false true h e = ap (λ (b : Bool). Matter.Enable (b && false) (b && true)) (sym h) ∙ ap (λ (r : Request). r .matter) e
+    invalid false false h e = refl
 agrees-by (Matter.Measure s) t k true h e i = h
 agrees-by (Matter.Measure s) t k false h e i =
     let c = requestContents (made t k (Matter.Measure s)) in
-    clash (sym (ap requestInterpreted (measured c (made t k (Matter.Measure s)) false e refl h)))
+    clash (sym (ap requestInterpreted (read-by c (made t k (Matter.Measure s)) false false e refl h)))
 agrees-by Matter.Uninterpreted t k u h e i = clash (sym i)
 
 exact : (r : Request) → RequestFits r → requestMeans (requestContents r) ≡ accepted r → requestInterpreted r ≡ true → requestMay r ≡ true
@@ -163,7 +189,7 @@ exact r f e i =
     let x = opened (requestContents r) r e in
     says-may r (x .allowed) (agrees-by (r .matter) (r .token) (r .kind) (leb (r .kind) 2) refl (x .same) i)
 
-fits-by : (c : List ℕ) → Octets c → (t u : Bool) → RequestMatterFits (pick t (Matter.Enable (bit 2 (octet 1 c)) (bit 3 (octet 1 c))) (pick u (Matter.Measure (spanIn c)) Matter.Uninterpreted))
+fits-by : (c : List ℕ) → Octets c → (t u : Bool) → RequestMatterFits (matterBy c t u)
 fits-by c o true u = tt
 fits-by c o false true = span-fits c o
 fits-by c o false false = tt

@@ -20,11 +20,15 @@ abbrev pub requestTold : Reading → Outcome Request
 requestTold (Reading.Refused r) = refused r
 requestTold (Reading.Is q) = accepted q
 
+-- the Request and Report bits are invalid with a reserved type, which is one over 2: such a bit is set to 0 (7.3.2.21), and one that is set counts as reserved
+abbrev pub validWith : ℕ → Bool → Bool
+validWith kind b = leb kind 2 && b
+
 -- what is asked, by the mode and the type
 abbrev pub requestMatterIn : ℕ → ℕ → List ℕ → Matter
 requestMatterIn mode kind c =
     pick (bit 1 mode)
-    (Matter.Enable (bit 2 mode) (bit 3 mode))
+    (Matter.Enable (validWith kind (bit 2 mode)) (validWith kind (bit 3 mode)))
     (pick (leb kind 2) (Matter.Measure (spanIn c)) Matter.Uninterpreted)
 
 abbrev pub requestIn : List ℕ → Request
@@ -87,7 +91,7 @@ requestInterpreted r = requestMatterInterpreted (r .matter)
 
 -- whether a type can ask for this
 abbrev pub requestAgrees : Matter → ℕ → Bool
-requestAgrees (Matter.Enable q p) kind = true
+requestAgrees (Matter.Enable q p) kind = leb kind 2 || not (q || p)
 requestAgrees (Matter.Measure s) kind = leb kind 2
 requestAgrees Matter.Uninterpreted kind = false
 
@@ -98,9 +102,12 @@ requestMay r = not (requestForbids r) && requestAgrees (r .matter) (r .kind)
 unfoldable pub requestOctets : Request → List ℕ
 requestOctets r = element 38 (requestContents r)
 
--- no reserved bit is set: with Enable all but bits 1 to 3 are reserved, and without it all but bit 1
+-- no reserved bit is set in the mode of a type: with Enable all but bits 1 to 3 are reserved, or all but bit 1 where those are invalid; without it all but bit 1
+abbrev pub modeClear : ℕ → ℕ → Bool
+modeClear kind mode = pick (bit 1 mode) (pick (leb kind 2) (eqb (mode % 2) 0 && ltb mode 16) (eqb mode 2)) (eqb mode 0)
+
 abbrev pub requestClear : List ℕ → Bool
-requestClear c = pick (bit 1 (octet 1 c)) (eqb (octet 1 c % 2) 0 && ltb (octet 1 c) 16) (eqb (octet 1 c) 0)
+requestClear c = modeClear (octet 2 c) (octet 1 c)
 
 -- ---- the fields fit their types
 

@@ -30,11 +30,17 @@ pub enum Reading {
     Is(Request),
 }
 
-// Mode bit 1 is Enable, and bits 2 and 3 are Request and Report beside it.
+// Mode bit 1 is Enable, and bits 2 and 3 are Request and Report beside it, which are invalid with a reserved type.
 fn matter_in(contents: &[u8], mode: u8, kind: u8) -> Matter
     ensures { λ r. ⌜ r ≡ requestMatterIn mode kind (now (contents .entry)) ⌝ }
 {
     if mode / 2 % 2 == 1 {
+        if 2 < kind {
+            return Matter::Enable {
+                request: false,
+                report: false,
+            };
+        }
         return Matter::Enable {
             request: mode / 4 % 2 == 1,
             report: mode / 8 % 2 == 1,
@@ -109,12 +115,16 @@ pub fn read(contents: &[u8]) -> Reading
     Reading::Is(request)
 }
 
-// Whether no reserved bit is set: with Enable all bits of the mode but 1 to 3 are reserved, and without it all but bit 1.
+// Whether no reserved bit is set: with Enable all bits of the mode but 1 to 3 are reserved, and 2 and 3 too with a reserved type; without it all but bit 1.
 pub fn is_clear(contents: &[u8]) -> bool
     ensures { λ r. ⌜ r ≡ requestClear (now (contents .entry)) ⌝ }
 {
     let mode = octets::octet_at(contents, 1);
+    let kind = octets::octet_at(contents, 2);
     if mode / 2 % 2 == 1 {
+        if 2 < kind {
+            return mode == 2;
+        }
         if mode % 2 == 0 {
             return mode < 16;
         }
@@ -198,10 +208,15 @@ fn agrees(matter: Matter, kind: u8) -> bool
     ensures { λ r. ⌜ r ≡ requestAgrees matter kind ⌝ }
 {
     match matter {
-        Matter::Enable {
-            request: _,
-            report: _,
-        } => true,
+        Matter::Enable { request, report } => {
+            if kind <= 2 {
+                return true;
+            }
+            if request {
+                return false;
+            }
+            !report
+        }
         Matter::Measure(_) => kind <= 2,
         Matter::Uninterpreted => false,
     }
