@@ -1,8 +1,8 @@
 // The five action bodies (document 01, "Octets"). Those of one element are written from the front of the buffer on, a measurement body element by
 // element after what the buffer holds.
-ghost use mathlib.Core.Bool.{true, not, _&&_};
-ghost use lib.Dec.{leb, eqb};
-ghost use lib.ListN.{length, take};
+ghost use mathlib.Core.Bool.{true, not};
+ghost use lib.Dec.{eqb};
+ghost use lib.ListN.{take};
 ghost use Rattle.single_body.specs.Singles.{tpcRequestBody, tpcReportBody, switchBody};
 ghost use Rattle.element.specs.ChannelSwitch.{switchMay};
 ghost use Rattle.measurement_body.specs.Bodies.{mayAppend, appended};
@@ -65,7 +65,7 @@ pub extern "C" fn oneiralth_append_request(
     start: u64,
     duration: u16,
 ) -> u64
-    ensures { λ r. ⌜ Put (leb used (length (now (buffer .entry))) && mayAppend requestSort dialog (requestGiven token kind asks request report channel start duration) (take used (now (buffer .entry)))) (appended requestSort dialog (requestGiven token kind asks request report channel start duration) (take used (now (buffer .entry)))) used (now (buffer .entry)) r (now (buffer .exit)) ⌝ }
+    ensures { λ r. ⌜ Put (mayAppend requestSort dialog (requestGiven token kind asks request report channel start duration) (take used (now (buffer .entry)))) (appended requestSort dialog (requestGiven token kind asks request report channel start duration) (take used (now (buffer .entry)))) used (now (buffer .entry)) r (now (buffer .exit)) ⌝ }
 {
     let record = given::request(token, kind, asks, request, report, channel, start, duration);
     codes::wrote(measurement_body::requests::append(buffer, used, dialog, record))
@@ -86,7 +86,7 @@ pub extern "C" fn oneiralth_append_report(
     duration: u16,
     densities: u64,
 ) -> u64
-    ensures { λ r. ⌜ Put (leb used (length (now (buffer .entry))) && mayAppend reportSort dialog (reportGiven token kind says value channel start duration densities) (take used (now (buffer .entry)))) (appended reportSort dialog (reportGiven token kind says value channel start duration densities) (take used (now (buffer .entry)))) used (now (buffer .entry)) r (now (buffer .exit)) ⌝ }
+    ensures { λ r. ⌜ Put (mayAppend reportSort dialog (reportGiven token kind says value channel start duration densities) (take used (now (buffer .entry)))) (appended reportSort dialog (reportGiven token kind says value channel start duration densities) (take used (now (buffer .entry)))) used (now (buffer .entry)) r (now (buffer .exit)) ⌝ }
 {
     let record = given::report(
         token,

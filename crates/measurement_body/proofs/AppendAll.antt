@@ -14,7 +14,7 @@ use Rattle.answer.specs.Checks.{Outcome, accepted, pick}
 use Rattle.answer.proofs.Booleans.{clash, both}
 use Rattle.octets.specs.Numbers.{Octets}
 use Rattle.octets.specs.Writing.{wrote, left, filled}
-use Rattle.octets.proofs.Storing.{filled-length, after-answer, after-left}
+use Rattle.octets.proofs.Storing.{after-answer, after-left}
 use Rattle.walk.specs.Elements.{elementsIn}
 use Rattle.measurement_body.specs.Bodies.{longestBody, bodyOctets, begins, mayOpen, mayAppend, appended}
 use Rattle.measurement_body.specs.Calls.{Buffer, afterPut, mayPut, appends}
@@ -92,11 +92,7 @@ module _ {A : Type 0} (s : Sort A) (Fits : A → Type 0) (t : Trip s Fits) (toke
     seam = take-append-seam (there l) (drop (length (there l)) buffer)
 
     may-call : mayAppend s token a (there l) ≡ true → mayPut s token a (length (there l)) (filled (there l) buffer) ≡ true
-    may-call h =
-        let size = filled-length (there l) buffer (omega (arith, longer l a)) in
-        let within : leb (length (there l)) (length (filled (there l) buffer)) ≡ true =
-        le-leb (length (there l)) (length (filled (there l) buffer)) (omega (arith, longer l a)) in
-        rw (within, seam) h
+    may-call h = rw seam h
 
     call : (xs : List A) → mayAppend s token a (there l) ≡ true
         → appends s token (a ∷ xs) (length (there l)) (filled (there l) buffer)

@@ -3,17 +3,16 @@
 use mathlib.Core.Path.{_≡_, refl, sym, ap, ap₂, _∙_}
 use mathlib.Core.Bool.{Bool, true, false, not, _&&_, _||_}
 use mathlib.Core.List.{List, [], _∷_, _++_}
-use Prim.Native.Nat.{ℕ, suc, _+_, _-_, _<_, _≤_}
+use Prim.Native.Nat.{ℕ, zero, suc, _+_, _-_, _≤_, min}
 use native.Mathlib.Omega.{arith}
-use borrow.Author.Tests.{eqb-true, le-leb, lt-leb}
+use borrow.Author.Tests.{eqb-true}
 use lib.Dec.{leb, eqb}
-use lib.ListN.{length, take, drop, length-append}
-use lib.Seq.{length-take-le, take-append-seam, take-nil}
+use lib.ListN.{length, take, drop, length-append, length-take}
+use lib.Seq.{take-append-seam, take-nil}
 use Rattle.action.specs.Openings.{fixedFields}
 use Rattle.answer.specs.Checks.{Outcome, refused, accepted, pick}
-use Rattle.answer.specs.declared.Refusal.{Refusal}
 use Rattle.octets.proofs.Overwriting.{written-as}
-use Rattle.octets.proofs.Storing.{not-written, room-left}
+use Rattle.octets.proofs.Storing.{room-left}
 use Rattle.octets.specs.Writing.{Written, left}
 use Rattle.octets.specs.declared.writing.Wrote.{Wrote}
 use Rattle.walk.specs.Elements.{elementsIn}
@@ -98,28 +97,35 @@ start-within used start n e = by (eqb used 0) e
 
 -- ---- the promise
 
-pub past-end : (used : ℕ) (may : Bool) (os buffer : List ℕ) → length buffer < used
-    → Written (leb used (length buffer) && may) os used buffer (Wrote.Refused Refusal.Impossible) buffer
-past-end used may os buffer h = not-written os used buffer (simp (lt-leb _ _ h))
+take-min : (n : ℕ) (l : List ℕ) → take (min n (length l)) l ≡ take n l
+take-min n l = ap (λ (k : ℕ). take k l) (sym (length-take n l)) ∙ take-taken n l
+  where
+    take-taken : (k : ℕ) (xs : List ℕ) → take (length (take k xs)) xs ≡ take k xs
+    take-taken zero xs = refl
+    take-taken (suc k) [] = refl
+    take-taken (suc k) (x ∷ xs) = ap (λ (r : List ℕ). x ∷ r) (take-taken k xs)
 
-module _ {A : Type 0} (s : Sort A) (token used : ℕ) (buffer element : List ℕ) (within : used ≤ length buffer) where
-  pub put-as : {may may' : Bool} {os : List ℕ} {answer : Wrote} {exit : List ℕ} → may ≡ may' → os ≡ pick (eqb used 0) (opening (s .action) token) [] ++ element
+-- what there is of the octets in use, in a buffer that may have fewer
+module _ {A : Type 0} (s : Sort A) (token used : ℕ) (buffer element : List ℕ) {there : ℕ} (all : there ≡ min used (length buffer)) where
+  pub part : take there buffer ≡ take used buffer
+  part = ap (λ (n : ℕ). take n buffer) all ∙ take-min used buffer
+
+  pub put-as : {may may' : Bool} {os : List ℕ} {answer : Wrote} {exit : List ℕ} → may ≡ may' → os ≡ pick (eqb there 0) (opening (s .action) token) [] ++ element
       → Written may os used buffer answer exit
-      → Written (leb used (length buffer) && may') (following s token (take used buffer) element) used buffer answer exit
+      → Written may' (following s token (take used buffer) element) used buffer answer exit
   put-as m o w =
-      written-as (m ∙ sym (simp (le-leb used (length buffer) within)))
-      (o ∙ ap (λ (n : ℕ). pick (eqb n 0) (opening (s .action) token) [] ++ element) (sym (length-take-le used buffer within)))
+      written-as m
+      (o ∙ ap (λ (n : ℕ). pick (eqb n 0) (opening (s .action) token) [] ++ element) (all ∙ sym (length-take used buffer)))
       w
 
 -- an element's promise is its record's
 module _ {A : Type 0} (s : Sort A) (token : ℕ) (a : A) (used : ℕ) (buffer : List ℕ) where
   pub of-record : {may : Bool} {element : List ℕ} {answer : Wrote} {exit : List ℕ} → may ≡ s .may a → element ≡ s .octets a
-      → Written (leb used (length buffer) && mayFollow s token (s .token a) (length element) may (take used buffer)) (following s token (take used buffer) element) used buffer answer exit
-      → Written (leb used (length buffer) && mayAppend s token a (take used buffer)) (appended s token a (take used buffer)) used buffer answer exit
+      → Written (mayFollow s token (s .token a) (length element) may (take used buffer)) (following s token (take used buffer) element) used buffer answer exit
+      → Written (mayAppend s token a (take used buffer)) (appended s token a (take used buffer)) used buffer answer exit
   unfolding appended
   of-record m e w =
       written-as
-      (ap₂ (λ (n : ℕ) (b : Bool). leb used (length buffer) && mayFollow s token (s .token a) n b (take used buffer)) (ap length e) m
-      ∙ ap (λ (b : Bool). leb used (length buffer) && b) (may-follow s token a (take used buffer)))
+      (ap₂ (λ (n : ℕ) (b : Bool). mayFollow s token (s .token a) n b (take used buffer)) (ap length e) m ∙ may-follow s token a (take used buffer))
       (ap (following s token (take used buffer)) e)
       w

@@ -3,7 +3,7 @@ use mathlib.Core.Path.{_≡_, refl}
 use mathlib.Core.List.{List, [], _∷_}
 use Prim.Native.Nat.{ℕ, _+_, _≤_}
 use native.Mathlib.Omega.{arith}
-use borrow.Author.Tests.{leb-true, not-false}
+use borrow.Author.Tests.{leb-true, ltb-false, not-false}
 use lib.Dec.{leb}
 use lib.ListN.{length, take}
 use lib.Seq.{length-take-le}
@@ -29,11 +29,10 @@ module _ {A : Type 0} (s : Sort A) (token : ℕ) where
   within a used buffer n e =
       let p = passed _ _ _ e in
       let count : length (put s token a used buffer) ≡ n = kept _ (passed _ _ _ (p .1) .1) in
-      let m = both (leb used (length buffer)) _ (not-false _ (p .0)) in
-      let starts = both (mayOpen s token) _ (both (s .may a) _ (m .1) .1) in
+      let fits = ltb-false (length buffer) (used + length (put s token a used buffer)) (passed _ _ _ (p .1) .0) in
+      let starts = both (mayOpen s token) _ (both (s .may a) _ (not-false _ (p .0)) .1) in
       let short = both (leb (length (take used buffer) + length (appended s token a (take used buffer))) longestBody) _ (starts .1) in
-      let fits = leb-true used (length buffer) (m .0) in
-      omega (arith, leb-true (length (take used buffer) + length (appended s token a (take used buffer))) longestBody (short .0), length-take-le used buffer fits)
+      omega (arith, leb-true (length (take used buffer) + length (appended s token a (take used buffer))) longestBody (short .0), length-take-le used buffer (omega arith))
 
   pub never-longer : (xs : List A) (used : ℕ) (buffer : List ℕ) (n : ℕ) → used ≤ longestBody → appends s token xs used buffer .used ≡ accepted n
       → n ≤ longestBody

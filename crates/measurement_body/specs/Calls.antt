@@ -1,10 +1,9 @@
 -- A body written element by element, as a caller does: one call for each record, until one refuses. What each call has put is
 -- added to the octets in use.
-use mathlib.Core.Bool.{Bool, _&&_}
+use mathlib.Core.Bool.{Bool}
 use mathlib.Core.List.{List, [], _∷_}
 use Prim.Native.Nat.{ℕ, _+_}
-use lib.Dec.{leb}
-use lib.ListN.{length, take}
+use lib.ListN.{take}
 use Rattle.answer.specs.Checks.{Outcome, refused, accepted}
 use Rattle.octets.specs.Writing.{wrote, left}
 use Rattle.measurement_body.specs.Bodies.{mayAppend, appended}
@@ -22,7 +21,7 @@ afterPut (accepted n) used buffer next = next (used + n) buffer
 module _ {A : Type 0} (s : Sort A) (token : ℕ) where
   -- what `append` promises of its test and its octets
   abbrev pub mayPut : A → ℕ → List ℕ → Bool
-  mayPut a used buffer = leb used (length buffer) && mayAppend s token a (take used buffer)
+  mayPut a used buffer = mayAppend s token a (take used buffer)
 
   abbrev pub put : A → ℕ → List ℕ → List ℕ
   put a used buffer = appended s token a (take used buffer)

@@ -1,8 +1,7 @@
 // One element more in a body of either kind (document 01, "Octets": 0, action, token, elements).
-ghost use mathlib.Core.Bool.{_&&_};
 ghost use mathlib.Core.List.{_++_};
 ghost use mathlib.Core.Path.{_≡_};
-ghost use Prim.Native.Nat.{_+_, _≤_};
+ghost use Prim.Native.Nat.{_+_, _≤_, min};
 ghost use lib.Dec.{leb, eqb};
 ghost use lib.ListN.{length, take};
 ghost use Rattle.action.specs.Openings.{fixedFields};
@@ -14,7 +13,6 @@ ghost use Rattle.measurement_body.specs.Kinds.{sortOf};
 use crate::kinds::Kind;
 use crate::surveying;
 use action::FIXED_FIELDS;
-use answer::Refusal;
 use octets::Wrote;
 
 // How many octets a body may have: a frame has at most 2,336, and 24 of them are its header.
@@ -107,8 +105,18 @@ fn first_put(used: usize) -> usize
     FIXED_FIELDS
 }
 
+// How many of the octets in use a buffer of so many has.
+fn held(used: usize, size: usize) -> usize
+    ensures { λ r. ⌜ r ≡ min used size ⌝ }
+{
+    if size < used {
+        return size;
+    }
+    used
+}
+
 // Writes an element after the first `used` octets of the buffer; with none used it starts a body with this token. `own` is the element's
-// own token, and `may` says that the element may be written at all.
+// own token, and `may` says that the element may be written at all. A buffer that has not even the octets in use is too short.
 pub fn append(
     buffer: &mut [u8],
     used: usize,
@@ -119,14 +127,12 @@ pub fn append(
     element: &[u8],
 ) -> Wrote
     requires { ⌜ length (now element) ≤ longestElement ⌝ }
-    ensures { λ r. ⌜ Written (leb used (length (now (buffer .entry))) && mayFollow (sortOf kind) token own (length (now (element .entry))) may (take used (now (buffer .entry)))) (following (sortOf kind) token (take used (now (buffer .entry))) (now (element .entry))) used (now (buffer .entry)) r (now (buffer .exit)) ⌝ }
+    ensures { λ r. ⌜ Written (mayFollow (sortOf kind) token own (length (now (element .entry))) may (take used (now (buffer .entry)))) (following (sortOf kind) token (take used (now (buffer .entry))) (now (element .entry))) used (now (buffer .entry)) r (now (buffer .exit)) ⌝ }
 {
-    if buffer.len() < used {
-        return Wrote::Refused(Refusal::Impossible);
-    }
-    let allowed = may_follow(&buffer[..used], kind, token, own, element.len(), may);
+    let there = held(used, buffer.len());
+    let allowed = may_follow(&buffer[..there], kind, token, own, element.len(), may);
     let bytes = body_octets(kind, token, element);
-    let start = first_put(used);
+    let start = first_put(there);
     let end = FIXED_FIELDS + element.len();
     octets::put(allowed, &bytes[start..end], buffer, used)
 }

@@ -1,7 +1,5 @@
 // Measurement Report bodies (802.11h 7.4.1.2).
-ghost use mathlib.Core.Bool.{_&&_};
-ghost use lib.Dec.{leb};
-ghost use lib.ListN.{length, take};
+ghost use lib.ListN.{take};
 ghost use Rattle.octets.specs.Writing.{Written};
 ghost use Rattle.measurement_body.specs.Bodies.{mayAppend, appended};
 ghost use Rattle.measurement_body.specs.Reports.{reportSort};
@@ -13,7 +11,7 @@ use octets::Wrote;
 
 // Writes a report after the first `used` octets of the buffer; with none used it starts a body with this token.
 pub fn append(buffer: &mut [u8], used: usize, token: u8, report: Report) -> Wrote
-    ensures { λ r. ⌜ Written (leb used (length (now (buffer .entry))) && mayAppend reportSort token report (take used (now (buffer .entry)))) (appended reportSort token report (take used (now (buffer .entry)))) used (now (buffer .entry)) r (now (buffer .exit)) ⌝ }
+    ensures { λ r. ⌜ Written (mayAppend reportSort token report (take used (now (buffer .entry)))) (appended reportSort token report (take used (now (buffer .entry)))) used (now (buffer .entry)) r (now (buffer .exit)) ⌝ }
 {
     let kind = Kind::Reports;
     let own = report.token;
