@@ -32,14 +32,12 @@ use Rattle.claims.specs.Filters.{Item, item, ofId, walkedAs}
 use Rattle.claims.proofs.NoticeFields.{one-power, one-report, one-switch, same-told, powerAs, reportAs, switchAs, quietsAs}
 use Rattle.claims.proofs.ReadItems.{Grows, grows-none, grew-none, grows-all, grew-all, grows-first, grew-first, the-one, was-the-one}
 use Rattle.claims.proofs.RunItems.{walk-whole}
+use Rattle.claims.proofs.Same.{accepted-once}
 
 made : {A B C : Type 0} (o : Outcome A) (make : A → B) (next : B → Outcome C) (r : C) → andThen (andThen o (λ a. accepted (make a))) next ≡ accepted r
     → (a : A) × (o ≡ accepted a) × (next (make a) ≡ accepted r)
 made (refused x) make next r e = absurd (never e)
 made (accepted a) make next r e = (a, refl, e)
-
-is-same : {A : Type 0} {x y : A} → accepted x ≡ accepted y → x ≡ y
-is-same e = cc
 
 -- an ID is one of these four, or another
 by-id : (P : ℕ → Type 0) → P 32 → P 35 → P 37 → P 40
@@ -182,7 +180,7 @@ module _ (b : ℕ) where
       other-fore : Fore id → Then id
       unfolding ofId
       other-fore (next, e, s) =
-          let same : before ≡ next = is-same (sym skipped ∙ e) in
+          let same : before ≡ next = accepted-once (sym skipped ∙ e) in
           simp (ne-eqb id 32 v, ne-eqb id 35 w, ne-eqb id 37 x, ne-eqb id 40 y) (subst (λ (t : Told). Said xs t after) (sym same) s)
 
       other-then : Then id → Fore id
@@ -211,7 +209,7 @@ module _ (b : ℕ) where
 
   said : (es : Elements) (before after : Told) → says b es before ≡ accepted after → (xs : List Item) × (es ≡ walkedAs xs end) × Said xs before after
   unfolding says walkedAs
-  said end before after e = ([], refl, subst (λ (t : Told). Said [] before t) (is-same e) (none before))
+  said end before after e = ([], refl, subst (λ (t : Told). Said [] before t) (accepted-once e) (none before))
   said cutHeader before after e = absurd (never e)
   said (cutContents id) before after e = absurd (never e)
   said (more id c es) before after e =

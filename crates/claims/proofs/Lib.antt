@@ -2,6 +2,7 @@ pub mod Agreement
 pub mod Asked
 pub mod BeaconItems
 pub mod Bodies
+pub mod ContentsIgnored
 pub mod CountingTbtts
 pub mod CoveredUnits
 pub mod Demand3
@@ -11,6 +12,7 @@ pub mod Filtered
 pub mod HistoriesTell
 pub mod ListedFiles
 pub mod MeasurementItems
+pub mod MeasurementsIgnored
 pub mod MomentsHold
 pub mod NoticeFields
 pub mod Numbers
@@ -28,8 +30,10 @@ pub mod ReadItems
 pub mod Refusals
 pub mod Replies
 pub mod RepliesRead
+pub mod ReservedIgnored
 pub mod RunItems
 pub mod Same
+pub mod SameBits
 pub mod Schedules
 pub mod StationWitnesses
 pub mod Stations

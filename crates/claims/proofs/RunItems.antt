@@ -18,7 +18,7 @@ use Rattle.claims.specs.Filters.{Item, item, laid, HalfAfter, CutAfter, 
 
 -- ---- elements in front of a rest
 
-walk-front : (xs : List Item) (rest : List ℕ) → elementsIn (laid xs ++ rest) ≡ walkedAs xs (elementsIn rest)
+pub walk-front : (xs : List Item) (rest : List ℕ) → elementsIn (laid xs ++ rest) ≡ walkedAs xs (elementsIn rest)
 unfolding laid walkedAs
 walk-front [] rest = refl
 walk-front (x ∷ xs) rest =

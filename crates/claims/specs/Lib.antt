@@ -9,6 +9,7 @@ pub mod Moments
 pub mod Numbered
 pub mod OpenUnits
 pub mod Records
+pub mod Reserved
 pub mod Runs
 pub mod Standing
 pub mod Tbtts
