@@ -30,6 +30,7 @@ pub mod ReadItems
 pub mod Refusals
 pub mod Replies
 pub mod RepliesRead
+pub mod ReservedClear
 pub mod ReservedIgnored
 pub mod RunItems
 pub mod Same

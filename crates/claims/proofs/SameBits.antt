@@ -1,7 +1,9 @@
 -- Numbers that agree in some of their bits, or in all. Assumes nothing.
+use mathlib.Core.Bool.{false}
+use mathlib.Core.Logic.{_↔_}
 use mathlib.Core.Path.{_≡_, refl, sym, ap, ap₂, _∙_}
-use Prim.Native.Nat.{ℕ, zero, suc, _+_, _*_, _/_, _%_, _<_, _^_}
-use native.Mathlib.Nat.{div-add-mod, div-div-eq-div-mul, pow-succ', mod-lt, mod-eq-of-lt, add-mul-mod-self-left}
+use Prim.Native.Nat.{ℕ, zero, suc, _+_, _*_, _/_, _%_, _≤_, _<_, _^_}
+use native.Mathlib.Nat.{div-add-mod, div-div-eq-div-mul, pow-succ', mod-lt, mod-eq-of-lt, zero-div, add-mul-mod-self-left}
 use native.Mathlib.Omega.{arith}
 use lib.Dec.{eqb}
 use Rattle.octets.proofs.Bits.{bit-value, low-bit}
@@ -46,3 +48,20 @@ same-number o p e =
     let n = o + p in
     let h = below n in
     sym (mod-eq-of-lt (omega arith)) ∙ low-bits n o p (λ k j. e k) ∙ mod-eq-of-lt (omega arith)
+
+-- ---- numbers with no high bit
+
+pub zero-bit : (k : ℕ) → bit k 0 ≡ false
+zero-bit k = ap (λ (n : ℕ). eqb (n % 2) 1) (zero-div (2 ^ k))
+
+pub no-high-bit : (n m : ℕ) → (m < 2 ^ n) ↔ ((k : ℕ) → n ≤ k → bit k m ≡ false)
+no-high-bit n m = (there n m, back n m)
+  where
+    there : (n m : ℕ) → m < 2 ^ n → (k : ℕ) → n ≤ k → bit k m ≡ false
+    there zero m h k j = ap (bit k) (let none : m ≡ 0 = omega arith in none) ∙ zero-bit k
+    there (suc n) m h zero j = absurd (omega arith)
+    there (suc n) m h (suc k) j = sym (halved k m) ∙ there n (m / 2) (omega arith) k (omega arith)
+
+    back : (n m : ℕ) → ((k : ℕ) → n ≤ k → bit k m ≡ false) → m < 2 ^ n
+    back zero m e = let none = same-number m 0 (λ k. e k (omega arith) ∙ sym (zero-bit k)) in omega arith
+    back (suc n) m e = let high = back n (m / 2) (λ k h. halved k m ∙ e (suc k) (omega arith)) in omega arith

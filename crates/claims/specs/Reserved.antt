@@ -1,7 +1,7 @@
 -- Reserved bits (01, "Octets": "Reserved bits are ignored when read"), and what else of a header is not looked at (docs/DECISIONS.md, "Frames"): what
 -- it is for two contents, two runs of elements, two bodies and two frames to differ in these bits alone. Bits are told by the place of their octet,
 -- `i`, and by their own in it, `k`.
-use mathlib.Core.Bool.{Bool, false, not, _&&_, _||_}
+use mathlib.Core.Bool.{Bool, true, false, not, _&&_, _||_}
 use mathlib.Core.List.{List, [], _∷_, _++_}
 use mathlib.Core.Logic.{_⊎_}
 use mathlib.Core.Path.{_≡_}
@@ -17,6 +17,10 @@ use Rattle.claims.specs.Filters.{Item, laid}
 pub record AlikeBut (ignored : ℕ → ℕ → Bool) (c d : List ℕ) : Type 0 where
   pub as-long : length c ≡ length d
   pub same-bits : (i k : ℕ) → ignored i k ≡ false → bit k (octet i c) ≡ bit k (octet i d)
+
+-- none of these bits is set
+abbrev pub NoneSet : (ℕ → ℕ → Bool) → List ℕ → Type 0
+NoneSet ignored c = (i k : ℕ) → ignored i k ≡ true → bit k (octet i c) ≡ false
 
 -- ---- contents of 38 and 39: token, mode, type, and the rest
 
