@@ -97,7 +97,7 @@ module _ (own ap' : List ℕ) (b : ℕ) (f : List ℕ) where
 
   -- ---- the Quiet elements of a beacon or a probe response
 
-  -- those of ID 40 among the elements after the fixed fields, all of them, in their order
+  -- those of ID 40 among the elements after the fixed fields, all of them, in their order (`laid-once`: no other elements have these octets)
   pub every-quiet : (s : Sent) (t : Told) → frameMeans own ap' b f ≡ accepted s → Says (s .kind) t
       → (items : List Item) × (drop (headerLength + fixedLength) f ≡ laid items) × ReadAs (quietMeans b) (ofId 40 items) (t .quiets)
   every-quiet s t e says =
