@@ -11,6 +11,10 @@ use Rattle.octets.specs.declared.writing.Wrote.{Wrote}
 pub once : {A : Type 0} {x y z : A} → x ≡ z → y ≡ z → x ≡ y
 once p q = p ∙ sym q
 
+-- an accepted value
+pub accepted-once : {A : Type 0} {x y : A} → accepted x ≡ accepted y → x ≡ y
+accepted-once e = cc
+
 -- a promise that names what each case of the answer stands for, where the answer can be had back from that
 pub told-once : {X A : Type 0} (tells : X → A) (back : A → X) → ((x : X) → back (tells x) ≡ x) → {x y : X} {o : A} → tells x ≡ o → tells y ≡ o → x ≡ y
 told-once tells back undone {x} {y} p q = sym (undone x) ∙ ap back (p ∙ sym q) ∙ undone y

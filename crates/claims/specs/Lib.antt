@@ -2,6 +2,8 @@ pub mod AnsweredRequests
 pub mod BodyCalls
 pub mod Exchanged
 pub mod FedFiles
+pub mod FilteredFrames
+pub mod Filters
 pub mod Histories
 pub mod HistoryLines
 pub mod Moments
@@ -11,6 +13,7 @@ pub mod PossibleReadings
 pub mod Records
 pub mod RepliesRead
 pub mod ReplyHeads
+pub mod Reserved
 pub mod Runs
 pub mod Standing
 pub mod Tbtts
