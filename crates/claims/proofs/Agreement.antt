@@ -10,7 +10,7 @@ use lib.Dec.{ltb, eqb}
 use lib.Seq.{take-at}
 use Rattle.answer.proofs.Booleans.{either, neither}
 use Rattle.answer.proofs.Judged.{never}
-use Rattle.answer.specs.Checks.{Outcome, refused, accepted, checked}
+use Rattle.answer.specs.Checks.{Outcome, refused, accepted}
 use Rattle.beacon.specs.Allowed.{QuietsAllowed}
 use Rattle.beacon.specs.Beacons.{Told}
 use Rattle.beacon.specs.declared.MaybePower.{MaybePower}

@@ -7,12 +7,11 @@ use mathlib.Core.List.{List}
 use mathlib.Core.Path.{_≡_, refl, sym, ap, ap₂, subst, _∙_}
 use Prim.Native.Nat.{ℕ, _≤_}
 use native.Mathlib.Omega.{arith}
-use borrow.Author.Tests.{ltb-false, le-ltb}
 use lib.Dec.{eqb}
-use lib.ListN.{length, take, drop, length-drop, take-append-drop}
+use lib.ListN.{length, take, length-drop, take-append-drop}
 use Rattle.single_body.specs.Singles.{tpcRequestBody, tpcReportBody, switchBody}
 use Rattle.answer.proofs.Booleans.{both}
-use Rattle.answer.proofs.Judged.{past, done, passed, kept, followed}
+use Rattle.answer.proofs.Judged.{passed, kept, followed}
 use Rattle.answer.specs.Checks.{Outcome, accepted}
 use Rattle.beacon.specs.Beacons.{beaconMeans}
 use Rattle.element.specs.ChannelSwitch.{switchOctets}

@@ -3,14 +3,12 @@ use mathlib.Core.List.{List, [], _∷_, _++_, append-nil}
 use mathlib.Core.Path.{_≡_, refl, sym, ap, ap₂, _∙_, subst}
 use Prim.Native.Nat.{ℕ}
 use denote.Ref.{now}
-use lib.ListN.{length}
-use Rattle.answer.specs.Checks.{accepted}
 use Rattle.capture.proofs.Cutting.{cut-at-block}
 use Rattle.capture.proofs.FedBlocks.{told-after}
 use Rattle.capture.proofs.Fitting.{has-lines, fed-is}
 use Rattle.octets.proofs.Storing.{filled-front}
 use Rattle.capture.specs.Listers.{fresh}
-use Rattle.capture.specs.Lists.{Told, nothing, before, blocksAfter, blocksIn, blocksTold, listOf}
+use Rattle.capture.specs.Lists.{Told, before, blocksAfter, blocksIn, blocksTold, listOf}
 use Rattle.capture.specs.declared.lister.Lister.{Lister}
 use Rattle.line.proofs.InRoom.{from-place}
 use Rattle.line.specs.Lines.{closingOf}

@@ -24,7 +24,7 @@ use Rattle.station.specs.Asking.{firstOf, quietIn, permissionOf}
 use Rattle.station.specs.Clock.{clockAdvance, advanceMeans}
 use Rattle.station.specs.Taking.{announced, informed, takeMeans}
 use Rattle.walk.specs.Elements.{elementsAfter, elementsIn}
-use Rattle.claims.specs.Histories.{frame, advance}
+use Rattle.claims.specs.Histories.{advance}
 use Rattle.claims.specs.Moments.{Moment, asking, AllRight, ours, heard, beaconOf, quiet, announcement}
 use Rattle.claims.specs.Records.{recordAfter}
 

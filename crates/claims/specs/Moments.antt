@@ -9,7 +9,7 @@ use Rattle.octets.specs.Sums.{sumOf}
 use Rattle.fraction.specs.Fractions.{densitiesOf}
 use Rattle.station.specs.Asking.{permissionNumber, permissionOf}
 use Rattle.capture_record.specs.declared.entry.Settings.{Settings}
-use Rattle.claims.specs.Histories.{Call, frame, advance, ask, History}
+use Rattle.claims.specs.Histories.{Call, frame, advance, History}
 use Rattle.claims.specs.Records.{recordAfter}
 
 -- ---- a station and its frames

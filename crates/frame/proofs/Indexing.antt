@@ -5,7 +5,6 @@ use mathlib.Core.List.{List}
 use Prim.Native.Nat.{ℕ}
 use lib.ListN.{length, drop}
 use Rattle.action.specs.Openings.{fixedFields, with}
-use Rattle.answer.proofs.Judged.{never}
 use Rattle.answer.specs.Checks.{Outcome, refused, accepted, andThen}
 use Rattle.answer.specs.declared.Refusal.{Refusal}
 use Rattle.beacon.specs.Beacons.{Told, beaconMeans}
@@ -32,7 +31,7 @@ use Rattle.frame.specs.Actions.{Body, requests, reports, tpcRequest, tpc
 use Rattle.frame.specs.CodeTerms.Located.{unplaced, placed, located, locatedIn, kindMeans, PlaceWithin, meansAt, readThere}
 use Rattle.frame.specs.CodeTerms.SingleFrames.{singleFrame, singleReading}
 use Rattle.frame.specs.Frames.{Kind, beacon, probeResponse, action, kindOf, sent, frameMeans, requestIn, reportIn, ofKind, elementOf}
-use Rattle.frame.specs.Laid.{actionFrame, frameTold, bodyFrame, frameLaid, noticeSubtype}
+use Rattle.frame.specs.Laid.{frameTold, bodyFrame, frameLaid, noticeSubtype}
 use Rattle.frame.specs.declared.Reading.{Reading}
 use Rattle.frame.specs.declared.bodies.Located.{Located}
 use Rattle.frame.proofs.ActionParts.{parts}

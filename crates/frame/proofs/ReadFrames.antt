@@ -2,17 +2,14 @@
 use mathlib.Core.Path.{_≡_, refl, sym, ap, _∙_}
 use mathlib.Core.Bool.{Bool, true, false}
 use mathlib.Core.List.{List, []}
-use Prim.Native.Nat.{ℕ, _≤_}
-use borrow.Author.Tests.{ltb-false}
-use lib.ListN.{length}
+use Prim.Native.Nat.{ℕ}
 use Rattle.answer.specs.Checks.{Outcome, refused, accepted, andThen}
 use Rattle.answer.specs.declared.Refusal.{Refusal}
-use Rattle.answer.proofs.Judged.{never, passed}
+use Rattle.answer.proofs.Judged.{never}
 use Rattle.beacon.specs.Beacons.{Told, beaconMeans}
 use Rattle.beacon.specs.Laid.{laid}
 use Rattle.beacon.specs.declared.Heard.{Heard}
-use Rattle.header.specs.Headers.{bodyOf, headerLength, Head, headerMeans}
-use Rattle.header.proofs.Heard.{has-header}
+use Rattle.header.specs.Headers.{bodyOf, Head, headerMeans}
 use Rattle.frame.specs.Actions.{Body}
 use Rattle.frame.specs.Frames.{Kind, beacon, probeResponse, action, kindOf, sent, frameMeans}
 use Rattle.frame.specs.Laid.{actionFrame, bodyFrame, received, frameLaid, noticeSubtype}

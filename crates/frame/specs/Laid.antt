@@ -3,7 +3,6 @@ use mathlib.Core.Bool.{Bool, true, false}
 use mathlib.Core.List.{List, []}
 use lib.ListN.{length}
 use Rattle.answer.specs.Checks.{Outcome, refused, accepted, andThen}
-use Rattle.beacon.specs.Beacons.{Told}
 use Rattle.beacon.specs.Laid.{slots}
 use Rattle.element.specs.declared.quiet.Quiet.{Quiet}
 use Rattle.header.specs.declared.management.Subtype.{Subtype}

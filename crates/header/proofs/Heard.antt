@@ -1,13 +1,12 @@
 -- What an accepted header says of the frame, and which headers are accepted. Assumes nothing.
 use mathlib.Core.Bool.{Bool, false}
-use mathlib.Core.List.{List, _∷_}
-use mathlib.Core.Path.{_≡_, sym, ap, ap₂, _∙_}
+use mathlib.Core.List.{List}
+use mathlib.Core.Path.{_≡_, sym, ap, _∙_}
 use Prim.Native.Nat.{ℕ, _≤_}
 use borrow.Author.Tests.{ltb-false, le-ltb}
-use lib.Dec.{ltb}
 use lib.ListN.{length}
 use Rattle.answer.proofs.Judged.{passed, followed, past, done}
-use Rattle.answer.specs.Checks.{Outcome, refused, accepted, andThen}
+use Rattle.answer.specs.Checks.{accepted}
 use Rattle.header.specs.Headers.{Head, headerLength, longestFrame, subtype, subtypeOf, toAll, foreignHeader, foreignAddress, managementMeans, addressMeans, headerMeans}
 use Rattle.header.specs.declared.management.Subtype.{Subtype}
 

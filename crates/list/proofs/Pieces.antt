@@ -20,7 +20,7 @@ use Rattle.capture.specs.Lists.{Told, blocksAfter, blocksIn, blocksTold, fileTo
 use Rattle.capture.specs.declared.feeding.Listing.{Listing}
 use Rattle.capture.specs.declared.lister.Lister.{Lister}
 use Rattle.list.specs.CodeTerms.Writing.{CountWithin, WroteAs, going}
-use Rattle.list.specs.Program.{fed, FateAfter, PieceListed, CutAs, Turned, Reached}
+use Rattle.list.specs.Program.{fed, FateAfter, PieceListed, CutAs, Turned, Reached, ClosedAs, Ended}
 use Rattle.list.specs.declared.output.Fate.{Fate}
 use Rattle.list.specs.declared.output.Progress.{Progress}
 
@@ -108,3 +108,13 @@ module _ {p q : Progress} {input out exit : List ℕ} (r : Reached p) (on : p .f
 
   pub one-turn-more : Reached q
   one-turn-more = record { file = r .file ++ piece; same = same; cut = cut }
+
+-- ---- the end
+
+pub ended : (f : Fate) {r : Fate} → ClosedAs f r → Ended r
+ended Fate.Whole (_⊎_.inl e) g = let z : _≡_ {A = ℕ} 0 1 = cc in omega arith
+ended Fate.Whole (_⊎_.inr e) g = let z : _≡_ {A = ℕ} 0 1 = cc in omega arith
+ended Fate.Going e g = let z : _≡_ {A = ℕ} 0 1 = cc in omega arith
+ended Fate.ReadFailed e g = let z : _≡_ {A = ℕ} 0 1 = cc in omega arith
+ended Fate.WriteFailed e g = let z : _≡_ {A = ℕ} 0 1 = cc in omega arith
+ended Fate.TooLong e g = let z : _≡_ {A = ℕ} 0 1 = cc in omega arith

@@ -67,3 +67,7 @@ ClosedAs Fate.Going fate = fate ≡ Fate.TooLong
 ClosedAs Fate.ReadFailed fate = fate ≡ Fate.ReadFailed
 ClosedAs Fate.WriteFailed fate = fate ≡ Fate.WriteFailed
 ClosedAs Fate.TooLong fate = fate ≡ Fate.TooLong
+
+-- it has come to an end
+abbrev pub Ended : Fate → Type 0
+Ended fate = fate ≡ Fate.Going → ⊥

@@ -8,7 +8,7 @@ ghost use Prim.Native.Nat.{_%_};
 ghost use mathlib.Core.Path.{_≡_};
 ghost use Rattle.block.specs.Blocks.{blockSize};
 ghost use Rattle.capture.specs.Listers.{Fits};
-ghost use Rattle.list.specs.Program.{Within, CutAs, Turned, Reached};
+ghost use Rattle.list.specs.Program.{Within, CutAs, Turned, Reached, Ended};
 use capture::Lister;
 use input::Filled;
 use libc::STDERR_FILENO;
@@ -83,7 +83,9 @@ fn list_all(input: &mut [u8], out: &mut [u8]) -> Progress
     progress
 }
 
-fn list() -> Fate {
+fn list() -> Fate
+    ensures { λ r. ⌜ Ended r ⌝ }
+{
     let mut input_space = [0u8; INPUT];
     let input: &mut [u8] = &mut input_space;
     let mut out_space = [0u8; OUTPUT];

@@ -1,7 +1,6 @@
 // Listing a piece of the file, with its lines written at once.
-ghost use mathlib.Core.Bool.{Bool, true};
+ghost use mathlib.Core.Bool.{true};
 ghost use mathlib.Core.Path.{_≡_};
-ghost use Prim.Native.Nat.{_≤_};
 ghost use lib.ListN.{length};
 ghost use Rattle.capture.specs.Listers.{Fits};
 ghost use Rattle.line.specs.Backs.{backed};

@@ -8,7 +8,6 @@ use lib.Seq.{append-snoc, drop-drop, take-append-seam, drop-append-seam}
 use Rattle.action.specs.Openings.{fixedFields}
 use Rattle.answer.specs.Checks.{Outcome, refused, accepted}
 use Rattle.answer.specs.declared.Refusal.{Refusal}
-use Rattle.octets.specs.Elements.{element}
 use Rattle.walk.proofs.RunLaws.{split}
 use Rattle.walk.specs.Elements.{Elements, end, cutHeader, cutContents, more, elementsIn}
 use Rattle.measurement_body.specs.Lists.{Sort, listed, measurementsIn, nth}

@@ -1,5 +1,5 @@
 -- What demand 2 for a list asks of one Measurement Report. Assumes nothing.
-use mathlib.Core.Path.{_≡_, refl}
+use mathlib.Core.Path.{refl}
 use Rattle.measurement_element.specs.MeasurementReport.{reportContents, reportOctets, ReportFits}
 use Rattle.measurement_element.proofs.ReportTrip.{report-trip}
 use Rattle.measurement_element.proofs.ReportWritten.{written-interpreted, written-clear}

@@ -15,8 +15,8 @@ use Rattle.octets.proofs.SumLaws.{zero-sum}
 use Rattle.octets.specs.Numbers.{Octets, octet, octetsFrom, bit}
 use Rattle.octets.proofs.JoinSplit.{all-from}
 use Rattle.octets.specs.Elements.{RoundTrip}
-use Rattle.measurement_element.specs.Found.{foundBy, foundSize, foundAgrees, foundClear, foundOctets, hasDensities}
-use Rattle.measurement_element.specs.MeasurementReport.{reportFlags, reportMeasured, reportMatterIn, noDensities, isHistogram, densitiesIn, reportOf, reportIn, reportMisfits, reportForbids, reportMeans, reasonMode, reportMode, reportContents, matterInterpreted, reportInterpreted, reportAgrees, silent, reportMay, reportOctets, mapClear, reportClear, ReportMatterFits, ReportFits, reportSize}
+use Rattle.measurement_element.specs.Found.{foundBy, foundSize, foundAgrees, foundClear, foundOctets}
+use Rattle.measurement_element.specs.MeasurementReport.{reportFlags, reportMeasured, reportMatterIn, noDensities, isHistogram, densitiesIn, reportOf, reportIn, reportMisfits, reportForbids, reportMeans, reportMode, reportContents, matterInterpreted, reportInterpreted, reportAgrees, silent, reportMay, reportOctets, mapClear, reportClear, ReportMatterFits, ReportFits, reportSize}
 use Rattle.measurement_element.specs.Span.{spanIn}
 use Rattle.measurement_element.specs.declared.span.Span.{Span}
 use Rattle.measurement_element.specs.declared.found.Found.{Found}

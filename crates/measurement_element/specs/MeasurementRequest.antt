@@ -13,7 +13,6 @@ use Rattle.measurement_element.specs.Span.{spanIn, spanOctets, spanForbi
 use Rattle.measurement_element.specs.declared.measurement_request.Matter.{Matter}
 use Rattle.measurement_element.specs.declared.measurement_request.Reading.{Reading}
 use Rattle.measurement_element.specs.declared.measurement_request.Request.{Request}
-use Rattle.measurement_element.specs.declared.span.Span.{Span}
 
 -- the outcome that each case of the answer stands for
 abbrev pub requestTold : Reading → Outcome Request

@@ -1,12 +1,12 @@
 -- `read` meets its contract: the one check after the other.
-use mathlib.Core.Path.{_≡_, refl, sym, ap, _∙_}
+use mathlib.Core.Path.{_≡_, sym, ap, _∙_}
 use mathlib.Core.Bool.{Bool}
 use mathlib.Core.List.{List}
 use Prim.Native.Nat.{ℕ}
 use denote.Ref.{now}
 use Rattle.answer.specs.Checks.{Outcome, refused, accepted, andThen}
 use Rattle.answer.specs.declared.Refusal.{Refusal}
-use Rattle.header.specs.Headers.{Head, addressMeans, addressTold, managementMeans, managementTold, headerMeans}
+use Rattle.header.specs.Headers.{addressMeans, addressTold, managementMeans, managementTold, headerMeans}
 use Rattle.header.specs.declared.management.Subtype.{Subtype}
 use borrow.Author.Needs.{needs}
 use Rattle.header.proofs.read.Statement.{statement}

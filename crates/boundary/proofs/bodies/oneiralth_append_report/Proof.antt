@@ -3,9 +3,7 @@
 use mathlib.Core.Path.{subst}
 use borrow.Author.Needs.{needs}
 use denote.Ref.{now}
-use mathlib.Core.Bool.{true, _&&_}
-use lib.Dec.{leb}
-use lib.ListN.{length, take}
+use lib.ListN.{take}
 use Rattle.measurement_body.specs.Bodies.{mayAppend, appended}
 use Rattle.measurement_body.specs.Reports.{reportSort}
 use Rattle.measurement_element.specs.declared.measurement_report.Report.{Report}

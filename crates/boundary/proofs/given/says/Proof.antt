@@ -1,6 +1,6 @@
 -- `says` meets its contract: a number for each case.
 use mathlib.Core.Path.{_∙_}
-use borrow.Author.Tests.{eq-eqb, ne-eqb}
+use borrow.Author.Tests.{ne-eqb}
 use Rattle.boundary.specs.Given.{saysGiven}
 use borrow.Author.Needs.{needs}
 use Rattle.boundary.proofs.given.says.Statement.{statement}

@@ -4,12 +4,12 @@ use mathlib.Core.Bool.{true, false}
 use mathlib.Core.List.{List}
 use Prim.Native.Nat.{ℕ}
 use denote.Ref.{now}
-use Rattle.answer.specs.Checks.{Outcome, accepted}
-use Rattle.header.specs.Headers.{bodyOf, headerTold, Head, headerMeans}
+use Rattle.answer.specs.Checks.{accepted}
+use Rattle.header.specs.Headers.{bodyOf, headerTold}
 use Rattle.header.specs.declared.management.Subtype.{Subtype}
 use Rattle.frame.specs.Actions.{actionMeans}
 use Rattle.frame.specs.CodeTerms.Located.{unplaced, locatedIn, kindMeans}
-use Rattle.frame.specs.Frames.{Kind, kindOf}
+use Rattle.frame.specs.Frames.{kindOf}
 use Rattle.frame.specs.declared.Received.{Received}
 use Rattle.frame.proofs.Indexing.{of-action, of-notice, by-header}
 use borrow.Author.Needs.{needs}

@@ -1,7 +1,6 @@
 -- `read_address` meets its contract: the one check, then whom the frame was sent to.
-use mathlib.Core.Path.{_≡_, sym, ap, _∙_}
-use mathlib.Core.Bool.{Bool}
-use Rattle.answer.specs.Checks.{Outcome, accepted}
+use mathlib.Core.Path.{sym, ap, _∙_}
+use Rattle.answer.specs.Checks.{accepted}
 use Rattle.answer.proofs.Judged.{past, stop, done}
 use Rattle.header.specs.Headers.{addressMeans}
 use borrow.Author.Needs.{needs}

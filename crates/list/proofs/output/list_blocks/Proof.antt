@@ -1,8 +1,6 @@
 -- `list_blocks` meets its contract: what the lister made is written.
-use mathlib.Core.Path.{refl, ap, sym, subst}
-use denote.Ref.{now}
+use mathlib.Core.Path.{refl, sym, subst}
 use Rattle.capture.specs.Listers.{Fits}
-use Rattle.capture.specs.declared.lister.Lister.{Lister}
 use Rattle.list.proofs.Pieces.{within, listed-as}
 use borrow.Author.Needs.{needs}
 use Rattle.list.proofs.output.list_blocks.Statement.{statement}

@@ -1,6 +1,6 @@
 -- `write_lines` meets its contract: the lines lie in the buffer, and the listing stands by whether they were made and written.
 use mathlib.Core.Logic.{_⊎_}
-use mathlib.Core.Path.{_≡_, refl, sym, subst}
+use mathlib.Core.Path.{refl, sym, subst}
 use Prim.Native.Nat.{_≤_}
 use denote.Ref.{now}
 use lib.ListN.{length}

@@ -1,6 +1,5 @@
 -- `measurement_report::is_silent` meets its contract: after i turns it has the sum of the first i densities, each below 256.
 use mathlib.Core.Path.{_≡_, sym, ap, _∙_}
-use mathlib.Core.Bool.{Bool, false}
 use Prim.Native.Nat.{ℕ, _-_, _*_, _≤_}
 use native.Mathlib.Omega.{arith}
 use borrow.Author.Needs.{needs}
