@@ -5,7 +5,7 @@ use Rattle.list.proofs.list.Statement.{statement}
 use Rattle.list.proofs.list.Tie as tie
 
 returns : tie.Need-returns
-returns c = ended _ (c .finish .ensures)
+returns c = ended (c .before .before .before .list-all .result .fate) (c .finish .ensures)
 
 pub list-spec : {M : Type 1} → statement M
 list-spec =
