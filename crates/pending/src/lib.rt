@@ -1,5 +1,6 @@
 // A pending channel switch (document 01, "The station"; 802.11h 11.6.7).
 ghost use mathlib.Core.Path.{_≡_};
+ghost use Prim.Native.Nat.{_*_, _/_};
 ghost use Rattle.pending.specs.Waiting.{pendingBy, silences, upTo, comesBefore};
 use element::channel_switch::ChannelSwitch;
 
@@ -15,13 +16,24 @@ pub enum Pending {
     Switch(Switch),
 }
 
+// The latest TBTT at a moment: moment 0 and every multiple of the interval is one.
+fn latest_tbtt(clock: u32, interval: u16) -> u32
+    ensures { λ r. ⌜ r ≡ clock / interval * interval ⌝ }
+{
+    if interval == 0 {
+        return 0;
+    }
+    clock - clock % (interval as u32)
+}
+
 impl Pending {
-    // The switch that an announcement sets when so many whole beacon intervals have passed: its count is one of TBTTs, not of intervals from now.
-    // Every factor has a narrow type, so nothing wraps.
-    pub fn set_by(switch: ChannelSwitch, passed: u32, interval: u16) -> Pending
-        ensures { λ r. ⌜ r ≡ pendingBy switch passed interval ⌝ }
+    // The switch that an announcement sets at a moment: its count is one of TBTTs, so it runs from the latest and not from the moment of arrival.
+    // Every term has a narrow type, so nothing wraps.
+    pub fn set_by(switch: ChannelSwitch, clock: u32, interval: u16) -> Pending
+        ensures { λ r. ⌜ r ≡ pendingBy switch (clock / interval) interval ⌝ }
     {
-        let at = ((passed as u64) + (switch.count as u64)) * (interval as u64);
+        let tbtt = latest_tbtt(clock, interval);
+        let at = (tbtt as u64) + (switch.count as u64) * (interval as u64);
         Pending::Switch(Switch {
             at,
             mode: switch.mode,

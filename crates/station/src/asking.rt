@@ -58,11 +58,12 @@ impl Station {
         requires { ⌜ Valid self ⌝ }
         ensures { λ r. ⌜ r ≡ permissionOf self units ⌝ }
     {
+        let wrong = Permission::WrongLength;
         if units == 0 {
-            return Permission::WrongLength;
+            return wrong;
         }
         if Station::UNIT_LIMIT < units {
-            return Permission::WrongLength;
+            return wrong;
         }
         let pending = self.pending;
         let first = self.clock as u64;

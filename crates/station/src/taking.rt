@@ -38,15 +38,24 @@ impl Station {
         self.clock / (self.interval as u32)
     }
 
-    // The schedules of the first `count` Quiet elements take the place of all there were.
+    // The schedules of the first `count` Quiet elements take the place of all there were: most beacons have none, and none is left then.
     fn rescheduled(self, quiets: [Quiet; QUIETS], count: usize) -> Station
         requires { ⌜ 1 ≤ self .interval ⌝ }
         ensures { λ r. ⌜ r ≡ rescheduled self (take count quiets) ⌝ }
     {
         let count = at_most_all(count);
+        let blank = [Station::NO_SCHEDULE; Station::SCHEDULE_LIMIT];
+        let none = Station {
+            schedules: blank,
+            count: 0,
+            ..self
+        };
+        if count == 0 {
+            return none;
+        }
         let interval = self.interval;
         let passed = self.passed();
-        let mut schedules = [Station::NO_SCHEDULE; Station::SCHEDULE_LIMIT];
+        let mut schedules = blank;
         let mut i = 0;
         while i < count {
             let quiet = quiets[i];
@@ -74,13 +83,12 @@ impl Station {
     // An announcement takes the place of any that is pending. Its count is one of TBTTs, not of intervals from now; a count of 0
     // is the switch itself.
     fn announced(self, switch: ChannelSwitch) -> Station
-        requires { ⌜ 1 ≤ self .interval ⌝ }
         ensures { λ r. ⌜ r ≡ announced self switch ⌝ }
     {
         if switch.count == 0 {
             return self.switched(switch.channel);
         }
-        let pending = Pending::set_by(switch, self.passed(), self.interval);
+        let pending = Pending::set_by(switch, self.clock, self.interval);
         Station { pending, ..self }
     }
 

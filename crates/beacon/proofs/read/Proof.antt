@@ -131,7 +131,7 @@ returns-6 c =
 array-set-from-quiets : tie.Need-array-set-from-quiets Inv-loop μ-loop
 array-set-from-quiets c =
     let s = c .before .before .before in
-    slot-free _ _ _ _ _ _ (walked s) _ _ (after s) (goes-on s) _ (comes s _ (c .before .quiet .given .1))
+    omega (arith, slot-free _ _ _ _ _ _ (walked s) _ _ (after s) (goes-on s) _ (comes s _ (c .before .quiet .given .1)))
 
 loop-less : tie.Need-loop-less Inv-loop μ-loop
 loop-less c = let w = inside (c .before .before .before .before .before) in omega arith

@@ -13,9 +13,8 @@ returns c = c .switched .ensures ∙ rw (eq-eqb _ _ (c .before .if1 .taken))
 
 returns-2 : tie.Need-returns-2
 unfolding announced
-returns-2 c =
-    rw (ne-eqb _ _ (c .before .before .before .before .before .if1 .left), c .before .before .before .set-by .ensures, c .before .before .before .before .passed .ensures)
+returns-2 c = let k = c .before .before .before in rw (ne-eqb _ _ (k .before .if1 .left), k .set-by .ensures)
 
 pub announced-spec : {M : Type 1} → statement M
 announced-spec =
-    tie.close (tie.spec (λ c κs. search needs) returns (λ c κs. search needs) (λ c κs. search needs) returns-2)
+    tie.close (tie.spec (λ c κs. search needs) returns (λ c κs. search needs) returns-2)
