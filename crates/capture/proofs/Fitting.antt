@@ -37,8 +37,8 @@ module _ (l : Lister) (f : Fits l) (h : l .blocks < blockLimit) where
       }
 
   -- the lister before the records of a block
-  pub sound-counted : Sound (oneBlockMore l 0)
-  sound-counted = record { followed = f .sound .followed; idle = f .sound .idle }
+  pub sound-counted : (n : ℕ) → Sound (oneBlockMore l n)
+  sound-counted n = record { followed = f .sound .followed; idle = f .sound .idle }
 
   pub fits-listed : (t : Told) (next : Lister) (count : ℕ) → Listed (oneBlockMore l 0) t next count → Fits next
   fits-listed t next count w =

@@ -1,7 +1,7 @@
 -- The lines of a block, one after the other. Assumes nothing.
 use mathlib.Core.Bool.{Bool, true, false}
 use mathlib.Core.List.{List, [], _++_, append-assoc, append-nil}
-use mathlib.Core.Path.{_≡_, refl, sym, ap, _∙_, subst}
+use mathlib.Core.Path.{_≡_, refl, sym, ap, ap₂, _∙_, subst}
 use Prim.Native.Nat.{ℕ, _+_, _*_, _-_, _<_, _≤_}
 use native.Mathlib.Omega.{arith}
 use lib.ListN.{length, drop, length-append}
@@ -10,6 +10,7 @@ use Rattle.block.specs.Blocks.{payload}
 use Rattle.line.specs.Backs.{lineRoom}
 use Rattle.octets.specs.Writing.{left, filled}
 use Rattle.octets.proofs.Storing.{filled-length, after-left}
+use Rattle.capture_record.proofs.Walking as Walking
 use Rattle.capture_record.specs.Entries.{Noted, malformed, starting, advancing, hearing, asking, entryTold, entryMeans}
 use Rattle.capture_record.specs.Records.{Records, end, cut, more, recordsIn}
 use Rattle.capture_record.specs.declared.entry.Entry.{Entry}
@@ -133,10 +134,35 @@ module _ {used : List ℕ} {l₀ : Lister} {out₀ out : List ℕ} {l : Lister} 
             after (lineFor a .text) exit (omega (arith, w .place, w .short)) (w .leaves) ∙ ap (λ (xs : List ℕ). filled xs out₀) (sym text),
           )
 
+    -- the line with those after it, from `to` on
+    told-on : (to : ℕ) → at + 3 ≤ to → to ≤ length used
+        → recorded (recordsIn (drop at used)) l ≡ before (lineFor a .text) (recorded (recordsIn (drop to used)) (put .lister))
+        → Inv used l₀ out₀ exit (put .lister) (put .count) to
+    told-on to past within e =
+        record {
+          lines = i .lines ++ lineFor a .text;
+          told = i .told ∙ ap (before (i .lines)) e ∙ before-before (i .lines) (lineFor a .text) (recorded (recordsIn (drop to used)) (put .lister));
+          stands = after (lineFor a .text) exit (omega (arith, w .place, w .short)) (w .leaves);
+          many = w .place ∙ ap (λ (n : ℕ). n + length (lineFor a .text)) (i .many) ∙ sym (length-append (i .lines) (lineFor a .text));
+          sound = sound-more;
+          inside = within;
+          room = omega (arith, i .room, i .inside, w .short);
+          few = omega (arith, i .few, i .inside, ap (λ (x : Lister). x .lines) (w .after), w .follows .same-lines);
+          same-blocks = ap (λ (x : Lister). x .blocks) (w .after) ∙ w .follows .same-blocks ∙ i .same-blocks;
+          same-damaged = ap (λ (x : Lister). x .damaged) (w .after) ∙ w .follows .same-damaged ∙ i .same-damaged;
+        }
+
+    -- past the end there is none
+    nothing-more : lineFor a ≡ before (lineFor a .text) (recorded (recordsIn (drop (length used) used)) (put .lister))
+    unfolding recorded
+    nothing-more =
+        ap₂ (λ (x : Lister) (xs : List ℕ). record { lister = x; text = xs }) (sym (w .after)) (sym (append-nil (lineFor a .text)))
+        ∙ ap (λ (rs : Records). before (lineFor a .text) (recorded rs (put .lister))) (sym (Walking.at-end used (length used) (omega arith)))
+
     -- a line with more after it: `stop` is where the next record begins
     module _ (kind : ℕ) (c : List ℕ) (stop : ℕ) (e : recordsIn (drop at used) ≡ more kind c (recordsIn (drop stop used))) (past : at + 3 ≤ stop)
         (within : stop ≤ length used) (says : lineFor a ≡ noted l (entryMeans kind c)) where
-      pub bad-line : isMalformed (entryMeans kind c) ≡ true → recorded (recordsIn (drop at used)) l ≡ lineFor a
+      bad-line : isMalformed (entryMeans kind c) ≡ true → recorded (recordsIn (drop at used)) l ≡ lineFor a
       unfolding recorded
       bad-line m =
           ap (λ (rs : Records). recorded rs l) e
@@ -152,19 +178,11 @@ module _ {used : List ℕ} {l₀ : Lister} {out₀ out : List ℕ} {l : Lister} 
           ∙ ap (λ (x : Lister). before (lineFor a .text) (recorded (recordsIn (drop stop used)) x)) (sym (w .after))
 
       pub next-line : isMalformed (entryMeans kind c) ≡ false → Inv used l₀ out₀ exit (put .lister) (put .count) stop
-      next-line m =
-          record {
-            lines = i .lines ++ lineFor a .text;
-            told = i .told ∙ ap (before (i .lines)) (good-line m) ∙ before-before (i .lines) (lineFor a .text) (recorded (recordsIn (drop stop used)) (put .lister));
-            stands = after (lineFor a .text) exit (omega (arith, w .place, w .short)) (w .leaves);
-            many = w .place ∙ ap (λ (n : ℕ). n + length (lineFor a .text)) (i .many) ∙ sym (length-append (i .lines) (lineFor a .text));
-            sound = sound-more;
-            inside = within;
-            room = omega (arith, i .room, i .inside, w .short);
-            few = omega (arith, i .few, i .inside, ap (λ (x : Lister). x .lines) (w .after), w .follows .same-lines);
-            same-blocks = ap (λ (x : Lister). x .blocks) (w .after) ∙ w .follows .same-blocks ∙ i .same-blocks;
-            same-damaged = ap (λ (x : Lister). x .damaged) (w .after) ∙ w .follows .same-damaged ∙ i .same-damaged;
-          }
+      next-line m = told-on stop past within (good-line m)
+
+      -- the rest of the block is dropped
+      pub dropped-line : isMalformed (entryMeans kind c) ≡ true → Inv used l₀ out₀ exit (put .lister) (put .count) (length used)
+      dropped-line m = told-on (length used) (omega arith) (omega arith) (bad-line m ∙ nothing-more)
 
 pub begins : (used : List ℕ) (l : Lister) (out : List ℕ) → length used ≤ payload → Sound l → Inv used l out out l 0 0
 begins used l out h s =

@@ -28,8 +28,7 @@ pub struct Listing {
 
 // The lister with one block more.
 fn counted(lister: Lister, damaged: u64) -> Lister
-    requires { ⌜ Fits lister ⌝ }
-    requires { ⌜ (damaged ≤ 1) × (lister .blocks < blockLimit) ⌝ }
+    requires { ⌜ (damaged ≤ 1) × (lister .blocks < blockLimit) × (lister .damaged ≤ lister .blocks) ⌝ }
     ensures { λ r. ⌜ r ≡ oneBlockMore lister damaged ⌝ }
 {
     Lister {
@@ -47,11 +46,17 @@ fn put_damaged(lister: Lister, out: &mut [u8]) -> Put
     ensures { λ _. ⌜ now (out .exit) ≡ filled (damagedTold lister .text) (now (out .entry)) ⌝ }
 {
     let answered = Answered {
-        lister: lister::without(counted(lister, 1)),
+        lister: lister::without(lister),
         word: Word::Block,
         answer: Response::Call(Answer::Refused(Refusal::BlockDamaged)),
     };
-    listing::put_line(answered, out, 0)
+    let put = listing::put_line(answered, out, 0);
+    let numbered = put.lister;
+    let count = put.count;
+    Put {
+        lister: counted(numbered, 1),
+        count,
+    }
 }
 
 // The lines of a block, damaged or not.

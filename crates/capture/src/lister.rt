@@ -44,10 +44,10 @@ pub fn without(lister: Lister) -> Lister
     ensures { λ r. ⌜ r ≡ without lister ⌝ }
 {
     let active = false;
-    let station = Station::nobody();
+    let nobody = Station::nobody();
     Lister {
         active,
-        station,
+        station: nobody,
         ..lister
     }
 }

@@ -90,7 +90,11 @@ pub fn put_records(lister: Lister, used: &[u8], out: &mut [u8]) -> Put
                 let contents = &used[start..end];
                 match stepping::step_by(next, capture_record::entry_of(kind, contents)) {
                     Step::Malformed => {
-                        return put_line(noting::malformed(next), out, count);
+                        let put = put_line(noting::malformed(next), out, count);
+                        next = put.lister;
+                        count = put.count;
+                        // The rest of the block is dropped.
+                        at = used.len();
                     }
                     Step::Told {
                         word,
@@ -101,14 +105,15 @@ pub fn put_records(lister: Lister, used: &[u8], out: &mut [u8]) -> Put
                         next.lines += 1;
                         next.station.clock = clock;
                         count = put_numbered(next.lines, word, answer, out, count);
+                        at = end;
                     }
                     Step::Change(change) => {
                         let put = put_line(noting::note(next, change, contents), out, count);
                         next = put.lister;
                         count = put.count;
+                        at = end;
                     }
                 }
-                at = end;
             }
         }
     }

@@ -5,6 +5,7 @@ use mathlib.Core.Path.{_≡_}
 use Prim.Native.Nat.{ℕ}
 use Rattle.capture_record.specs.Entries.{Noted, starting, advancing, hearing, settingsOf}
 use Rattle.capture_record.specs.declared.entry.Entry.{Entry}
+use Rattle.line.specs.declared.words.Word.{Word}
 use Rattle.station.specs.Stations.{withClock}
 use Rattle.capture.specs.Listers.{withStation, Sound}
 use Rattle.capture.specs.Lists.{Told, line, badRecord, noted}
@@ -32,6 +33,22 @@ abbrev pub ChangeFits : Lister → Change → Type 0
 ChangeFits l Change.Start = Unit {0}
 ChangeFits l Change.Frame = l .active ≡ true
 ChangeFits l (Change.Advance n) = l .active ≡ true
+
+-- a record for a station where none is started: a malformed one is for none, with a station or without
+abbrev pub lacksStation : Bool → Entry → Bool
+lacksStation missing Entry.Malformed = false
+lacksStation missing Entry.Start = false
+lacksStation missing (Entry.Advance n) = missing
+lacksStation missing Entry.Frame = missing
+lacksStation missing (Entry.Ask n) = missing
+
+-- the word of a record's line
+abbrev pub wordFor : Entry → Word
+wordFor Entry.Malformed = Word.Record
+wordFor Entry.Start = Word.Start
+wordFor (Entry.Advance n) = Word.Advance
+wordFor Entry.Frame = Word.Frame
+wordFor (Entry.Ask n) = Word.Ask
 
 -- whether the rest of the block is dropped
 abbrev pub entryMalformed : Entry → Bool

@@ -51,7 +51,7 @@ put-records-requires c κs =
     let l = start k .args .lister in
     let pre = start k .pre in
     let counted = c .before .before .counted .ensures in (
-      subst Sound (sym counted) (sound-counted l (pre .0) (pre .1 .0)),
+      subst Sound (sym counted) (sound-counted l (pre .0) (pre .1 .0) _),
       (
         omega (arith, size k, length-take n (take (length b - 2) (drop 2 b))),
         omega (arith, pre .1 .1),

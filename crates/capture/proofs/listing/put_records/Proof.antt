@@ -21,7 +21,7 @@ use Rattle.capture.specs.CodeTerms.Stepping.{clockedAt, stepTold, entryM
 use Rattle.capture.specs.declared.lister.Lister.{Lister}
 use Rattle.capture.specs.declared.noting.Answered.{Answered}
 use Rattle.capture.specs.declared.stepping.Step.{Step}
-use Rattle.capture.proofs.Recording.{Inv, Written, same-malformed, begins, same-size, one-more, size-after, at-end, last-line, cut-line, bad-line, next-line}
+use Rattle.capture.proofs.Recording.{Inv, Written, same-malformed, begins, same-size, one-more, size-after, at-end, last-line, cut-line, next-line, dropped-line}
 use Rattle.capture.proofs.listing.put_records.Statement.{statement}
 use Rattle.capture.proofs.listing.put_records.Tie as tie
 
@@ -174,24 +174,21 @@ put-bad c =
     let p = c .put-line2 .ensures in
     record { follows = c .before .before .malformed2 .ensures .1; after = p .0; place = p .1 .0 .0; short = p .1 .0 .1; leaves = p .1 .1 }
 
-same-length-3 : tie.Need-same-length-3 Inv-loop μ-loop
-same-length-3 c =
-    let p = c .before .before in
-    let l = place (whole (p .before .before .before .before .before)) in
-    size-after (big l) (l .loop .inv) _ (p .put-line2 .result) _ (put-bad p)
+loop-less : tie.Need-loop-less Inv-loop μ-loop
+loop-less c =
+    let w = inside (whole (c .before .before .before .before .before .before .before .before)) in
+    omega (arith, w)
 
-returns-3 : tie.Need-returns-3 Inv-loop μ-loop
-returns-3 c =
-    let p = c .before .before in
+loop-again : tie.Need-loop-again Inv-loop μ-loop
+loop-again c =
+    let p = c .before .before .before in
     let m = p .before .before in
     let s = m .before .before .before in
     let k = whole s in
     let l = place k in
     let e = m .before .enum-told3 .given .1 in
-    last-line (big l) (l .loop .inv) (m .malformed2 .result) (p .put-line2 .result) _ (put-bad p)
-    (bad-line (big l) (l .loop .inv) (m .malformed2 .result) (p .put-line2 .result) _ (put-bad p) _ (contentsIn k) (endIn k) (goes-on k) (omega (arith, inside k)) (omega (arith, inside k))
-    (m .malformed2 .ensures .0 ∙ says s Step.Malformed e)
-    (bad (s .before) true (fits s Step.Malformed e)))
+    dropped-line (big l) (l .loop .inv) (m .malformed2 .result) (p .put-line2 .result) _ (put-bad p) _ (contentsIn k) (endIn k) (goes-on k) (omega (arith, inside k)) (omega (arith, inside k))
+    (m .malformed2 .ensures .0 ∙ says s Step.Malformed e) (bad (s .before) true (fits s Step.Malformed e))
 
 -- ---- a line, and the clock
 
@@ -228,11 +225,11 @@ put-told c =
       leaves = p .1;
     }
 
-loop-less : tie.Need-loop-less Inv-loop μ-loop
-loop-less c = let w = inside (whole (told-at (c .before .before .before .before .before .before))) in omega (arith, w)
+loop-less-2 : tie.Need-loop-less-2 Inv-loop μ-loop
+loop-less-2 c = let w = inside (whole (told-at (c .before .before .before .before .before .before))) in omega (arith, w)
 
-loop-again : tie.Need-loop-again Inv-loop μ-loop
-loop-again c =
+loop-again-2 : tie.Need-loop-again-2 Inv-loop μ-loop
+loop-again-2 c =
     let p = c .before .before in
     let t = p .before .before .before .before in
     let s = told-at t in
@@ -267,11 +264,11 @@ put-so c =
     let p = c .put-line3 .ensures in
     record { follows = c .before .before .note .ensures .1; after = p .0; place = p .1 .0 .0; short = p .1 .0 .1; leaves = p .1 .1 }
 
-loop-less-2 : tie.Need-loop-less-2 Inv-loop μ-loop
-loop-less-2 c = let w = inside (whole (changed-at (c .before .before .before .before .before .before))) in omega (arith, w)
+loop-less-3 : tie.Need-loop-less-3 Inv-loop μ-loop
+loop-less-3 c = let w = inside (whole (changed-at (c .before .before .before .before .before .before))) in omega (arith, w)
 
-loop-again-2 : tie.Need-loop-again-2 Inv-loop μ-loop
-loop-again-2 c =
+loop-again-3 : tie.Need-loop-again-3 Inv-loop μ-loop
+loop-again-3 c =
     let p = c .before .before .before in
     let n = p .before .before in
     let t = n .before in
@@ -306,15 +303,15 @@ put-records-spec =
     (λ c. search needs)
     (λ c κs. search needs)
     put-line-requires-2
-    same-length-3
-    returns-3
+    loop-less
+    loop-again
     (λ c. search needs)
     add-next
     put-numbered-requires
+    loop-less-2
+    loop-again-2
     (λ c. search needs)
     note-requires
     put-line-requires-3
-    loop-less
-    loop-again
-    loop-less-2
-    loop-again-2)
+    loop-less-3
+    loop-again-3)
