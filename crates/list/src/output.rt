@@ -8,7 +8,6 @@ ghost use Rattle.line.specs.Lines.{closingOf};
 ghost use Rattle.list.specs.Program.{ClosedAs, PieceListed};
 ghost use Rattle.list.specs.CodeTerms.Writing.{CountWithin, WroteAs, going};
 use capture::Lister;
-use capture::Listing;
 use libc::STDOUT_FILENO;
 use line::Text;
 use octets::Wrote;
@@ -41,23 +40,17 @@ pub fn goes_on(progress: Progress) -> bool
 }
 
 // Writes the lines that stand in front of the buffer. The listing then stands as `said`, unless they could not be made or written.
-fn write_lines(listing: Listing, out: &[u8], said: Fate) -> Progress
-    requires { ⌜ CountWithin (listing .wrote) (length (now out)) ⌝ }
-    ensures { λ r. ⌜ (r .lister ≡ listing .lister) × WroteAs (listing .wrote) said (r .fate) ⌝ }
+fn write_lines(wrote: Wrote, out: &[u8], said: Fate) -> Fate
+    requires { ⌜ CountWithin wrote (length (now out)) ⌝ }
+    ensures { λ r. ⌜ WroteAs wrote said r ⌝ }
 {
-    let lister = listing.lister;
-    let wrote = listing.wrote;
     match wrote {
-        Wrote::Refused(_) => {
-            let fate = Fate::TooLong;
-            Progress { lister, fate }
-        }
+        Wrote::Refused(_) => Fate::TooLong,
         Wrote::Length(count) => {
             if io::write_all(STDOUT_FILENO, &out[..count]) {
-                return Progress { lister, fate: said };
+                return said;
             }
-            let fate = Fate::WriteFailed;
-            Progress { lister, fate }
+            Fate::WriteFailed
         }
     }
 }
@@ -69,7 +62,10 @@ pub fn list_blocks(lister: Lister, piece: &[u8], out: &mut [u8], said: Fate) -> 
     ensures { λ r. ⌜ Fits (r .lister) ⌝ }
 {
     let listing = lister.feed_all(piece, out);
-    write_lines(listing, out, said)
+    let next = listing.lister;
+    let wrote = listing.wrote;
+    let fate = write_lines(wrote, out, said);
+    Progress { lister: next, fate }
 }
 
 // The closing line of a listing.

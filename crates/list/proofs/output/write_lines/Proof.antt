@@ -12,9 +12,9 @@ use borrow.Author.Needs.{needs}
 use Rattle.list.proofs.output.write_lines.Statement.{statement}
 use Rattle.list.proofs.output.write_lines.Tie as tie
 
-inside : (c : tie.After-known-told) → c .before .wrote .given .0 .0 ≤ length (now (c .before .before .before .before .before .args .out))
+inside : (c : tie.After-known-told) → c .before .wrote .given .0 .0 ≤ length (now (c .before .before .before .before .args .out))
 inside c =
-    let s = c .before .before .before .before .before in
+    let s = c .before .before .before .before in
     subst (λ (w : Wrote). CountWithin w (length (now (s .args .out)))) (c .before .wrote .given .1) (s .pre)
 
 slice-aggregate-write-all : tie.Need-slice-aggregate-write-all
@@ -22,18 +22,16 @@ slice-aggregate-write-all c = sym (length-take-le _ _ (inside (c .before)))
 
 returns : tie.Need-returns
 returns c =
-    let s = c .before .before .before .before .before .before .before .before in
-    (refl, subst (λ (w : Wrote). WroteAs w (s .args .said) (s .args .said)) (sym (c .before .before .before .before .wrote .given .1)) (_⊎_.inl refl))
+    let said = c .before .before .before .before .before .before .before .args .said in
+    subst (λ (w : Wrote). WroteAs w said said) (sym (c .before .before .before .before .wrote .given .1)) (_⊎_.inl refl)
 
 returns-2 : tie.Need-returns-2
-returns-2 c =
-    let s = c .before .before .before .before in
-    (refl, subst (λ (w : Wrote). WroteAs w (s .args .said) Fate.TooLong) (sym (c .enum-told .given .1)) refl)
+returns-2 c = subst (λ (w : Wrote). WroteAs w (c .before .before .before .args .said) Fate.TooLong) (sym (c .enum-told .given .1)) refl
 
 returns-3 : tie.Need-returns-3
 returns-3 c =
-    let s = c .before .before .before .before .before .before .before .before in
-    (refl, subst (λ (w : Wrote). WroteAs w (s .args .said) Fate.WriteFailed) (sym (c .before .before .before .before .wrote .given .1)) (_⊎_.inr refl))
+    let said = c .before .before .before .before .before .before .before .args .said in
+    subst (λ (w : Wrote). WroteAs w said Fate.WriteFailed) (sym (c .before .before .before .before .wrote .given .1)) (_⊎_.inr refl)
 
 pub write-lines-spec : {M : Type 1} → statement M
 write-lines-spec =

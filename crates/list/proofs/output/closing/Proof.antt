@@ -1,0 +1,14 @@
+-- `closing` meets its contract: the line has the lister's own counts.
+use borrow.Author.Needs.{needs}
+use Rattle.list.proofs.output.closing.Statement.{statement}
+use Rattle.list.proofs.output.closing.Tie as tie
+
+returns : tie.Need-returns
+returns c = c .closing .ensures
+
+pub closing-spec : {M : Type 1} → statement M
+closing-spec =
+    tie.close
+    (tie.spec
+    (λ c κs. search needs)
+    returns)
