@@ -6,7 +6,8 @@ ghost use lib.ListN.{length, take};
 ghost use Rattle.beacon.specs.Beacons.{quietLimit, tells};
 ghost use Rattle.element.specs.declared.quiet.Quiet.{Quiet};
 ghost use Rattle.frame.specs.Allowed.{ReceivedAllowed};
-ghost use Rattle.station.specs.Taking.{passed, rescheduled, constrained, announced, informed, changedBy, heardOf, takeOf};
+ghost use Rattle.pending.specs.Waiting.{pendingBy};
+ghost use Rattle.station.specs.Taking.{passed, rescheduled, constrained, announced, announcedIf, informed, changedBy, heardOf, takeOf};
 ghost use Rattle.station.specs.Validity.{Valid};
 use crate::Station;
 use crate::Stepped;
@@ -38,24 +39,15 @@ impl Station {
         self.clock / (self.interval as u32)
     }
 
-    // The schedules of the first `count` Quiet elements take the place of all there were: most beacons have none, and none is left then.
+    // The schedules of the first `count` Quiet elements take the place of all there were.
     fn rescheduled(self, quiets: [Quiet; QUIETS], count: usize) -> Station
         requires { ⌜ 1 ≤ self .interval ⌝ }
         ensures { λ r. ⌜ r ≡ rescheduled self (take count quiets) ⌝ }
     {
         let count = at_most_all(count);
-        let blank = [Station::NO_SCHEDULE; Station::SCHEDULE_LIMIT];
-        let none = Station {
-            schedules: blank,
-            count: 0,
-            ..self
-        };
-        if count == 0 {
-            return none;
-        }
         let interval = self.interval;
         let passed = self.passed();
-        let mut schedules = blank;
+        let mut schedules = [Station::NO_SCHEDULE; Station::SCHEDULE_LIMIT];
         let mut i = 0;
         while i < count {
             let quiet = quiets[i];
@@ -80,6 +72,13 @@ impl Station {
         }
     }
 
+    // The switch that an announcement sets here: its moment, its mode and its channel, whatever was pending before.
+    fn pending_by(self, switch: ChannelSwitch) -> Pending
+        ensures { λ r. ⌜ r ≡ pendingBy switch (passed self) (self .interval) ⌝ }
+    {
+        Pending::set_by(switch, self.clock, self.interval)
+    }
+
     // An announcement takes the place of any that is pending. Its count is one of TBTTs, not of intervals from now; a count of 0
     // is the switch itself.
     fn announced(self, switch: ChannelSwitch) -> Station
@@ -88,22 +87,38 @@ impl Station {
         if switch.count == 0 {
             return self.switched(switch.channel);
         }
-        let pending = Pending::set_by(switch, self.clock, self.interval);
+        let pending = self.pending_by(switch);
         Station { pending, ..self }
     }
 
-    // What a beacon or a probe response changes: all schedules, then the constraint, then the announcement.
+    // The constraint, then the announcement, each if there is one.
+    fn told(self, power: MaybePower, switch: MaybeSwitch) -> Station
+        ensures { λ r. ⌜ r ≡ announcedIf (constrained self power) switch ⌝ }
+    {
+        let next = self.constrained(power);
+        match switch {
+            MaybeSwitch::Absent => next,
+            MaybeSwitch::Is(announcement) => next.announced(announcement),
+        }
+    }
+
+    // What a beacon or a probe response changes: all schedules, then the constraint, then the announcement. Most have no Quiet element,
+    // and no schedule is left then.
     fn informed(self, notice: Notice, quiets: [Quiet; QUIETS], count: usize) -> Station
         requires { ⌜ 1 ≤ self .interval ⌝ }
         ensures { λ r. ⌜ r ≡ informed self (tells notice (take count quiets)) ⌝ }
     {
         let power = notice.power;
         let switch = notice.switch;
-        let next = self.rescheduled(quiets, count).constrained(power);
-        match switch {
-            MaybeSwitch::Absent => next,
-            MaybeSwitch::Is(announcement) => next.announced(announcement),
+        if count == 0 {
+            let none = Station {
+                schedules: [Station::NO_SCHEDULE; Station::SCHEDULE_LIMIT],
+                count: 0,
+                ..self
+            };
+            return none.told(power, switch);
         }
+        self.rescheduled(quiets, count).told(power, switch)
     }
 
     // What an accepted frame changes. Measurement frames and those of transmit power control change nothing.

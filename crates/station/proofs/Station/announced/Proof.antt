@@ -13,7 +13,7 @@ returns c = c .switched .ensures ∙ rw (eq-eqb _ _ (c .before .if1 .taken))
 
 returns-2 : tie.Need-returns-2
 unfolding announced
-returns-2 c = let k = c .before .before .before in rw (ne-eqb _ _ (k .before .if1 .left), k .set-by .ensures)
+returns-2 c = let k = c .before .before .before in rw (ne-eqb _ _ (k .before .if1 .left), k .pending-by .ensures)
 
 pub announced-spec : {M : Type 1} → statement M
 announced-spec =

@@ -1,7 +1,7 @@
 -- `Station::rescheduled` meets its contract. The invariant: the schedules of the first i Quiet elements stand in their slots.
 -- Assumes nothing.
-use mathlib.Core.Path.{_≡_, refl, sym, ap, _∙_}
-use Prim.Native.Nat.{ℕ, _≤_, _-_}
+use mathlib.Core.Path.{_≡_, refl, _∙_}
+use Prim.Native.Nat.{_≤_, _-_}
 use native.Mathlib.Omega.{arith}
 use borrow.Author.Needs.{needs}
 use lib.ListN.{length, take, length-map}
@@ -9,7 +9,7 @@ use lib.Seq.{length-take-le}
 use Rattle.beacon.specs.Beacons.{quietLimit}
 use Rattle.schedule.specs.Schedules.{setBy}
 use Rattle.station.specs.Stations.{slotted}
-use Rattle.station.specs.Taking.{passed, schedulesOf, rescheduled}
+use Rattle.station.specs.Taking.{passed, schedulesOf}
 use Rattle.station.proofs.Slotting.{slot-filled}
 use Rattle.station.proofs.Station.rescheduled.Statement.{statement}
 use Rattle.station.proofs.Station.rescheduled.Tie as tie
@@ -28,23 +28,14 @@ loop-again : tie.Need-loop-again Inv-loop μ-loop
 loop-again c =
     let l = c .before .before .before .loop in
     let p = c .before .before .before .before in
-    let quiets = p .before .before .before .before .before .args .t2 in
+    let quiets = p .before .before .args .t2 in
     let eight : length quiets ≡ quietLimit = search needs in
     (search needs, rw (l .inv .1, c .set-by .ensures, p .passed .ensures) (slot-filled _ _ quiets _ (l .i) (omega arith) (omega arith)))
 
 returns : tie.Need-returns Inv-loop μ-loop
 returns c =
-    let u = c .before .before .before in
-    let a = u .before .args in
-    let eight : length (a .t2) ≡ quietLimit = search needs in
-    let quietless : u .at-most-all .result ≡ 0 = c .if1 .taken in
-    let none : take 0 (a .t2) ≡ take (a .count) (a .t2) = ap (λ (n : ℕ). take n (a .t2)) (sym quietless) ∙ u .at-most-all .ensures .1 (a .t2) eight in
-    ap (rescheduled (a .self)) none
-
-returns-2 : tie.Need-returns-2 Inv-loop μ-loop
-returns-2 c =
     let l = c .before .before .before .loop in
-    let u = c .before .before .before .before .before .before .before .before in
+    let u = c .before .before .before .before .before in
     let used = u .at-most-all .result in
     let a = u .before .args in
     let eight : length (a .t2) ≡ quietLimit = search needs in
@@ -61,7 +52,6 @@ rescheduled-spec =
     Inv-loop
     μ-loop
     (λ c κs. search needs)
-    returns
     (λ c κs. search needs)
     loop-holds
     (λ c. search needs)
@@ -72,4 +62,4 @@ rescheduled-spec =
     (λ c. search needs)
     (λ c. search needs)
     loop-again
-    returns-2)
+    returns)
