@@ -8,7 +8,7 @@ use native.Mathlib.Omega.{arith}
 use borrow.Author.Tests.{eqb-true}
 use lib.Dec.{leb, eqb}
 use lib.ListN.{length, take, drop, length-append, length-take}
-use lib.Seq.{take-append-seam, take-nil}
+use lib.Seq.{take-append-seam, take-nil, length-take-le}
 use Rattle.action.specs.Openings.{fixedFields}
 use Rattle.answer.specs.Checks.{Outcome, refused, accepted, pick}
 use Rattle.octets.proofs.Overwriting.{written-as}
@@ -17,7 +17,7 @@ use Rattle.octets.specs.Writing.{Written, left}
 use Rattle.octets.specs.declared.writing.Wrote.{Wrote}
 use Rattle.walk.specs.Elements.{elementsIn}
 use Rattle.measurement_body.specs.Bodies.{longestBody, opening, begins, mayOpen, joins, appended, mayAppend}
-use Rattle.measurement_body.specs.CodeTerms.Appending.{Fronts, mayFollow, following}
+use Rattle.measurement_body.specs.CodeTerms.Appending.{Fronts, longestElement, mayFollow, following}
 use Rattle.measurement_body.specs.Lists.{Sort, used, measurementsIn, allClear, allInterpreted}
 use Rattle.measurement_body.specs.Surveys.{surveyedAs, surveyed}
 use Rattle.measurement_body.proofs.Conjunctions.{and-false, and-assoc}
@@ -118,13 +118,25 @@ module _ {A : Type 0} (s : Sort A) (token used : ℕ) (buffer element : List ℕ
       (o ∙ ap (λ (n : ℕ). pick (eqb n 0) (opening (s .action) token) [] ++ element) (all ∙ sym (length-take used buffer)))
       w
 
--- an element's promise is its record's
-module _ {A : Type 0} (s : Sort A) (token : ℕ) (a : A) (used : ℕ) (buffer : List ℕ) where
-  pub of-record : {may : Bool} {element : List ℕ} {answer : Wrote} {exit : List ℕ} → may ≡ s .may a → element ≡ s .octets a
-      → Written (mayFollow s token (s .token a) (length element) may (take used buffer)) (following s token (take used buffer) element) used buffer answer exit
+-- ---- of a record: its octets stand in front of the bytes that it is built in, and so many are lent
+
+module _ (bytes : List ℕ) {n size : ℕ} (long : length bytes ≡ size) (within : n ≤ size) where
+  pub part-size : n ≡ length (take n bytes)
+  part-size = sym (length-take-le n bytes (omega arith))
+
+  pub part-short : size ≤ longestElement → length (take n bytes) ≤ longestElement
+  part-short h = omega (arith, part-size)
+
+-- what is promised of these octets is promised of the record
+module _ {A : Type 0} (s : Sort A) (token : ℕ) (a : A) (used : ℕ) (buffer bytes : List ℕ) where
+  pub of-record : {may : Bool} {n : ℕ} {answer : Wrote} {exit : List ℕ}
+      → may ≡ s .may a → take (length (s .octets a)) bytes ≡ s .octets a → n ≡ length (s .octets a)
+      → let element = take n bytes in
+      Written (mayFollow s token (s .token a) (length element) may (take used buffer)) (following s token (take used buffer) element) used buffer answer exit
       → Written (mayAppend s token a (take used buffer)) (appended s token a (take used buffer)) used buffer answer exit
   unfolding appended
-  of-record m e w =
+  of-record m front many w =
+      let e = ap (λ (k : ℕ). take k bytes) many ∙ front in
       written-as
       (ap₂ (λ (n : ℕ) (b : Bool). mayFollow s token (s .token a) n b (take used buffer)) (ap length e) m ∙ may-follow s token a (take used buffer))
       (ap (following s token (take used buffer)) e)
