@@ -11,33 +11,34 @@ use Rattle.element.specs.ChannelSwitch.{switchMeans}
 use Rattle.element.specs.PowerConstraint.{powerMeans}
 use Rattle.element.specs.Quiet.{quietMeans}
 use Rattle.element.specs.TpcReport.{tpcReportMeans}
-use Rattle.element.specs.declared.channel_switch.ChannelSwitch.{ChannelSwitch}
-use Rattle.element.specs.declared.power_constraint.PowerConstraint.{PowerConstraint}
-use Rattle.element.specs.declared.quiet.Quiet.{Quiet}
-use Rattle.element.specs.declared.tpc_report.TpcReport.{TpcReport}
 use Rattle.octets.specs.Numbers.{number}
 use Rattle.walk.specs.Elements.{Elements, more, elementsIn}
 use Rattle.beacon.specs.Beacons.{Told, opening, fixedLength, withoutMargin, elementMeans, takes, says, beaconMeans}
 use Rattle.beacon.specs.declared.elements.Element.{Element}
 
--- ---- an element by its ID: `o` is what its reader told
+-- ---- an element by its ID
+
+-- an arm: the case of what its reader handed out tells what the reader means
+pub arm : {R A B : Type 0} (told : R → Outcome A) (f : A → Outcome B) {means : Outcome A} {whole : Outcome B} → andThen means f ≡ whole
+    → {r case : R} → told r ≡ means → r ≡ case → andThen (told case) f ≡ whole
+arm {A = A} told f h means is = ap (λ (o : Outcome A). andThen o f) (ap told (sym is) ∙ means) ∙ h
 
 module _ (b id : ℕ) (c : List ℕ) where
-  pub is-power : id ≡ 32 → {o : Outcome PowerConstraint} → o ≡ powerMeans c → andThen o (λ p. accepted (Element.Power p)) ≡ elementMeans b id c
+  pub is-power : id ≡ 32 → andThen (powerMeans c) (λ p. accepted (Element.Power p)) ≡ elementMeans b id c
   unfolding elementMeans
-  is-power e f = simp (e, f)
+  is-power e = rw e
 
-  pub is-report : id ≡ 35 → {o : Outcome TpcReport} → o ≡ tpcReportMeans c → andThen o (λ t. accepted (Element.Report (withoutMargin t))) ≡ elementMeans b id c
+  pub is-report : id ≡ 35 → andThen (tpcReportMeans c) (λ t. accepted (Element.Report (withoutMargin t))) ≡ elementMeans b id c
   unfolding elementMeans
-  is-report e f = simp (e, f)
+  is-report e = rw e
 
-  pub is-switch : id ≡ 37 → {o : Outcome ChannelSwitch} → o ≡ switchMeans c → andThen o (λ s. accepted (Element.Switch s)) ≡ elementMeans b id c
+  pub is-switch : id ≡ 37 → andThen (switchMeans c) (λ s. accepted (Element.Switch s)) ≡ elementMeans b id c
   unfolding elementMeans
-  is-switch e f = simp (e, f)
+  is-switch e = rw e
 
-  pub is-quiet : id ≡ 40 → {o : Outcome Quiet} → o ≡ quietMeans b c → andThen o (λ q. accepted (Element.Quiet q)) ≡ elementMeans b id c
+  pub is-quiet : id ≡ 40 → andThen (quietMeans b c) (λ q. accepted (Element.Quiet q)) ≡ elementMeans b id c
   unfolding elementMeans
-  is-quiet e f = simp (e, f)
+  is-quiet e = rw e
 
   pub is-other : (id ≡ 32 → ⊥) → (id ≡ 35 → ⊥) → (id ≡ 37 → ⊥) → (id ≡ 40 → ⊥) → accepted Element.Other ≡ elementMeans b id c
   unfolding elementMeans
