@@ -1,6 +1,7 @@
 pub mod Coded
 pub mod FieldLengths
 pub mod OneOutcome
+pub mod PartsBuilt
 pub mod Passes
 pub mod QuietsByIndex
 pub mod RefusalNumbers
