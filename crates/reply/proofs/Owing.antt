@@ -2,10 +2,8 @@
 use mathlib.Core.Bool.{Bool, true, false}
 use mathlib.Core.List.{List}
 use mathlib.Core.Path.{_≡_, refl, sym, ap, _∙_}
-use Prim.Native.Nat.{ℕ, _≤_}
-use borrow.Author.Tests.{ltb-false}
-use lib.ListN.{length}
-use Rattle.answer.proofs.Judged.{never, passed}
+use Prim.Native.Nat.{ℕ}
+use Rattle.answer.proofs.Judged.{never}
 use Rattle.answer.specs.Checks.{Outcome, refused, accepted, andThen}
 use Rattle.answer.specs.declared.Refusal.{Refusal}
 use Rattle.frame.specs.Actions.{Body, requests, reports, tpcRequest, tpcReport, switch, actionMeans}
@@ -16,8 +14,7 @@ use Rattle.measurement_body.specs.Lists.{nth}
 use Rattle.measurement_element.specs.MeasurementRequest.{requestTold}
 use Rattle.measurement_element.specs.declared.measurement_request.Reading.{Reading}
 use Rattle.measurement_element.specs.declared.measurement_request.Request.{Request}
-use Rattle.header.specs.Headers.{bodyOf, headerLength, Head, headerMeans}
-use Rattle.header.proofs.Heard.{has-header}
+use Rattle.header.specs.Headers.{bodyOf, Head, headerMeans}
 use Rattle.header.specs.declared.management.Subtype.{Subtype}
 use Rattle.reply.specs.CodeTerms.Asked.{requestReading, dueOf}
 use Rattle.reply.specs.Due.{orNone, bySubtype, afterHeader, dueMeans}

@@ -4,7 +4,7 @@ use mathlib.Core.Path.{_≡_, sym, ap, ap₂, _∙_}
 use Prim.Native.Nat.{ℕ}
 use borrow.Author.Needs.{needs}
 use denote.Ref.{now}
-use Rattle.answer.specs.Checks.{Outcome, refused, accepted, andThen}
+use Rattle.answer.specs.Checks.{Outcome, accepted, andThen}
 use Rattle.measurement_element.specs.MeasurementRequest.{requestTold}
 use Rattle.measurement_element.specs.declared.measurement_request.Request.{Request}
 use Rattle.frame.specs.Frames.{frameMeans, elementOf, requestIn}

@@ -10,7 +10,6 @@ use lib.ListN.{length}
 use borrow.Author.Tests.{not-true, not-false}
 use Rattle.block.proofs.Ending.{end-inside}
 use Rattle.capture.specs.Feeding.{enoughRoom}
-use Rattle.capture.specs.Listers.{fresh}
 use Rattle.capture.specs.Lists.{blocksIn, blocksTold, fileTold}
 use Rattle.capture.specs.declared.lister.Lister.{Lister}
 use Rattle.boundary.proofs.Passes.{Standing, begins, same-size, passed-all, passes, stops}

@@ -1,5 +1,4 @@
 -- `put_blocks` meets its contract: the blocks before the place are listed.
-use mathlib.Core.Path.{_≡_}
 use Prim.Native.Nat.{_-_, _<_, _≤_}
 use native.Mathlib.Omega.{arith}
 use denote.Ref.{now}

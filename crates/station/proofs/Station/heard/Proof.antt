@@ -1,6 +1,6 @@
 -- `Station::heard` meets its contract: refused, or what the frame changes; where the frame is allowed, the station stays valid.
 -- Assumes nothing.
-use mathlib.Core.Path.{_≡_, sym, ap, _∙_, subst}
+use mathlib.Core.Path.{sym, ap, _∙_, subst}
 use borrow.Author.Needs.{needs}
 use lib.ListN.{take}
 use Rattle.answer.specs.Checks.{accepted}

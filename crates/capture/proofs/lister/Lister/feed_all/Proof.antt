@@ -1,7 +1,6 @@
 -- `feed_all` meets its contract: refused where there is no room, else the lines of the blocks.
 use mathlib.Core.Path.{_≡_, sym, ap, subst, _∙_}
 use Prim.Native.Nat.{ℕ}
-use native.Mathlib.Omega.{arith}
 use denote.Ref.{now}
 use lib.ListN.{length}
 use Rattle.answer.specs.Checks.{accepted}
