@@ -33,28 +33,31 @@ returns-4 c =
 returns-5 : tie.Need-returns-5
 unfolding opensWith
 returns-5 c =
-    past _ _ _ (le-ltb _ _ (c .before .before .before .before .before .before .if1 .left))
-    (past _ _ _ (ap not (eq-eqb _ _ (c .before .before .before .before .if2 .left)))
-    (past _ _ _ (le-ltb _ _ (c .before .before .before .if3 .left))
-    (past _ _ _ (le-ltb _ _ (c .before .if4 .left))
+    let k = c .before in
+    past _ _ _ (le-ltb _ _ (k .before .before .before .before .before .if1 .left))
+    (past _ _ _ (ap not (eq-eqb _ _ (k .before .before .before .if2 .left)))
+    (past _ _ _ (le-ltb _ _ (k .before .before .if3 .left))
+    (past _ _ _ (le-ltb _ _ (k .if4 .left))
     (through _ (simp (eq-eqb _ _ (c .if5 .taken)))))))
 
 returns-6 : tie.Need-returns-6
 unfolding opensWith
 returns-6 c =
-    past _ _ _ (le-ltb _ _ (c .before .before .before .before .before .before .before .if1 .left))
-    (past _ _ _ (ap not (eq-eqb _ _ (c .before .before .before .before .before .if2 .left)))
-    (past _ _ _ (le-ltb _ _ (c .before .before .before .before .if3 .left))
-    (past _ _ _ (le-ltb _ _ (c .before .before .if4 .left))
+    let k = c .before .before in
+    past _ _ _ (le-ltb _ _ (k .before .before .before .before .before .if1 .left))
+    (past _ _ _ (ap not (eq-eqb _ _ (k .before .before .before .if2 .left)))
+    (past _ _ _ (le-ltb _ _ (k .before .before .if3 .left))
+    (past _ _ _ (le-ltb _ _ (k .if4 .left))
     (through _ (simp (ne-eqb _ _ (c .before .if5 .left)) (stop _ _ _ (lt-ltb _ _ (c .if6 .taken))))))))
 
 returns-7 : tie.Need-returns-7
 unfolding opensWith
 returns-7 c =
-    past _ _ _ (le-ltb _ _ (c .before .before .before .before .before .before .before .before .before .before .if1 .left))
-    (past _ _ _ (ap not (eq-eqb _ _ (c .before .before .before .before .before .before .before .before .if2 .left)))
-    (past _ _ _ (le-ltb _ _ (c .before .before .before .before .before .before .before .if3 .left))
-    (past _ _ _ (le-ltb _ _ (c .before .before .before .before .before .if4 .left))
+    let k = c .before .before .before .before .before in
+    past _ _ _ (le-ltb _ _ (k .before .before .before .before .before .if1 .left))
+    (past _ _ _ (ap not (eq-eqb _ _ (k .before .before .before .if2 .left)))
+    (past _ _ _ (le-ltb _ _ (k .before .before .if3 .left))
+    (past _ _ _ (le-ltb _ _ (k .if4 .left))
     (through _ (simp (ne-eqb _ _ (c .before .before .before .before .if5 .left))
     (past _ _ _ (le-ltb _ _ (c .before .before .before .if6 .left))
     (stop _ _ _ (sym (c .before .forbids-token .ensures) ∙ c .if7 .taken))))))))
@@ -62,10 +65,11 @@ returns-7 c =
 returns-8 : tie.Need-returns-8
 unfolding opensWith
 returns-8 c =
-    past _ _ _ (le-ltb _ _ (c .before .before .before .before .before .before .before .before .before .before .if1 .left))
-    (past _ _ _ (ap not (eq-eqb _ _ (c .before .before .before .before .before .before .before .before .if2 .left)))
-    (past _ _ _ (le-ltb _ _ (c .before .before .before .before .before .before .before .if3 .left))
-    (past _ _ _ (le-ltb _ _ (c .before .before .before .before .before .if4 .left))
+    let k = c .before .before .before .before .before in
+    past _ _ _ (le-ltb _ _ (k .before .before .before .before .before .if1 .left))
+    (past _ _ _ (ap not (eq-eqb _ _ (k .before .before .before .if2 .left)))
+    (past _ _ _ (le-ltb _ _ (k .before .before .if3 .left))
+    (past _ _ _ (le-ltb _ _ (k .if4 .left))
     (through _ (simp (ne-eqb _ _ (c .before .before .before .before .if5 .left))
     (past _ _ _ (le-ltb _ _ (c .before .before .before .if6 .left))
     (past _ _ _ (sym (c .before .forbids-token .ensures) ∙ c .if7 .left) (done _))))))))

@@ -57,8 +57,11 @@ loop-holds c =
 
 -- ---- what stands at a place
 
+abbrev entry : tie.After-element-at Inv-loop μ-loop → tie.Start Inv-loop μ-loop
+entry c = c .before .before .before .before .before .before .before .before
+
 abbrev bodyIn : tie.After-element-at Inv-loop μ-loop → List ℕ
-bodyIn c = now (c .before .before .before .before .before .before .before .before .args .body)
+bodyIn c = now (entry c .args .body)
 
 -- the elements from there on
 stands : (c : tie.After-element-at Inv-loop μ-loop) (f : Found) → c .element-at .result ≡ f → elementsIn (drop (c .before .loop .at) (bodyIn c)) ≡ follow (bodyIn c) f
@@ -104,7 +107,7 @@ place c = c .before .before .before .before .before
 -- what was walked before it
 walked : (c : tie.After-add-element Inv-loop μ-loop)
     → let l = place c .before .loop in
-    Walked (place c .before .before .before .before .before .before .before .before .args .interval) (bodyIn (place c)) (l .at) (l .notice) (l .quiets) (l .count)
+    Walked (entry (place c) .args .interval) (bodyIn (place c)) (l .at) (l .notice) (l .quiets) (l .count)
 walked c = place c .before .loop .inv
 
 -- where it ends

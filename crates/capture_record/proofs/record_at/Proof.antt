@@ -15,15 +15,17 @@ returns-2 c = (at-cut-head _ _ (c .before .if1 .left) (c .if2 .taken), omega (ar
 
 returns-3 : tie.Need-returns-3
 returns-3 c =
-    let a = c .before .before .before .before .before .before .args in (
-      at-cut-contents (now (a .used)) (a .at) _ (c .before .number16 .ensures) (omega arith) (c .if3 .taken),
+    let n = c .before in
+    let a = n .before .before .before .before .before .args in (
+      at-cut-contents (now (a .used)) (a .at) _ (n .number16 .ensures) (omega arith) (c .if3 .taken),
       omega arith,
     )
 
 returns-4 : tie.Need-returns-4
 returns-4 c =
-    let a = c .before .before .before .before .before .before .args in (
-      at-whole (now (a .used)) (a .at) _ (c .before .number16 .ensures) (omega arith) (c .if3 .left),
+    let n = c .before in
+    let a = n .before .before .before .before .before .args in (
+      at-whole (now (a .used)) (a .at) _ (n .number16 .ensures) (omega arith) (c .if3 .left),
       omega arith,
     )
 

@@ -13,27 +13,31 @@ use borrow.Author.Needs.{needs}
 use Rattle.frame.proofs.read.Statement.{statement}
 use Rattle.frame.proofs.read.Tie as tie
 
+abbrev entry : tie.After-read → tie.Start
+entry c = c .before .before
+
 -- the header that was read
 abbrev head : tie.After-known-told2 → Head
 head c = record { subtype = c .before .subtype .given .0 .0; toAll = c .before .subtype .given .0 .1 .0 }
 
-header-read : (c : tie.After-known-told2) → accepted (head c) ≡ headerMeans (c .before .before .before .before .before .args .own) (c .before .before .before .before .before .args .ap) (c .before .before .before .before .before .args .frame .now)
+header-read : (c : tie.After-known-told2) → let a = entry (c .before .before .before) .args in accepted (head c) ≡ headerMeans (a .own) (a .ap) (a .frame .now)
 header-read c = ap headerTold (sym (c .before .subtype .given .1)) ∙ c .before .before .before .read .ensures
 
 -- what is made of the body, by the subtype that was found
 of-body : (c : tie.After-body) {t : Subtype} → head (c .before) .subtype ≡ t
-    → let a = c .before .before .before .before .before .before .args in
+    → let a = entry (c .before .before .before .before) .args in
     frameLaid (sent (head (c .before) .toAll) (kindOf (a .interval) t (now (c .body .result)))) ≡ frameLaid (frameMeans (a .own) (a .ap) (a .interval) (a .frame .now))
 of-body c {t} e =
-    let a = c .before .before .before .before .before .before .args in
+    let a = entry (c .before .before .before .before) .args in
     ap (λ (s : List ℕ). frameLaid (sent (head (c .before) .toAll) (kindOf (a .interval) t s))) (c .body .ensures)
     ∙ ap (λ (x : Subtype). frameLaid (sent (head (c .before) .toAll) (kindOf (a .interval) x (bodyOf (a .frame .now))))) (sym e)
     ∙ ap frameLaid (framed (a .own) (a .ap) (a .interval) (a .frame .now) _ (header-read (c .before)))
 
 returns : tie.Need-returns
 returns c =
-    let a = c .before .before .before .before .before .before .args in
-    c .alone .ensures ∙ ap frameLaid (framed (a .own) (a .ap) (a .interval) (a .frame .now) _ (ap headerTold (sym (c .before .before .refusal .given .1)) ∙ c .before .before .before .before .read .ensures))
+    let h = c .before .before .before .before in
+    let a = entry h .args in
+    c .alone .ensures ∙ ap frameLaid (framed (a .own) (a .ap) (a .interval) (a .frame .now) _ (ap headerTold (sym (c .before .before .refusal .given .1)) ∙ h .read .ensures))
 
 returns-2 : tie.Need-returns-2
 returns-2 c = c .read-notice .ensures ∙ of-body (c .before .before .before) (c .before .enum-told .given .1)

@@ -9,13 +9,15 @@ use Rattle.frame.proofs.read_action.Tie as tie
 
 returns : tie.Need-returns
 returns c =
-    let a = c .before .before .before .before .before .before .args in
-    c .alone .ensures ∙ action-refused (a .broadcast) (actionMeans (a .body .now)) _ (ap frameTold (sym (c .before .before .reading .given .1)) ∙ c .before .before .before .before .read-body .ensures)
+    let r = c .before .before .before .before in
+    let a = r .before .before .args in
+    c .alone .ensures ∙ action-refused (a .broadcast) (actionMeans (a .body .now)) _ (ap frameTold (sym (c .before .before .reading .given .1)) ∙ r .read-body .ensures)
 
 returns-2 : tie.Need-returns-2
 returns-2 c =
-    let a = c .before .before .before .before .before .before .args in
-    c .alone2 .ensures ∙ action-read (a .broadcast) (actionMeans (a .body .now)) _ (ap frameTold (sym (c .before .before .reading2 .given .1)) ∙ c .before .before .before .before .read-body .ensures)
+    let r = c .before .before .before .before in
+    let a = r .before .before .args in
+    c .alone2 .ensures ∙ action-read (a .broadcast) (actionMeans (a .body .now)) _ (ap frameTold (sym (c .before .before .reading2 .given .1)) ∙ r .read-body .ensures)
 
 pub read-action-spec : {M : Type 1} → statement M
 read-action-spec =

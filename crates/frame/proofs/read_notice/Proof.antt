@@ -8,19 +8,22 @@ use Rattle.frame.proofs.read_notice.Tie as tie
 
 returns : tie.Need-returns
 returns c =
-    let a = c .before .before .before .before .before .before .before .before .args in
-    c .alone .ensures ∙ notice-refused (a .probe) (a .interval) (a .body .now) (a .broadcast) _ (heard-refused _ _ _ (c .before .before .before .before .before .before .read .ensures) (c .before .before .answer .given .1))
+    let r = c .before .before .before .before .before .before in
+    let a = r .before .before .args in
+    c .alone .ensures ∙ notice-refused (a .probe) (a .interval) (a .body .now) (a .broadcast) _ (heard-refused _ _ _ (r .read .ensures) (c .before .before .answer .given .1))
 
 returns-2 : tie.Need-returns-2
 returns-2 c =
-    let p = heard-accepted _ _ (c .before .before .before .before .before .read .ensures) (c .before .enum-told .given .1) in
-    let a = c .before .before .before .before .before .before .before .args in
+    let r = c .before .before .before .before .before in
+    let a = r .before .before .args in
+    let p = heard-accepted _ _ (r .read .ensures) (c .before .enum-told .given .1) in
     probe-heard (a .probe) (a .interval) (a .body .now) (a .broadcast) (c .if1 .taken) _ (p .0) (p .1) (p .2)
 
 returns-3 : tie.Need-returns-3
 returns-3 c =
-    let p = heard-accepted _ _ (c .before .before .before .before .before .read .ensures) (c .before .enum-told .given .1) in
-    let a = c .before .before .before .before .before .before .before .args in
+    let r = c .before .before .before .before .before in
+    let a = r .before .before .args in
+    let p = heard-accepted _ _ (r .read .ensures) (c .before .enum-told .given .1) in
     beacon-heard (a .probe) (a .interval) (a .body .now) (a .broadcast) (c .if1 .left) _ (p .0) (p .1) (p .2)
 
 pub read-notice-spec : {M : Type 1} → statement M

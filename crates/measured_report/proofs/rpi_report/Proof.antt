@@ -13,10 +13,11 @@ returns c = c .refused .ensures ∙ rw (ne-eqb _ _ (c .before .if1 .taken))
 
 returns-2 : tie.Need-returns-2
 returns-2 c =
-    let a = c .before .before .before .before .before .before .before .args in
+    let d = c .before .before .before .before .before in
+    let a = d .before .before .args in
     c .refused2 .ensures
-    ∙ no-densities (a .token) (a .kind) (a .span) (densitiesOf (a .span .duration) (a .times)) _ (c .before .before .before .before .before .rpi-densities .ensures .0) _ (c .before .before .answer .given .1)
-    ∙ rw (eq-eqb _ _ (c .before .before .before .before .before .before .if1 .left))
+    ∙ no-densities (a .token) (a .kind) (a .span) (densitiesOf (a .span .duration) (a .times)) _ (d .rpi-densities .ensures .0) _ (c .before .before .answer .given .1)
+    ∙ rw (eq-eqb _ _ (d .before .if1 .left))
 
 returns-3 : tie.Need-returns-3
 returns-3 c =

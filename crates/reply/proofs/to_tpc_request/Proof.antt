@@ -14,8 +14,9 @@ use Rattle.reply.proofs.to_tpc_request.Tie as tie
 returns : tie.Need-returns
 unfolding tpcReply
 returns c =
-    let a = c .before .before .before .before .before .before .args in
-    replied-refused (no-tpc (a .own) (a .ap) _ (a .report) (dueMeans (a .own) (a .ap) (now (a .frame))) (sym (c .before .refusal .given .1) ∙ c .before .before .before .request-of .ensures))
+    let k = c .before .before .before in
+    let a = k .before .before .before .args in
+    replied-refused (no-tpc (a .own) (a .ap) _ (a .report) (dueMeans (a .own) (a .ap) (now (a .frame))) (sym (c .before .refusal .given .1) ∙ k .request-of .ensures))
 
 returns-2 : tie.Need-returns-2
 unfolding tpcReply
@@ -27,8 +28,10 @@ returns-2 c =
 returns-3 : tie.Need-returns-3
 unfolding tpcReply
 returns-3 c =
-    let a = c .before .before .before .before .before .before .before .before .before .before .args in
-    let due = tpc-due 0 (dueMeans (a .own) (a .ap) (now (a .frame))) _ (sym (c .before .before .before .before .before .token .given .1) ∙ c .before .before .before .before .before .before .before .request-of .ensures) in
+    let t = c .before .before .before .before .before in
+    let k = t .before .before in
+    let a = k .before .before .before .args in
+    let due = tpc-due 0 (dueMeans (a .own) (a .ap) (now (a .frame))) _ (sym (t .token .given .1) ∙ k .request-of .ensures) in
     replied-written (sym (ap (λ (o : Outcome Body). andThen o (tpcAnswer (a .own) (a .ap) (a .report))) due)) (c .before .before .put-tpc-report .ensures)
 
 pub to-tpc-request-spec : {M : Type 1} → statement M

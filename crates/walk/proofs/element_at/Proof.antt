@@ -13,14 +13,16 @@ returns-2 c = (at-cut-header _ _ (c .before .if1 .left) (c .if2 .taken), tt)
 
 returns-3 : tie.Need-returns-3
 returns-3 c =
-    let a = c .before .before .before .before .before .before .args in
-    let length = c .before .octet-at in
+    let k = c .before in
+    let a = k .before .before .before .before .before .args in
+    let length = k .octet-at in
     (at-cut-contents (a .run .now) (a .at) (length .result) (length .ensures) (omega arith) (c .if3 .taken), tt)
 
 returns-4 : tie.Need-returns-4
 returns-4 c =
-    let a = c .before .before .before .before .before .before .args in
-    let length = c .before .octet-at in
+    let k = c .before in
+    let a = k .before .before .before .before .before .args in
+    let length = k .octet-at in
     (at-whole (a .run .now) (a .at) (length .result) (length .ensures) (omega arith) (c .if3 .left), omega arith)
 
 pub element-at-spec : {M : Type 1} → statement M

@@ -14,7 +14,9 @@ use Rattle.boundary.proofs.bodies.oneiralth_write_tpc_report_body.Tie a
 returns : tie.Need-returns
 returns c =
     let w = c .before .before .before .write-tpc-report in
-    subst (λ (q : TpcReport). Put true (tpcReportBody (c .before .before .before .before .before .before .before .args .token) q) 0 (now (c .before .before .before .before .before .before .before .args .out)) (c .wrote .result) (w .last .1 .1 .0)) (c .before .before .before .before .before .tpc .ensures) (put-as _ _ _ _ _ _ _ (w .ensures) (c .wrote .ensures))
+    let t = c .before .before .before .before .before in
+    let a = t .before .before .args in
+    subst (λ (q : TpcReport). Put true (tpcReportBody (a .token) q) 0 (now (a .out)) (c .wrote .result) (w .last .1 .1 .0)) (t .tpc .ensures) (put-as _ _ _ _ _ _ _ (w .ensures) (c .wrote .ensures))
 
 pub oneiralth-write-tpc-report-body-spec : {M : Type 1} → statement M
 oneiralth-write-tpc-report-body-spec = tie.close (tie.spec (λ c κs. search needs) (λ c κs. search needs) (λ c κs. search needs) (λ c. search needs) returns)

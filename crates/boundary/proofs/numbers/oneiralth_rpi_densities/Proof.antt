@@ -23,9 +23,10 @@ returns c =
 
 returns-2 : tie.Need-returns-2
 returns-2 c =
-    let d = c .before .before .before .before .before .before .before .before .before in
+    let t = c .before .before .before .before .before .before in
+    let d = t .before .before .before in
     let e = d .rpi-densities .ensures .0 in
-    let told = c .before .before .before .before .before .before .enum-told .given .1 in
+    let told = t .enum-told .given .1 in
     given-put (outcome d) _ _ _ _ _
     (densities-accepted (outcome d) (sym (ap (λ (x : Densities). x .answer) e) ∙ told) ∙ ap (λ (x : Densities). accepted (x .values)) (sym e))
     (c .before .before .before .put .ensures) (c .wrote .ensures)

@@ -15,11 +15,12 @@ use Rattle.boundary.proofs.replies.oneiralth_reply_to_measurement_reque
 returns : tie.Need-returns
 returns c =
     let w = c .before .before .before .to-measurement-request in
-    let f = c .before .before .before .before .before .before .before .finding in
-    let a = c .before .before .before .before .before .before .before .before .before .before .args in
+    let k = c .before .before .before .before .before in
+    let f = k .before .before .finding in
+    let a = k .before .before .before .before .before .args in
     let times = a .t0 ∷ a .t1 ∷ a .t2 ∷ a .t3 ∷ a .t4 ∷ a .t5 ∷ a .t6 ∷ a .t7 ∷ [] in
     let same =
-    ap₂ (λ (own ap' : List ℕ). measurementReply own ap' (a .clock) (a .index) (record { finding = f .result; times = times }) (now (a .frame))) (c .before .before .before .before .before .before .address .ensures) (c .before .before .before .before .before .address2 .ensures)
+    ap₂ (λ (own ap' : List ℕ). measurementReply own ap' (a .clock) (a .index) (record { finding = f .result; times = times }) (now (a .frame))) (k .before .address .ensures) (k .address2 .ensures)
     ∙ ap (λ (x : Finding). measurementReply (addressOf (a .own)) (addressOf (a .ap)) (a .clock) (a .index) (record { finding = x; times = times }) (now (a .frame))) (f .ensures)
     in
     subst (λ o. Given o (now (a .out)) (c .wrote .result) (w .last .1 .1 .1 .1 .1 .1 .0)) same (given-as _ _ _ _ _ (w .ensures) (c .wrote .ensures))

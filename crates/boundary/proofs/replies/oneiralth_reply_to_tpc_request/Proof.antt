@@ -15,10 +15,11 @@ use Rattle.boundary.proofs.replies.oneiralth_reply_to_tpc_request.Tie a
 returns : tie.Need-returns
 returns c =
     let w = c .before .before .before .to-tpc-request in
-    let t = c .before .before .before .before .before .before .before .tpc in
-    let a = c .before .before .before .before .before .before .before .before .before .before .args in
+    let k = c .before .before .before .before .before in
+    let t = k .before .before .tpc in
+    let a = k .before .before .before .before .before .args in
     let same =
-    ap₂ (λ (own ap' : List ℕ). tpcReply own ap' (t .result) (now (a .frame))) (c .before .before .before .before .before .before .address .ensures) (c .before .before .before .before .before .address2 .ensures)
+    ap₂ (λ (own ap' : List ℕ). tpcReply own ap' (t .result) (now (a .frame))) (k .before .address .ensures) (k .address2 .ensures)
     ∙ ap (λ (r : TpcReport). tpcReply (addressOf (a .own)) (addressOf (a .ap)) r (now (a .frame))) (t .ensures)
     in
     subst (λ o. Given o (now (a .out)) (c .wrote .result) (w .last .1 .1 .1 .1 .0)) same (given-as _ _ _ _ _ (w .ensures) (c .wrote .ensures))

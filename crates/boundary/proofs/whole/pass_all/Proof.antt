@@ -33,9 +33,12 @@ loop-holds c =
     )
 
 -- the block ends in the file
-inside : (c : tie.After-end-after Inv-loop μ-loop) → (c .before .before .loop .at < c .end-after .result) × (c .end-after .result ≤ length (now (c .before .before .before .before .before .before .args .file)))
+inside : (c : tie.After-end-after Inv-loop μ-loop)
+    → let l = c .before .before in
+    (l .loop .at < c .end-after .result) × (c .end-after .result ≤ length (now (l .before .before .before .before .args .file)))
 inside c =
-    let w = end-inside (c .before .before .loop .at) (length (now (c .before .before .before .before .before .before .args .file))) (c .before .loop-test .taken) in
+    let l = c .before .before in
+    let w = end-inside (l .loop .at) (length (now (l .before .before .before .before .args .file))) (c .before .loop-test .taken) in
     (omega (arith, w, c .end-after .ensures), omega (arith, w, c .end-after .ensures))
 
 sub-block : tie.Need-sub-block Inv-loop μ-loop
@@ -62,8 +65,9 @@ same-length c = let s = same-size (c .before .before .before .before .before .be
 returns : tie.Need-returns Inv-loop μ-loop
 returns c =
     let k = c .before .before .before .before .before in
-    let l = k .before .before .before .before .before .before .loop in
-    stops (l .inv .0) (k .before .before .before .before .before .loop-test .taken) _ (k .before .before .before .before .end-after .ensures) (k .pass-block .result) _ (k .pass-block .ensures .0) (k .pass-block .ensures .1) (not-true (k .pass-block .result .fits) (c .if1 .taken)) (l .inv .2)
+    let e = k .before .before .before .before in
+    let l = e .before .before .loop in
+    stops (l .inv .0) (e .before .loop-test .taken) _ (e .end-after .ensures) (k .pass-block .result) _ (k .pass-block .ensures .0) (k .pass-block .ensures .1) (not-true (k .pass-block .result .fits) (c .if1 .taken)) (l .inv .2)
 
 loop-less : tie.Need-loop-less Inv-loop μ-loop
 loop-less c = let w = inside (c .before .before .before .before .before .before .before .before .before) in omega (arith, w)
@@ -71,8 +75,9 @@ loop-less c = let w = inside (c .before .before .before .before .before .before 
 loop-again : tie.Need-loop-again Inv-loop μ-loop
 loop-again c =
     let k = c .before .before .before .before .before in
-    let l = k .before .before .before .before .before .before .loop in (
-      passes (l .inv .0) (k .before .before .before .before .before .loop-test .taken) _ (k .before .before .before .before .end-after .ensures) (k .pass-block .result) _ (k .pass-block .ensures .0) (k .pass-block .ensures .1) (not-false (k .pass-block .result .fits) (c .if1 .left)),
+    let e = k .before .before .before .before in
+    let l = e .before .before .loop in (
+      passes (l .inv .0) (e .before .loop-test .taken) _ (e .end-after .ensures) (k .pass-block .result) _ (k .pass-block .ensures .0) (k .pass-block .ensures .1) (not-false (k .pass-block .result .fits) (c .if1 .left)),
       search needs,
       l .inv .2,
     )

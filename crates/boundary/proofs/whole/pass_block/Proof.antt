@@ -54,14 +54,15 @@ made k n e =
 
 slice-reshare-prefix-put-lines : tie.Need-slice-reshare-prefix-put-lines
 slice-reshare-prefix-put-lines c =
-    let k = c .before .before .before .before .before .before in
-    made k _ (c .before .wrote .given .1)
+    let fed = c .before in
+    made (fed .before .before .before .before .before) _ (fed .wrote .given .1)
 
 slice-aggregate-put-lines : tie.Need-slice-aggregate-put-lines
 slice-aggregate-put-lines c =
-    let k = c .before .before .before .before .before .before .before in
-    let n = c .before .before .wrote .given .0 .0 in
-    omega (arith, made k n (c .before .before .wrote .given .1), length-take n (roomIn k))
+    let fed = c .before .before in
+    let k = fed .before .before .before .before .before in
+    let n = fed .wrote .given .0 .0 in
+    omega (arith, made k n (fed .wrote .given .1), length-take n (roomIn k))
 
 put-lines-requires : tie.Need-put-lines-requires
 put-lines-requires c κs =
@@ -70,10 +71,11 @@ put-lines-requires c κs =
 
 returns : tie.Need-returns
 returns c =
-    let k = c .before .before .before .before .before .before .before .before .before .before .before in
+    let fed = c .before .before .before .before .before .before in
+    let k = fed .before .before .before .before .before in
     let a = k .before .before .before .before .before .args in
-    let n = c .before .before .before .before .before .before .wrote .given .0 .0 in
-    let w = lines k n (c .before .before .before .before .before .before .wrote .given .1) in
+    let n = fed .wrote .given .0 .0 in
+    let w = lines k n (fed .wrote .given .1) in
     let text : take n (roomIn k) ≡ toldIn k .text = filled-front (toldIn k .text) _ _ (w .2) n (w .0) in
     let put = c .before .before .put-lines in (
       subst (λ (t : Told). Passed (a .count) t (length (now (a .out))) (put .result)) (ap₂ (λ (l : Lister) (os : List ℕ). record { lister = l; text = os }) (w .1) text) (put .ensures .0),

@@ -25,39 +25,45 @@ put-block-requires c κs =
 
 -- what the block tells, and the buffer
 module _ (c : tie.After-struct-known) where
+  abbrev block : tie.After-put-block
+  block = c .before .before .before .before
+
+  abbrev entry : tie.Start
+  entry = block .before .before .before .before
+
   abbrev start : ℕ
-  start = c .before .before .before .before .before .before .before .before .args .before .count
+  start = entry .args .before .count
 
   abbrev out : List ℕ
-  out = now (c .before .before .before .before .before .before .before .before .args .out)
+  out = now (entry .args .out)
 
   fits : start + (start + enoughRoom - start) ≤ length out
-  fits = omega (arith, c .before .before .before .before .before .before .before .before .pre .1 .1)
+  fits = omega (arith, entry .pre .1 .1)
 
   abbrev exit : List ℕ
-  exit = c .before .before .before .before .put-block .last .1 .1 .0
+  exit = block .put-block .last .1 .1 .0
 
   same : length exit ≡ start + enoughRoom - start
   same = search needs
 
   abbrev text : List ℕ
-  text = let a = c .before .before .before .before .before .before .before .before .args in blockTold (now (a .block)) (a .before .lister) .text
+  text = let a = entry .args in blockTold (now (a .block)) (a .before .lister) .text
 
   filled-part : exit ≡ filled text (take (start + enoughRoom - start) (drop start out))
-  filled-part = c .before .before .before .before .put-block .ensures .1
+  filled-part = block .put-block .ensures .1
 
   few : length text ≤ enoughRoom
   few = omega (arith, short text out exit start (start + enoughRoom - start) fits filled-part same, many start)
 
 add-t9 : tie.Need-add-t9
-add-t9 c = let w = few c in let f = fits c in let m = c .before .before .before .before .put-block .ensures .0 .many in search needs
+add-t9 c = let w = few c in let f = fits c in let m = block c .put-block .ensures .0 .many in search needs
 
 same-length : tie.Need-same-length
 same-length c = search needs
 
 returns : tie.Need-returns
 returns c =
-    let w = c .before .before .before .before .put-block .ensures .0 in (
+    let w = block c .put-block .ensures .0 in (
       record { same = w .same; many = ap (λ (n : ℕ). start c + n) (w .many); short = few c; fits = w .fits },
       in-part (text c) (out c) (exit c) (start c) (start c + enoughRoom - start c) (fits c) (filled-part c) (same c),
     )

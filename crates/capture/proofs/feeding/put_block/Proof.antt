@@ -61,9 +61,11 @@ put-records-requires c κs =
 
 returns : tie.Need-returns
 returns c =
-    let a = c .before .before .before .before .before .before .before .before .before .args in
+    let e = c .before .before .before .before in
+    let j = e .before .before in
+    let a = j .before .before .before .args in
     let d = c .before .before .put-damaged .ensures in
-    let same = told-as (a .lister) (now (a .block)) Block.Damaged (sym (c .before .before .before .before .before .before .judge .ensures) ∙ c .before .before .before .before .enum-told .given .1) in
+    let same = told-as (a .lister) (now (a .block)) Block.Damaged (sym (j .judge .ensures) ∙ e .enum-told .given .1) in
     (subst (λ (t : Told). Fed (a .lister) t (c .before .before .put-damaged .result)) same (d .0), d .1 ∙ ap (λ (t : Told). filled (t .text) (now (a .out))) same)
 
 returns-2 : tie.Need-returns-2

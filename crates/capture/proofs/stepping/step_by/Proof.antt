@@ -64,8 +64,9 @@ returns-3 c = (λ os. rw (c .enum-told2 .given .1), (rw (c .enum-told2 .given .1
 
 returns-4 : tie.Need-returns-4
 returns-4 c =
-    let a = c .before .before .before .before .before .before .before .args in
-    let e = c .before .before .entry .given in
+    let k = c .before .before in
+    let a = k .before .before .before .before .before .args in
+    let e = k .entry .given in
     (λ os. c .advance .ensures .0 os ∙ rw (e .1), fits (a .lister) (c .advance .result) (a .entry) (Entry.Advance (e .0 .0)) (e .1) refl (c .advance .ensures .1))
 
 returns-5 : tie.Need-returns-5
@@ -77,8 +78,9 @@ returns-5 c =
 
 returns-6 : tie.Need-returns-6
 returns-6 c =
-    let a = c .before .before .before .before .before .before .before .args in
-    let e = c .before .before .entry2 .given in
+    let k = c .before .before in
+    let a = k .before .before .before .before .before .args in
+    let e = k .entry2 .given in
     (λ os. c .ask .ensures .0 os ∙ rw (e .1), fits (a .lister) (c .ask .result) (a .entry) (Entry.Ask (e .0 .0)) (e .1) refl (c .ask .ensures .1))
 
 pub step-by-spec : {M : Type 1} → statement M

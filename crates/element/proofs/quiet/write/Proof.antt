@@ -10,8 +10,9 @@ use Rattle.element.proofs.quiet.write.Tie as tie
 returns : tie.Need-returns
 unfolding quietOctets
 returns c =
-    written-as (ap not (c .before .before .before .before .before .is-forbidden .ensures))
-    (simp (c .before .before .before .before .before .before .before .octets16 .ensures, c .before .before .before .before .before .before .octets162 .ensures))
+    let k = c .before .before .before .before .before in
+    written-as (ap not (k .is-forbidden .ensures))
+    (simp (k .before .before .octets16 .ensures, k .before .octets162 .ensures))
     (c .before .before .put .ensures)
 
 pub write-spec : {M : Type 1} → statement M

@@ -18,19 +18,25 @@ use Rattle.frame.proofs.index.locate.Tie as tie
 
 -- the body of the frame, by the subtype that its header says
 module _ (c : tie.After-body) where
+  abbrev header : tie.After-read
+  header = c .before .before .before .before
+
+  abbrev entry : tie.Start
+  entry = header .before .before
+
   abbrev body : List ℕ
   body = now (c .body .result)
 
   of-subtype : {t : Subtype} → c .before .before .subtype .given .0 .0 ≡ t
-      → let a = c .before .before .before .before .before .before .args in
+      → let a = entry .args in
       locatedIn (a .index) body (kindOf (a .interval) t body) ≡ locatedIn (a .index) (bodyOf (a .frame .now)) (kindMeans (a .own) (a .ap) (a .interval) (a .frame .now))
   of-subtype {t} e =
-      let a = c .before .before .before .before .before .before .args in
+      let a = entry .args in
       let f = a .frame .now in
       let s = c .before .before .subtype .given in
       ap (λ (x : List ℕ). locatedIn (a .index) x (kindOf (a .interval) t x)) (c .body .ensures)
       ∙ ap (λ (t : Subtype). locatedIn (a .index) (bodyOf f) (kindOf (a .interval) t (bodyOf f))) (sym e)
-      ∙ ap (locatedIn (a .index) (bodyOf f)) (by-header (a .own) (a .ap) (a .interval) f (accepted (record { subtype = s .0 .0; toAll = s .0 .1 .0 })) (ap headerTold (sym (s .1)) ∙ c .before .before .before .before .read .ensures))
+      ∙ ap (locatedIn (a .index) (bodyOf f)) (by-header (a .own) (a .ap) (a .interval) f (accepted (record { subtype = s .0 .0; toAll = s .0 .1 .0 })) (ap headerTold (sym (s .1)) ∙ header .read .ensures))
 
 returns : tie.Need-returns
 returns c =
@@ -42,20 +48,20 @@ returns c =
 returns-2 : tie.Need-returns-2
 returns-2 c =
     let b = c .before .before .before in
-    let a = b .before .before .before .before .before .before .args in
+    let a = entry b .args in
     c .read-at .ensures ∙ of-action (body b) (a .index) (actionMeans (body b)) ∙ of-subtype b (c .before .enum-told .given .1)
 
 returns-3 : tie.Need-returns-3
 returns-3 c =
     let b = c .before .before .before .before in
-    let a = b .before .before .before .before .before .before .args in
+    let a = entry b .args in
     c .unplaced2 .ensures ∙ ap (λ (x : Received). unplaced (x .reading)) (c .before .read-notice .ensures) ∙ of-notice (body b) (a .index) (a .interval) false
     ∙ of-subtype b (c .before .before .enum-told2 .given .1)
 
 returns-4 : tie.Need-returns-4
 returns-4 c =
     let b = c .before .before .before .before in
-    let a = b .before .before .before .before .before .before .args in
+    let a = entry b .args in
     c .unplaced3 .ensures ∙ ap (λ (x : Received). unplaced (x .reading)) (c .before .read-notice2 .ensures) ∙ of-notice (body b) (a .index) (a .interval) true
     ∙ of-subtype b (c .before .before .enum-told3 .given .1)
 

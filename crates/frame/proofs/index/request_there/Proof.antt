@@ -9,8 +9,10 @@ use Rattle.frame.proofs.index.request_there.Statement.{statement}
 use Rattle.frame.proofs.index.request_there.Tie as tie
 
 -- the contents lie in the body
-within : (c : tie.After-known-told2) → PlaceWithin (c .before .before .before .before .before .before .args .body .now) (Place.Contents (c .before .place .given .0 .0) (c .before .place .given .0 .1 .0))
-within c = subst (PlaceWithin (c .before .before .before .before .before .before .args .body .now)) (c .before .place .given .1) (c .before .before .before .before .before .before .pre)
+within : (c : tie.After-known-told2)
+    → let s = c .before .before .before .before .before .before in
+    PlaceWithin (s .args .body .now) (Place.Contents (c .before .place .given .0 .0) (c .before .place .given .0 .1 .0))
+within c = let s = c .before .before .before .before .before .before in subst (PlaceWithin (s .args .body .now)) (c .before .place .given .1) (s .pre)
 
 sub-read : tie.Need-sub-read
 sub-read c = within c .0
@@ -33,8 +35,9 @@ returns-2 c =
 
 returns-3 : tie.Need-returns-3
 returns-3 c =
-    let a = c .before .before .before .before .before .before .before .before .args in
-    c .read .ensures ∙ ap₂ (readThere requestMeans (a .body .now)) (sym (c .before .before .before .before .before .enum-told .given .1)) (sym (c .before .before .before .place .given .1))
+    let k = c .before .before .before .before .before in
+    let a = k .before .before .before .args in
+    c .read .ensures ∙ ap₂ (readThere requestMeans (a .body .now)) (sym (k .enum-told .given .1)) (sym (c .before .before .before .place .given .1))
 
 pub request-there-spec : {M : Type 1} → statement M
 request-there-spec =

@@ -22,16 +22,18 @@ slice-aggregate-write-all c = sym (length-take-le _ _ (inside (c .before)))
 
 returns : tie.Need-returns
 returns c =
-    let said = c .before .before .before .before .before .before .before .args .said in
-    subst (λ (w : Wrote). WroteAs w said said) (sym (c .before .before .before .before .wrote .given .1)) (_⊎_.inl refl)
+    let w = c .before .before .before .before in
+    let said = w .before .before .before .args .said in
+    subst (λ (w : Wrote). WroteAs w said said) (sym (w .wrote .given .1)) (_⊎_.inl refl)
 
 returns-2 : tie.Need-returns-2
 returns-2 c = subst (λ (w : Wrote). WroteAs w (c .before .before .before .args .said) Fate.TooLong) (sym (c .enum-told .given .1)) refl
 
 returns-3 : tie.Need-returns-3
 returns-3 c =
-    let said = c .before .before .before .before .before .before .before .args .said in
-    subst (λ (w : Wrote). WroteAs w said Fate.WriteFailed) (sym (c .before .before .before .before .wrote .given .1)) (_⊎_.inr refl)
+    let w = c .before .before .before .before in
+    let said = w .before .before .before .args .said in
+    subst (λ (w : Wrote). WroteAs w said Fate.WriteFailed) (sym (w .wrote .given .1)) (_⊎_.inr refl)
 
 pub write-lines-spec : {M : Type 1} → statement M
 write-lines-spec =

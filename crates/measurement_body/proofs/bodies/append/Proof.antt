@@ -26,13 +26,14 @@ part-put-start c = start-within (c .before .before .before .before .before .held
 
 returns : tie.Need-returns
 returns c =
-    let m = c .before .before .before .before .before .before .before .before in
+    let f = c .before .before .before .before .before .before in
+    let o = f .before .body-octets in
+    let m = f .before .before in
     let h = m .before .before in
     let a = h .before .before .before .args in
-    let o = c .before .before .before .before .before .before .before .body-octets in
     put-as (sortOf (a .kind)) (a .token) (a .used) (a .buffer .now) (a .element .now) (h .held .ensures)
     (m .may-follow .ensures ∙ ap (mayFollow (sortOf (a .kind)) (a .token) (a .own) (length (a .element .now)) (a .may)) (part (sortOf (a .kind)) (a .token) (a .used) (a .buffer .now) (a .element .now) (h .held .ensures)))
-    (lent (sortOf (a .kind) .action) (a .token) (a .element .now) (o .result) (o .ensures) (h .held .result) _ (c .before .before .before .before .before .before .first-put .ensures))
+    (lent (sortOf (a .kind) .action) (a .token) (a .element .now) (o .result) (o .ensures) (h .held .result) _ (f .first-put .ensures))
     (c .before .before .put .ensures)
 
 pub append-spec : {M : Type 1} → statement M

@@ -12,16 +12,20 @@ use Rattle.measurement_body.proofs.judging.judge_report.Tie as tie
 
 returns : tie.Need-returns
 returns c =
-    judged-by reportSort _ (report-read (reportMeans (c .before .before .before .before .before .before .before .args .contents .now)) (c .before .before .before .before .before .read .ensures) (c .before .before .enum-told .given .1))
+    let r = c .before .before .before .before .before in
+    judged-by reportSort _ (report-read (reportMeans (r .before .before .args .contents .now)) (r .read .ensures) (c .before .before .enum-told .given .1))
     (sym (c .before .is-clear .ensures) ∙ not-true _ (c .if1 .taken))
 
 returns-2 : tie.Need-returns-2
-returns-2 c = judged-by reportSort _ (report-refused (reportMeans (c .before .before .before .before .before .before .args .contents .now)) (c .before .before .before .before .read .ensures) (c .before .answer .given .1)) refl
+returns-2 c =
+    let r = c .before .before .before .before in
+    judged-by reportSort _ (report-refused (reportMeans (r .before .before .args .contents .now)) (r .read .ensures) (c .before .answer .given .1)) refl
 
 returns-3 : tie.Need-returns-3
 returns-3 c =
-    ap (Judged.Is (c .before .before .before .before .before .before .read .result .report .token)) (c .is-interpreted .ensures)
-    ∙ judged-by reportSort _ (report-read (reportMeans (c .before .before .before .before .before .before .before .before .args .contents .now)) (c .before .before .before .before .before .before .read .ensures) (c .before .before .before .enum-told .given .1))
+    let r = c .before .before .before .before .before .before in
+    ap (Judged.Is (r .read .result .report .token)) (c .is-interpreted .ensures)
+    ∙ judged-by reportSort _ (report-read (reportMeans (r .before .before .args .contents .now)) (r .read .ensures) (c .before .before .before .enum-told .given .1))
     (sym (c .before .before .is-clear .ensures) ∙ not-false _ (c .before .if1 .left))
 
 pub judge-report-spec : {M : Type 1} → statement M

@@ -23,15 +23,22 @@ abbrev μ-loop : tie.MeasureT-loop
 
 -- ---- the element that a turn meets
 
+-- where the walk stands in that turn, and where the call begins
+abbrev turn : tie.After-known-told2 Inv-loop μ-loop → tie.At-loop Inv-loop μ-loop
+turn c = c .before .before .before .before .before
+
+abbrev entry : tie.At-loop Inv-loop μ-loop → tie.Start Inv-loop μ-loop
+entry l = l .before .before .before .before
+
 -- in the body of the call, from where the walk stands, between two places
 abbrev body : tie.After-known-told2 Inv-loop μ-loop → List ℕ
-body c = c .before .before .before .before .before .before .before .before .before .args .body .now
+body c = entry (turn c) .args .body .now
 
 abbrev kind : tie.After-known-told2 Inv-loop μ-loop → Kind
-kind c = c .before .before .before .before .before .before .before .before .before .args .kind
+kind c = entry (turn c) .args .kind
 
 abbrev at : tie.After-known-told2 Inv-loop μ-loop → ℕ
-at c = c .before .before .before .before .before .loop .at
+at c = turn c .loop .at
 
 abbrev begin : tie.After-known-told2 Inv-loop μ-loop → ℕ
 begin c = c .before .start .given .0 .0
@@ -42,7 +49,7 @@ stop c = c .before .start .given .0 .1 .0
 place : (c : tie.After-known-told2 Inv-loop μ-loop) → Lies (body c) (at c) (sortOf (kind c) .id) (begin c) (stop c)
 place c =
     let r = c .before .before .before .required-at in
-    subst (λ (n : ℕ). Lies (body c) (at c) n (begin c) (stop c)) (c .before .before .before .before .before .before .before .id .ensures)
+    subst (λ (n : ℕ). Lies (body c) (at c) n (begin c) (stop c)) (turn c .before .before .id .ensures)
     (lies _ _ _ (r .result) (r .ensures .0) (r .ensures .1) (c .before .start .given .1))
 
 abbrev contents : tie.After-known-told2 Inv-loop μ-loop → List ℕ
@@ -64,11 +71,11 @@ small c = search needs
 
 -- whether its token is marked, where a token may stand once
 abbrev marks : tie.After-known-told4 Inv-loop μ-loop → List Bool
-marks c = c .before .before .before .before .before .before .before .before .before .before .loop .marks
+marks c = turn (meets c) .loop .marks
 
 repeat : (c : tie.After-both Inv-loop μ-loop) {t : Bool} → c .both .result ≡ t → (sortOf (kind (meets (c .before))) .once && getD (marks (c .before)) (own (c .before)) false) ≡ t
 repeat c e =
-    ap (λ (x : Bool). x && getD (marks (c .before)) (own (c .before)) false) (sym (c .before .before .before .before .before .before .before .before .before .before .before .before .has-tokens-once .ensures))
+    ap (λ (x : Bool). x && getD (marks (c .before)) (own (c .before)) false) (sym (turn (meets (c .before)) .before .has-tokens-once .ensures))
     ∙ sym (c .both .ensures) ∙ e
 
 -- ---- the ways out
@@ -78,11 +85,12 @@ loop-holds c = let a = c .before .before .before .args in start (sortOf (a .kind
 
 returns : tie.Need-returns Inv-loop μ-loop
 returns c =
-    let a = c .before .before .before .before .before .before .before .before .before .before .args in
-    let l = c .before .before .before .before .before .before .loop in
-    let r = c .before .before .before .before .required-at in
+    let k = c .before .before .before .before in
+    let l = k .before .before in
+    let a = entry l .args in
+    let r = k .required-at in
     refused-as (sortOf (a .kind)) (a .index) (a .token) (a .body .now) (c .refused .ensures)
-    (absent (l .inv) _ (c .before .before .before .before .before .before .before .before .id .ensures) (c .before .before .before .before .before .loop-test .taken) (is-not (a .body .now) (l .at) _ (r .result) (r .ensures .0) (c .before .before .refusal .given .1)))
+    (absent (l .loop .inv) _ (l .before .before .id .ensures) (k .before .loop-test .taken) (is-not (a .body .now) (l .loop .at) _ (r .result) (r .ensures .0) (c .before .before .refusal .given .1)))
 
 sub-judge : tie.Need-sub-judge Inv-loop μ-loop
 sub-judge c = place c .ordered
@@ -95,39 +103,42 @@ part-judge-end c = place c .inside
 
 returns-2 : tie.Need-returns-2 Inv-loop μ-loop
 returns-2 c =
-    let p = c .before .before .before .before .before .before in
-    let a = p .before .before .before .before .before .before .before .before .before .args in
+    let j = c .before .before .before .before in
+    let p = j .before .before in
+    let a = entry (turn p) .args in
     refused-as (sortOf (a .kind)) (a .index) (a .token) (a .body .now) (c .refused2 .ensures)
-    (unfit (p .before .before .before .before .before .loop .inv) (place p) (unread (sortOf (a .kind)) (contents p) (sym (c .before .before .refusal2 .given .1) ∙ c .before .before .before .before .judge .ensures)))
+    (unfit (turn p .loop .inv) (place p) (unread (sortOf (a .kind)) (contents p) (sym (c .before .before .refusal2 .given .1) ∙ j .judge .ensures)))
 
 array-read-both : tie.Need-array-read-both Inv-loop μ-loop
-array-read-both c = omega (arith, small c, c .before .before .before .before .before .before .before .before .before .before .loop .inv .marked .all)
+array-read-both c = omega (arith, small c, turn (meets c) .loop .inv .marked .all)
 
 returns-3 : tie.Need-returns-3 Inv-loop μ-loop
 returns-3 c =
     let h = c .before .before .before in
-    let a = h .before .before .before .before .before .before .before .before .before .before .before .before .before .before .args in
+    let l = turn (meets h) in
+    let a = entry l .args in
     refused-as (sortOf (a .kind)) (a .index) (a .token) (a .body .now) (c .refused3 .ensures)
-    (again (h .before .before .before .before .before .before .before .before .before .before .loop .inv) (place (meets h)) (held h) (small h) (repeat (c .before .before) (c .before .if1 .taken)))
+    (again (l .loop .inv) (place (meets h)) (held h) (small h) (repeat (c .before .before) (c .before .if1 .taken)))
 
 array-write-marks : tie.Need-array-write-marks Inv-loop μ-loop
-array-write-marks c = omega (arith, small (c .before .before), c .before .before .before .before .before .before .before .before .before .before .before .before .loop .inv .marked .all)
+array-write-marks c = let h = c .before .before in omega (arith, small h, turn (meets h) .loop .inv .marked .all)
 
 add-count : tie.Need-add-count Inv-loop μ-loop
 add-count c =
-    let p = place (c .before .before .before .before .before .before .before .before .before) in
-    omega (arith, c .before .before .before .before .before .before .before .before .before .before .before .before .before .before .loop .inv .few, p .begins, p .ordered, p .inside)
+    let k = meets (c .before .before .before .before) in
+    let p = place k in
+    omega (arith, turn k .loop .inv .few, p .begins, p .ordered, p .inside)
 
 loop-less : tie.Need-loop-less Inv-loop μ-loop
 loop-less c =
-    let p = place (c .before .before .before .before .before .before .before .before .before .before) in
+    let p = place (meets (c .before .before .before .before .before)) in
     omega (arith, p .begins, p .ordered, p .inside)
 
 loop-again : tie.Need-loop-again Inv-loop μ-loop
 loop-again c =
     let h = c .before .before .before .before .before in
     rw (c .before .before .keep .ensures, c .before .both2 .ensures, c .has-left-over .ensures)
-    (further (h .before .before .before .before .before .before .before .before .before .before .loop .inv) (place (meets h)) (held h) (small h) (repeat (c .before .before .before .before) (c .before .before .before .if1 .left)))
+    (further (turn (meets h) .loop .inv) (place (meets h)) (held h) (small h) (repeat (c .before .before .before .before) (c .before .before .before .if1 .left)))
 
 array-read-hit : tie.Need-array-read-hit Inv-loop μ-loop
 array-read-hit c = omega (arith, c .before .loop .inv .marked .all)

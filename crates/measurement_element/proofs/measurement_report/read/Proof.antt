@@ -1,6 +1,8 @@
 -- `measurement_report::read` meets its contract: each way out is a way through the list of checks.
 use mathlib.Core.Bool.{false}
+use mathlib.Core.List.{List}
 use mathlib.Core.Path.{_≡_, sym, ap, _∙_}
+use Prim.Native.Nat.{ℕ}
 use denote.Ref.{now}
 use borrow.Author.Tests.{lt-ltb, le-ltb}
 use lib.Dec.{ltb}
@@ -24,15 +26,19 @@ single c = ap (ltb 1) (sym (c .before .flags-in .ensures)) ∙ le-ltb _ _ (c .if
 
 -- the matter of the report that was read is the one in the contents
 
+-- the contents, as the reader has them once it has built the report
+abbrev contentsIn : tie.After-report-in → List ℕ
+contentsIn c = now (c .before .before .before .before .before .before .args .contents)
+
 misfits : (c : tie.After-is-misfit)
-    → let contents = now (c .before .before .before .before .before .before .before .args .contents) in
+    → let contents = contentsIn (c .before) in
     reportMisfits (reportIn contents .matter) (length contents) ≡ c .is-misfit .result
 misfits c =
-    ap (λ (r : Report). reportMisfits (r .matter) (length (now (c .before .before .before .before .before .before .before .args .contents)))) (sym (c .before .report-in .ensures))
+    ap (λ (r : Report). reportMisfits (r .matter) (length (contentsIn (c .before)))) (sym (c .before .report-in .ensures))
     ∙ sym (c .is-misfit .ensures)
 
 forbids : (c : tie.After-is-forbidden)
-    → reportForbids (reportIn (now (c .before .before .before .before .before .before .before .before .before .args .contents)) .matter) ≡ c .is-forbidden .result
+    → reportForbids (reportIn (contentsIn (c .before .before .before)) .matter) ≡ c .is-forbidden .result
 forbids c =
     ap (λ (r : Report). reportForbids (r .matter)) (sym (c .before .before .before .report-in .ensures)) ∙ sym (c .is-forbidden .ensures)
 

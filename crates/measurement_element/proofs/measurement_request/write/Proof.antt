@@ -22,10 +22,12 @@ slice-aggregate-put c = sym (length-take-le _ _ (room (c .before)))
 
 returns : tie.Need-returns
 returns c =
-    let r = c .before .before .before .before .before .before .before .before .before .args .request in
-    let t = c .before .before .before .before .before .before .to-octets in
-    let size = ap (λ (n : ℕ). 2 + n) (c .before .before .before .before .before .before .before .size-of .ensures) ∙ sym (counted (r .matter) (r .token) (r .kind)) in
-    written-as (c .before .before .before .before .before .may-write .ensures) (ap (λ (n : ℕ). take n (t .result)) size ∙ t .ensures .1) (c .before .before .put .ensures)
+    let m = c .before .before .before .before .before in
+    let s = m .before .before in
+    let r = s .before .before .args .request in
+    let t = m .before .to-octets in
+    let size = ap (λ (n : ℕ). 2 + n) (s .size-of .ensures) ∙ sym (counted (r .matter) (r .token) (r .kind)) in
+    written-as (m .may-write .ensures) (ap (λ (n : ℕ). take n (t .result)) size ∙ t .ensures .1) (c .before .before .put .ensures)
 
 pub write-spec : {M : Type 1} → statement M
 write-spec =

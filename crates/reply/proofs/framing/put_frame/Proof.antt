@@ -29,14 +29,15 @@ returns c =
 
 returns-2 : tie.Need-returns-2
 returns-2 c =
-    let b = c .before .before .before .before .before .before .before .before .before .before in
+    let p = c .before .before .before .before .before .before in
+    let h = p .before .before .before in
+    let b = h .before in
     let a = b .before .before .before .args in
     let own : length (a .own) ≡ 6 = search needs in
     let ap' : length (a .ap) ≡ 6 = search needs in
-    let first = c .before .before .before .before .before .before .put in
     parts-written (replyHead (a .own) (a .ap)) (now (a .body)) (now (a .buffer)) headerLength (sym (head-length (a .own) (a .ap) own ap')) (omega (arith, b .if1 .left))
     _ _
-    (first .ensures .leaves ∙ ap (λ (os : List ℕ). left true os 0 (now (a .buffer))) (c .before .before .before .before .before .before .before .before .before .head .ensures))
+    (p .put .ensures .leaves ∙ ap (λ (os : List ℕ). left true os 0 (now (a .buffer))) (h .head .ensures))
     (c .before .before .put2 .ensures .leaves)
 
 pub put-frame-spec : {M : Type 1} → statement M

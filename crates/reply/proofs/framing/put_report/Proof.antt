@@ -17,22 +17,29 @@ use Rattle.reply.proofs.OneReport.{body, short-body, refused-as, unwrit
 use Rattle.reply.proofs.framing.put_report.Statement.{statement}
 use Rattle.reply.proofs.framing.put_report.Tie as tie
 
-eight : (c : tie.After-known-told2) → length (c .before .before .before .before .before .before .before .args .report .densities) ≡ 8
+-- the place after the body is built, and where the call begins
+abbrev appended : tie.After-known-told2 → tie.After-append
+appended c = c .before .before .before .before
+
+abbrev entry : tie.After-append → tie.Start
+entry k = k .before .before .before
+
+eight : (c : tie.After-known-told2) → length (entry (appended c) .args .report .densities) ≡ 8
 eight c = search needs
 
 -- what was built
 stands : (c : tie.After-known-told2)
-    → let a = c .before .before .before .before .before .before .before .args in
+    → let a = entry (appended c) .args in
     let n = c .before .count .given .0 .0 in
-    (reportMay (a .report) ≡ true) × (n ≡ length (body (a .token) (a .report))) × (take n (c .before .before .before .before .append .last .0) ≡ body (a .token) (a .report))
+    (reportMay (a .report) ≡ true) × (n ≡ length (body (a .token) (a .report))) × (take n (appended c .append .last .0) ≡ body (a .token) (a .report))
 stands c =
-    let a = c .before .before .before .before .before .before .before .args in
-    built (a .token) (a .report) (eight c) (replicate longestReplyBody 0) _ _ refl (c .before .before .before .before .append .ensures) _ (c .before .count .given .1)
+    let a = entry (appended c) .args in
+    built (a .token) (a .report) (eight c) (replicate longestReplyBody 0) _ _ refl (appended c .append .ensures) _ (c .before .count .given .1)
 
 array-share-prefix-body : tie.Need-array-share-prefix-body
 array-share-prefix-body c =
     let n = c .before .count .given .0 .0 in
-    let exit = c .before .before .before .before .append .last .0 in
+    let exit = appended c .append .last .0 in
     omega (arith, length-take n exit, ap (λ (xs : List ℕ). length xs) (stands c .2), stands c .1)
 
 slice-aggregate-put-frame : tie.Need-slice-aggregate-put-frame
@@ -41,19 +48,20 @@ slice-aggregate-put-frame c = let w = stands (c .before) in w .1 ∙ sym (ap (λ
 put-frame-requires : tie.Need-put-frame-requires
 put-frame-requires c κs =
     let k = c .before .before in
-    let a = k .before .before .before .before .before .before .before .args in
+    let a = entry (appended k) .args in
     omega (arith, ap (λ (xs : List ℕ). length xs) (stands k .2), short-body (a .token) (a .report) (eight k))
 
 returns : tie.Need-returns
 returns c =
-    let a = c .before .before .before .before .before .before .before .args in
-    let w = unwritten (a .token) (a .report) (search needs) (replicate longestReplyBody 0) _ _ refl (c .before .before .before .before .append .ensures) _ (c .before .refusal .given .1) in
+    let k = c .before .before .before .before in
+    let a = entry k .args in
+    let w = unwritten (a .token) (a .report) (search needs) (replicate longestReplyBody 0) _ _ refl (k .append .ensures) _ (c .before .refusal .given .1) in
     refused-as (w .1) (not-written (replyFrame (a .own) (a .ap) (body (a .token) (a .report))) 0 (now (a .buffer)) (w .0))
 
 returns-2 : tie.Need-returns-2
 returns-2 c =
     let k = c .before .before .before .before .before in
-    let a = k .before .before .before .before .before .before .before .args in
+    let a = entry (appended k) .args in
     let w = stands k in
     written-as (sym (w .0)) (ap (replyFrame (a .own) (a .ap)) (w .2)) (c .before .before .put-frame .ensures)
 

@@ -19,10 +19,10 @@ seven token report = refl
 
 returns : tie.Need-returns
 returns c =
-    let a = c .before .before .before .before .before .before .before .before .before .args in
-    let w = c .before .before .before .before .before .before .write-tpc-report in
+    let w = c .before .before .before .before .before .before in
+    let a = w .before .before .before .args in
     written-as refl
-    (ap (replyFrame (a .own) (a .ap)) (exactly (tpcReportBody (a .token) (a .report)) (replicate 7 0) _ (seven (a .token) (a .report)) (w .ensures .leaves)))
+    (ap (replyFrame (a .own) (a .ap)) (exactly (tpcReportBody (a .token) (a .report)) (replicate 7 0) _ (seven (a .token) (a .report)) (w .write-tpc-report .ensures .leaves)))
     (c .before .before .put-frame .ensures)
 
 pub put-tpc-report-spec : {M : Type 1} → statement M

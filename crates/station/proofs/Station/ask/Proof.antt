@@ -15,6 +15,10 @@ use Rattle.station.proofs.Answers.{past, stop, done}
 use Rattle.station.proofs.Station.ask.Statement.{statement}
 use Rattle.station.proofs.Station.ask.Tie as tie
 
+-- where the call begins, from the second look
+abbrev entry : tie.After-quiet-between2 → tie.Start
+entry c = let silence = c .before .before .before .before in silence .before .before .before .before .before
+
 -- ---- the cases that do not apply, from the places where this is known
 
 right-length : (c : tie.Else2) → let n = c .before .before .args .units in (eqb n 0 ≡ false) × (ltb unitLimit n ≡ false)
@@ -28,10 +32,10 @@ not-now c = sym (c .before .quiet-between .ensures) ∙ c .if4 .left
 
 -- what the second look finds, with the end that `up_to` gives
 later : (c : tie.After-quiet-between2)
-    → let a = c .before .before .before .before .before .before .before .before .before .args in
+    → let a = entry c .args in
     c .quiet-between2 .result ≡ quietIn (inUse (a .self)) (a .self .clock + 1) (upTo (a .self .pending) (a .self .clock + a .units))
 later c =
-    let s = c .before .before .before .before .before .before .before .before .before .args .self in
+    let s = entry c .args .self in
     c .quiet-between2 .ensures ∙ ap (quietIn (inUse s) (s .clock + 1)) (c .before .up-to .ensures)
 
 -- ---- the ways out
@@ -60,7 +64,7 @@ returns-4 c =
 
 -- past all cases but the last two
 not-yet : (c : tie.After-quiet-between2) {p : Permission}
-    → let a = c .before .before .before .before .before .before .before .before .before .args in
+    → let a = entry c .args in
     let end = a .self .clock + a .units in
     p ≡ firstOf (quietIn (inUse (a .self)) (a .self .clock + 1) (upTo (a .self .pending) end) gives Permission.QuietLater ∷ comesBefore (a .self .pending) end gives Permission.SwitchBefore ∷ [])
     → p ≡ permissionOf (a .self) (a .units)
