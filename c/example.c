@@ -27,7 +27,8 @@ static void show_announcement(void) {
     printf("announcement: answer %d, kind %d, mode %d, channel %d, count %d\n", (int)answer, fields[ONEIRALTH_FRAME_KIND], announcement[1], announcement[2],
            announcement[3]);
     answer = oneiralth_read_frame(frame, length - 1, oneiralth_address(OWN), oneiralth_address(AP), 100, fields, sizeof fields);
-    if (answer == ONEIRALTH_ELEMENT_CUT) printf("cut by an octet: the element runs past the end, answer %d\n", (int)answer);
+    int64_t offset = oneiralth_fault_offset(frame, length - 1, oneiralth_address(OWN), oneiralth_address(AP), 100);
+    if (answer == ONEIRALTH_ELEMENT_CUT) printf("cut by an octet: the element at octet %d runs past the end, answer %d\n", (int)offset, (int)answer);
 }
 
 /* A beacon with two Quiet elements, each read by its index. */

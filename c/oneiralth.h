@@ -2,7 +2,7 @@
  * the scope document's rules. Link with libboundary.a, which `rt staticlib boundary` makes.
  *
  * Nothing is kept between calls. Every function takes every input, always ends, and gives back a number of 0 or more, or minus a refusal's number
- * (-1 to -20, the scope document's table). A refused call leaves every octet of the buffer as it was; an accepted one leaves every octet past those that
+ * (-1 to -22, the scope document's table). A refused call leaves every octet of the buffer as it was; an accepted one leaves every octet past those that
  * it says it wrote as it was.
  *
  * An octet range is a pointer and a length; the length may be 0, the pointer is then any that is not null. What is lent for writing must not overlap
@@ -27,7 +27,7 @@ enum {
     ONEIRALTH_FOREIGN_ADDRESS = -4, /* SA or BSSID is not the AP, or DA is neither the station nor all ones */
     ONEIRALTH_FOREIGN_ACTION = -5, /* category not 0, or action over 4 */
     ONEIRALTH_ELEMENT_CUT = -6, /* an element runs past the frame's end */
-    ONEIRALTH_ELEMENTS_UNFIT = -7, /* the required element is absent, another is in its place, or octets are left over */
+    ONEIRALTH_ELEMENT_ABSENT = -7, /* the required element is absent */
     ONEIRALTH_WRONG_LENGTH = -8, /* the length of an element is wrong */
     ONEIRALTH_FORBIDDEN_VALUE = -9, /* a value that the rules forbid */
     ONEIRALTH_REPEATED = -10, /* a second 32, 35 or 37, or a measurement token used twice */
@@ -40,7 +40,9 @@ enum {
     ONEIRALTH_BLOCK_DAMAGED = -17, /* a damaged block */
     ONEIRALTH_NO_REPLY_DUE = -18, /* no reply is due */
     ONEIRALTH_NO_STATION = -19, /* a capture record with no station started */
-    ONEIRALTH_RECORD_MALFORMED = -20 /* a malformed capture record */
+    ONEIRALTH_RECORD_MALFORMED = -20, /* a malformed capture record */
+    ONEIRALTH_OTHER_ELEMENT = -21, /* another element stands where one is required */
+    ONEIRALTH_LEFT_OVER = -22 /* octets are left over after the one element of an action frame */
 };
 
 /* Where each field of a frame stands, and how many octets they are; numbers have their least significant octet first. */
@@ -129,6 +131,9 @@ static inline uint64_t oneiralth_address(const uint8_t octets[6]) {
 /* ---- reading: the fields are put at fixed places from the front of `out` on */
 
 int64_t oneiralth_read_frame(const uint8_t *frame, size_t frame_length, uint64_t own, uint64_t ap, uint16_t interval, uint8_t *out, size_t out_length);
+/* Where a frame that is refused broke: how many octets stand before the one at fault. A refusal with no octet at fault (-1 to -4) is given again, and a
+ * frame that is accepted gives ONEIRALTH_IMPOSSIBLE. */
+int64_t oneiralth_fault_offset(const uint8_t *frame, size_t frame_length, uint64_t own, uint64_t ap, uint16_t interval);
 /* A Quiet element and a measurement element are read by their index from 0; ONEIRALTH_IMPOSSIBLE where there is none. */
 int64_t oneiralth_read_quiet(const uint8_t *frame, size_t frame_length, uint64_t own, uint64_t ap, uint16_t interval, size_t index, uint8_t *out,
                              size_t out_length);
@@ -160,7 +165,9 @@ int64_t oneiralth_append_request(uint8_t *buffer, size_t buffer_length, size_t u
 int64_t oneiralth_append_report(uint8_t *buffer, size_t buffer_length, size_t used, uint8_t dialog, uint8_t token, uint8_t kind, uint8_t says,
                                 uint8_t value, uint8_t channel, uint64_t start, uint16_t duration, uint64_t densities);
 
-/* ---- replies, each a whole frame; the clock is in TU, the times are in microseconds */
+/* ---- replies, each a whole frame; the clock is in TU, the times are in microseconds. An action frame to the station alone whose
+ * body is broken gets that body back as an error return, its category's top bit set, from either function and whatever else it is handed. So a reply may be
+ * as long as a frame: 2,336 octets always suffice. */
 
 int64_t oneiralth_reply_to_tpc_request(const uint8_t *frame, size_t frame_length, uint64_t own, uint64_t ap, uint8_t power, uint8_t margin, uint8_t *out,
                                        size_t out_length);

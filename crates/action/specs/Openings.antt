@@ -1,14 +1,25 @@
 -- How an action body begins (01, "Order": category present (1), category (5), action present (1), action (5), token present (1),
--- token value (9)). Action 4 has no token; token 0 is forbidden in actions 0 and 2.
+-- token value (9)). Action 4 has no token; token 0 is forbidden in actions 0 and 2. The place of a fault is that field's (02, One).
 use mathlib.Core.Bool.{Bool, not, _&&_, _||_}
 use mathlib.Core.List.{List, [], _∷_}
 use Prim.Native.Nat.{ℕ}
 use lib.Dec.{ltb, eqb}
 use lib.ListN.{length}
-use Rattle.answer.specs.Checks.{Outcome, refused, accepted, pick, _⇒_, checked, judged}
+use Rattle.answer.specs.Checks.{refused, accepted, pick, _⇒_, checked, judged}
+use Rattle.answer.specs.Faults.{faultAt, faultNowhere, Placed}
 use Rattle.answer.specs.declared.Refusal.{Refusal}
 use Rattle.octets.specs.Numbers.{octet}
 use Rattle.action.specs.declared.Opening.{Opening}
+
+-- where the fields stand
+abbrev pub categoryField : ℕ
+categoryField = 0
+
+abbrev pub actionField : ℕ
+actionField = 1
+
+abbrev pub tokenField : ℕ
+tokenField = 2
 
 -- the octets before the elements: category, action and token; action 4 has no token
 abbrev pub fixedFields : ℕ
@@ -24,7 +35,7 @@ pub data Opens : Type 0 where
   with : ℕ → ℕ → Opens
 
 -- the outcome that each case of the answer stands for
-abbrev pub openingTold : Opening → Outcome Opens
+abbrev pub openingTold : Opening → Placed Opens
 openingTold (Opening.Refused r) = refused r
 openingTold Opening.Switch = accepted switching
 openingTold (Opening.Token a t) = accepted (with a t)
@@ -33,17 +44,17 @@ openingTold (Opening.Token a t) = accepted (with a t)
 abbrev pub forbidsToken : ℕ → ℕ → Bool
 forbidsToken action token = (eqb action 0 || eqb action 2) && eqb token 0
 
-unfoldable pub opensWith : List ℕ → Outcome Opens
+unfoldable pub opensWith : List ℕ → Placed Opens
 opensWith body =
     checked
-    (ltb (length body) 1 ⇒ Refusal.TooShort
-    ∷ not (eqb (octet 0 body) 0) ⇒ Refusal.ForeignAction
-    ∷ ltb (length body) switchFixedFields ⇒ Refusal.TooShort
-    ∷ ltb 4 (octet 1 body) ⇒ Refusal.ForeignAction
+    (ltb (length body) 1 ⇒ faultNowhere Refusal.TooShort
+    ∷ not (eqb (octet categoryField body) 0) ⇒ faultAt categoryField Refusal.ForeignAction
+    ∷ ltb (length body) switchFixedFields ⇒ faultNowhere Refusal.TooShort
+    ∷ ltb 4 (octet actionField body) ⇒ faultAt actionField Refusal.ForeignAction
     ∷ [])
-    (pick (eqb (octet 1 body) 4) (accepted switching)
+    (pick (eqb (octet actionField body) 4) (accepted switching)
     (judged
-    (ltb (length body) fixedFields ⇒ Refusal.TooShort
-    ∷ forbidsToken (octet 1 body) (octet 2 body) ⇒ Refusal.ForbiddenValue
+    (ltb (length body) fixedFields ⇒ faultNowhere Refusal.TooShort
+    ∷ forbidsToken (octet actionField body) (octet tokenField body) ⇒ faultAt tokenField Refusal.ForbiddenValue
     ∷ [])
-    (with (octet 1 body) (octet 2 body))))
+    (with (octet actionField body) (octet tokenField body))))

@@ -1,7 +1,15 @@
 // How an action body begins (document 01, "Octets" and "Order"; 802.11h 7.2.3.12, 7.3.1.11 and 7.4.1): category, action and, but for action 4, a dialog token.
 ghost use mathlib.Core.Path.{_≡_};
 ghost use Rattle.action.specs.Openings.{forbidsToken, openingTold, opensWith};
+use answer::Fault;
 use answer::Refusal;
+
+// Where the fields stand in a body.
+pub const CATEGORY: usize = 0;
+
+const ACTION: usize = 1;
+
+const TOKEN: usize = 2;
 
 // How many octets stand before the elements: category, action and token. Action 4 has no token.
 pub const FIXED_FIELDS: usize = 3;
@@ -10,7 +18,7 @@ pub const SWITCH_FIXED_FIELDS: usize = 2;
 
 // How a body begins: with no token (action 4), or with an action below 4 and its token.
 pub enum Opening {
-    Refused(Refusal),
+    Refused(Fault),
     Switch,
     Token { action: u8, token: u8 },
 }
@@ -32,27 +40,27 @@ pub fn open(body: &[u8]) -> Opening
     ensures { λ r. ⌜ openingTold r ≡ opensWith (now (body .entry)) ⌝ }
 {
     if body.len() < 1 {
-        return Opening::Refused(Refusal::TooShort);
+        return Opening::Refused(Fault::nowhere(Refusal::TooShort));
     }
-    if body[0] != 0 {
-        return Opening::Refused(Refusal::ForeignAction);
+    if body[CATEGORY] != 0 {
+        return Opening::Refused(Fault::at(Refusal::ForeignAction, CATEGORY));
     }
     if body.len() < SWITCH_FIXED_FIELDS {
-        return Opening::Refused(Refusal::TooShort);
+        return Opening::Refused(Fault::nowhere(Refusal::TooShort));
     }
-    let action = body[1];
+    let action = body[ACTION];
     if 4 < action {
-        return Opening::Refused(Refusal::ForeignAction);
+        return Opening::Refused(Fault::at(Refusal::ForeignAction, ACTION));
     }
     if action == 4 {
         return Opening::Switch;
     }
     if body.len() < FIXED_FIELDS {
-        return Opening::Refused(Refusal::TooShort);
+        return Opening::Refused(Fault::nowhere(Refusal::TooShort));
     }
-    let token = body[2];
+    let token = body[TOKEN];
     if forbids_token(action, token) {
-        return Opening::Refused(Refusal::ForbiddenValue);
+        return Opening::Refused(Fault::at(Refusal::ForbiddenValue, TOKEN));
     }
     Opening::Token { action, token }
 }

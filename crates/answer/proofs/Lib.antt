@@ -1,3 +1,5 @@
 pub mod Booleans
 pub mod Judged
+pub mod Placing
+pub mod Refusing
 pub mod Yielding

@@ -1,3 +1,4 @@
 pub mod Checks
+pub mod Faults
 pub mod Numbers
 pub mod Outcomes

@@ -1,7 +1,8 @@
--- The answer numbers (01, "Answer numbers").
+-- The answer numbers (01, "Answer numbers"; 02, One, for 7, 21 and 22).
 use Prim.Native.Nat.{ℕ}
 use Rattle.answer.specs.declared.Answer.{Answer}
 use Rattle.answer.specs.declared.Refusal.{Refusal}
+use Rattle.answer.specs.declared.Verdict.{Verdict}
 
 -- each refusal's number in the table
 abbrev pub numberOf : Refusal → ℕ
@@ -11,7 +12,7 @@ numberOf Refusal.ForeignHeader = 3
 numberOf Refusal.ForeignAddress = 4
 numberOf Refusal.ForeignAction = 5
 numberOf Refusal.ElementCut = 6
-numberOf Refusal.ElementsUnfit = 7
+numberOf Refusal.ElementAbsent = 7
 numberOf Refusal.WrongLength = 8
 numberOf Refusal.ForbiddenValue = 9
 numberOf Refusal.Repeated = 10
@@ -25,8 +26,14 @@ numberOf Refusal.BlockDamaged = 17
 numberOf Refusal.NoReplyDue = 18
 numberOf Refusal.NoStation = 19
 numberOf Refusal.RecordMalformed = 20
+numberOf Refusal.OtherElement = 21
+numberOf Refusal.LeftOver = 22
 
 -- 0 is accepted
 abbrev pub answerNumber : Answer → ℕ
 answerNumber Answer.Accepted = 0
 answerNumber (Answer.Refused r) = numberOf r
+
+abbrev pub verdictNumber : Verdict → ℕ
+verdictNumber Verdict.Accepted = 0
+verdictNumber (Verdict.Refused x) = numberOf (x .refusal)

@@ -1,6 +1,7 @@
-// The answers of every call (document 01, "Answer numbers"): accepted, or one of twenty refusals.
+// The answers of every call (document 01, "Answer numbers"; 02, One): accepted, or one of twenty-two refusals, and where a frame broke.
 ghost use mathlib.Core.Path.{_≡_};
-ghost use Rattle.answer.specs.Numbers.{numberOf, answerNumber};
+ghost use Rattle.answer.specs.Faults.{faultAt, faultNowhere, verdictOffset};
+ghost use Rattle.answer.specs.Numbers.{numberOf, answerNumber, verdictNumber};
 
 // A refusal, in the order of the table.
 pub enum Refusal {
@@ -16,8 +17,8 @@ pub enum Refusal {
     ForeignAction,
     // An element's header or contents run past the end.
     ElementCut,
-    // In an action frame: the required element is absent, another stands in its place, or octets are left over.
-    ElementsUnfit,
+    // In an action frame: the required element is absent.
+    ElementAbsent,
     // The length of an element is wrong.
     WrongLength,
     // A value that the rules forbid.
@@ -44,6 +45,10 @@ pub enum Refusal {
     NoStation,
     // A capture record is malformed.
     RecordMalformed,
+    // In an action frame: another element stands where one is required.
+    OtherElement,
+    // In an action frame of one element: octets are left over after it.
+    LeftOver,
 }
 
 // What a call answers where its value stands beside it.
@@ -64,7 +69,7 @@ impl Refusal {
             Refusal::ForeignAddress => 4,
             Refusal::ForeignAction => 5,
             Refusal::ElementCut => 6,
-            Refusal::ElementsUnfit => 7,
+            Refusal::ElementAbsent => 7,
             Refusal::WrongLength => 8,
             Refusal::ForbiddenValue => 9,
             Refusal::Repeated => 10,
@@ -78,6 +83,8 @@ impl Refusal {
             Refusal::NoReplyDue => 18,
             Refusal::NoStation => 19,
             Refusal::RecordMalformed => 20,
+            Refusal::OtherElement => 21,
+            Refusal::LeftOver => 22,
         }
     }
 }
@@ -90,6 +97,71 @@ impl Answer {
         match self {
             Answer::Accepted => 0,
             Answer::Refused(refusal) => refusal.number(),
+        }
+    }
+}
+
+// Where a frame broke: so many octets stand before the one at fault.
+pub enum Offset {
+    Absent,
+    At(usize),
+}
+
+// Why a frame is refused, and where it broke. No octet is at fault where it is too short, too long or not for this station (1 to 4).
+pub struct Fault {
+    pub refusal: Refusal,
+    pub offset: Offset,
+}
+
+impl Fault {
+    // At the octet that has so many before it.
+    pub fn at(refusal: Refusal, offset: usize) -> Fault
+        ensures { λ r. ⌜ r ≡ faultAt offset refusal ⌝ }
+    {
+        Fault {
+            refusal,
+            offset: Offset::At(offset),
+        }
+    }
+
+    // At no octet.
+    pub fn nowhere(refusal: Refusal) -> Fault
+        ensures { λ r. ⌜ r ≡ faultNowhere refusal ⌝ }
+    {
+        Fault {
+            refusal,
+            offset: Offset::Absent,
+        }
+    }
+}
+
+// What a call that is handed a frame answers.
+pub enum Verdict {
+    Accepted,
+    Refused(Fault),
+}
+
+impl Verdict {
+    // 0 for accepted, and else the refusal's number.
+    pub fn number(self) -> u8
+        ensures { λ r. ⌜ r ≡ verdictNumber self ⌝ }
+    {
+        match self {
+            Verdict::Accepted => 0,
+            Verdict::Refused(fault) => {
+                let refusal = fault.refusal;
+                refusal.number()
+            }
+        }
+    }
+
+    // Where the frame broke.
+    pub fn offset(self) -> Offset
+        ensures { λ r. ⌜ r ≡ verdictOffset self ⌝ }
+    {
+        match self {
+            Verdict::Accepted => Offset::Absent,
+            Verdict::Refused(fault) => fault.offset,
         }
     }
 }

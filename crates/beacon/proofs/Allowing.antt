@@ -8,6 +8,8 @@ use borrow.Author.Tests.{leb-false}
 use lib.Dec.{leb, eqb}
 use lib.ListN.{length, drop}
 use Rattle.answer.specs.Checks.{accepted}
+use Rattle.answer.specs.Faults.{placedAt}
+use Rattle.answer.proofs.Placing.{placed-value}
 use Rattle.answer.proofs.Yielding.{Yields, of-refusal, of-value, either-way, after-check, after-all, after-value}
 use Rattle.element.proofs.FixedLength.{opened}
 use Rattle.element.specs.ChannelSwitch.{switchMeans, switchIn, switchForbids}
@@ -16,7 +18,7 @@ use Rattle.element.specs.Quiet.{quietMeans, quietIn, quietForbids}
 use Rattle.element.specs.TpcReport.{tpcReportMeans}
 use Rattle.element.specs.declared.channel_switch.ChannelSwitch.{ChannelSwitch}
 use Rattle.element.specs.declared.quiet.Quiet.{Quiet}
-use Rattle.walk.specs.Elements.{Elements, end, cutHeader, cutContents, more, elementsIn}
+use Rattle.walk.specs.Elements.{Elements, end, cutHeader, cutContents, more, elementsIn, pastElement}
 use Rattle.beacon.specs.Allowed.{SwitchAllowed, QuietsAllowed, Allowed}
 use Rattle.beacon.specs.Beacons.{Told, tells, opening, quietLimit, fixedLength, elementMeans, adds, takes, says, beaconMeans}
 use Rattle.beacon.specs.Notices.{withPower, withReport, withSwitch}
@@ -83,16 +85,17 @@ module _ (b : ℕ) where
   -- ---- a body
 
   pub allowed-takes : (id : ℕ) (c : List ℕ) (t : Told) → Allowed b t → Yields (Allowed b) (takes b id c t)
-  unfolding takes Yields
+  unfolding takes
   allowed-takes id c t a = after-value _ (elementMeans b id c) (adds t) (λ e same. allowed-adds t a e (element-allowed id c e same))
 
-  allowed-says : (es : Elements) (t : Told) → Allowed b t → Yields (Allowed b) (says b es t)
-  unfolding says Yields
-  allowed-says end t a = of-value (Allowed b) a
-  allowed-says cutHeader t a = of-refusal (Allowed b) _
-  allowed-says (cutContents id) t a = of-refusal (Allowed b) _
-  allowed-says (more id c es) t a =
-      after-value (Allowed b) (takes b id c t) (says b es) (λ next e. allowed-says es next (allowed-takes id c t a next e))
+  allowed-says : (n : ℕ) (es : Elements) (t : Told) → Allowed b t → Yields (Allowed b) (says b n es t)
+  unfolding says
+  allowed-says n end t a = of-value (Allowed b) a
+  allowed-says n cutHeader t a = of-refusal (Allowed b) _
+  allowed-says n (cutContents id) t a = of-refusal (Allowed b) _
+  allowed-says n (more id c es) t a =
+      after-value (Allowed b) (placedAt n (takes b id c t)) (says b (pastElement n c) es)
+      (λ next e. allowed-says (pastElement n c) es next (allowed-takes id c t a next (placed-value n (takes b id c t) e)))
 
   pub opening-allowed : (body : List ℕ) → Allowed b (opening body)
   opening-allowed body = record { few = omega arith; switch-allowed = tt; quiets-allowed = tt }
@@ -101,4 +104,4 @@ module _ (b : ℕ) where
   unfolding beaconMeans
   beacon-allowed body =
       after-check _ _ _ _ (λ w. after-check _ _ _ _ (λ x. after-all _ _
-      (allowed-says (elementsIn (drop fixedLength body)) (opening body) (opening-allowed body))))
+      (allowed-says fixedLength (elementsIn (drop fixedLength body)) (opening body) (opening-allowed body))))

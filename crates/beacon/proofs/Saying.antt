@@ -5,6 +5,7 @@ use Prim.Native.Nat.{ℕ, _≤_, _<_}
 use borrow.Author.Tests.{eq-eqb, ne-eqb, lt-ltb, le-ltb}
 use lib.ListN.{length, drop}
 use Rattle.answer.specs.Checks.{Outcome, refused, accepted, andThen}
+use Rattle.answer.specs.Faults.{faultAt, faultNowhere, placedAt}
 use Rattle.answer.specs.declared.Refusal.{Refusal}
 use Rattle.answer.proofs.Judged.{past, stop, through}
 use Rattle.element.specs.ChannelSwitch.{switchMeans}
@@ -12,8 +13,8 @@ use Rattle.element.specs.PowerConstraint.{powerMeans}
 use Rattle.element.specs.Quiet.{quietMeans}
 use Rattle.element.specs.TpcReport.{tpcReportMeans}
 use Rattle.octets.specs.Numbers.{number}
-use Rattle.walk.specs.Elements.{Elements, more, elementsIn}
-use Rattle.beacon.specs.Beacons.{Told, opening, fixedLength, withoutMargin, elementMeans, takes, says, beaconMeans}
+use Rattle.walk.specs.Elements.{Elements, more, elementsIn, pastElement}
+use Rattle.beacon.specs.Beacons.{Told, opening, fixedLength, intervalField, withoutMargin, elementMeans, takes, says, beaconMeans}
 use Rattle.beacon.specs.declared.elements.Element.{Element}
 
 -- ---- an element by its ID
@@ -47,24 +48,25 @@ module _ (b id : ℕ) (c : List ℕ) where
 -- ---- all elements
 
 -- the outcome of the first one decides whether the others are read
-pub says-more : (b id : ℕ) (c : List ℕ) (es : Elements) (t : Told) {o : Outcome Told} → takes b id c t ≡ o → says b (more id c es) t ≡ andThen o (says b es)
+pub says-more : (b n id : ℕ) (c : List ℕ) (es : Elements) (t : Told) {o : Outcome Told} → takes b id c t ≡ o
+    → says b n (more id c es) t ≡ andThen (placedAt n o) (says b (pastElement n c) es)
 unfolding says
-says-more b id c es t e = ap (λ (p : Outcome Told). andThen p (says b es)) e
+says-more b n id c es t e = ap (λ (p : Outcome Told). andThen (placedAt n p) (says b (pastElement n c) es)) e
 
 -- ---- a body
 
 module _ (b : ℕ) (body : List ℕ) where
-  pub short-body : length body < fixedLength → refused Refusal.TooShort ≡ beaconMeans b body
+  pub short-body : length body < fixedLength → refused (faultNowhere Refusal.TooShort) ≡ beaconMeans b body
   unfolding beaconMeans
   short-body h = stop _ _ _ (lt-ltb _ _ h)
 
   -- `n` is the interval as it was read
-  module _ (n : ℕ) (h : fixedLength ≤ length body) (r : n ≡ number 2 8 body) where
-    pub other-interval : (n ≡ b → ⊥) → refused Refusal.OtherInterval ≡ beaconMeans b body
+  module _ (n : ℕ) (h : fixedLength ≤ length body) (r : n ≡ number 2 intervalField body) where
+    pub other-interval : (n ≡ b → ⊥) → refused (faultAt intervalField Refusal.OtherInterval) ≡ beaconMeans b body
     unfolding beaconMeans
-    other-interval d = past _ _ _ (le-ltb _ _ h) (stop _ _ _ (rw (ne-eqb (number 2 8 body) b (λ e. d (r ∙ e)))))
+    other-interval d = past _ _ _ (le-ltb _ _ h) (stop _ _ _ (rw (ne-eqb (number 2 intervalField body) b (λ e. d (r ∙ e)))))
 
-    pub body-says : n ≡ b → {t : Told} → t ≡ opening body → says b (elementsIn (drop fixedLength body)) t ≡ beaconMeans b body
+    pub body-says : n ≡ b → {t : Told} → t ≡ opening body → says b fixedLength (elementsIn (drop fixedLength body)) t ≡ beaconMeans b body
     unfolding beaconMeans
     body-says e f =
-        past _ _ _ (le-ltb _ _ h) (past _ _ _ (rw (eq-eqb (number 2 8 body) b (sym r ∙ e))) (through _ (ap (says b (elementsIn (drop fixedLength body))) f)))
+        past _ _ _ (le-ltb _ _ h) (past _ _ _ (rw (eq-eqb (number 2 intervalField body) b (sym r ∙ e))) (through _ (ap (says b fixedLength (elementsIn (drop fixedLength body))) f)))

@@ -4,7 +4,8 @@ use mathlib.Core.List.{List, [], _∷_, _++_}
 use Prim.Native.Nat.{ℕ, zero, suc}
 use native.Mathlib.Omega.{arith}
 use lib.ListN.{replicate}
-use Rattle.answer.specs.Checks.{Outcome, refused, accepted, checked}
+use Rattle.answer.specs.Checks.{refused, accepted, checked}
+use Rattle.answer.specs.Faults.{faultAt, faultNowhere, Placed}
 use Rattle.answer.specs.declared.Refusal.{Refusal}
 use Rattle.octets.specs.Elements.{fixed}
 use Rattle.element.specs.Quiet.{quietMeans, quietOctets}
@@ -40,12 +41,12 @@ unfolding beaconMeans checked says elementsIn elementsAfter
 bare = refl
 
 -- 11 octets: too short
-pub short : beaconMeans 100 (replicate 11 0) ≡ refused Refusal.TooShort
+pub short : beaconMeans 100 (replicate 11 0) ≡ refused (faultNowhere Refusal.TooShort)
 unfolding beaconMeans checked
 short = refl
 
 -- another interval
-pub other : beaconMeans 101 (body 1 []) ≡ refused Refusal.OtherInterval
+pub other : beaconMeans 101 (body 1 []) ≡ refused (faultAt 8 Refusal.OtherInterval)
 unfolding beaconMeans checked
 other = refl
 
@@ -56,15 +57,15 @@ two-quiets = refl
 
 -- as the reader hands them out
 pub two-slots : laid (beaconMeans 100 (body 1 (octetsOf (quietIn 3 ∷ quietIn 5 ∷ [])))) .quiets ≡ quietIn 3 ∷ quietIn 5 ∷ replicate 6 noQuiet
-two-slots = ap (λ (o : Outcome Told). laid o .quiets) two-quiets
+two-slots = ap (λ (o : Placed Told). laid o .quiets) two-quiets
 
 -- eight are kept
 pub eight-quiets : beaconMeans 100 (body 1 (octetsOf (several 8))) ≡ accepted (quietly (several 8))
 unfolding beaconMeans checked says takes elementMeans elementsIn elementsAfter quietMeans fixed quietOctets
 eight-quiets = refl
 
--- a ninth is refused
-pub nine-quiets : beaconMeans 100 (body 1 (octetsOf (several 9))) ≡ refused Refusal.TooManyQuiets
+-- a ninth is refused, at its ID octet: 12 octets and eight elements of 8 stand before it
+pub nine-quiets : beaconMeans 100 (body 1 (octetsOf (several 9))) ≡ refused (faultAt 76 Refusal.TooManyQuiets)
 unfolding beaconMeans checked says takes elementMeans elementsIn elementsAfter quietMeans fixed quietOctets
 nine-quiets = refl
 

@@ -1,5 +1,6 @@
 -- Beacon and Probe Response bodies (01, "Order": timestamp 8, interval 2, capability 2, any missing 1, interval not B 12,
--- elements). Whole elements but 32, 35, 37 and 40 are skipped; a second 32, 35 or 37 is 10, and a ninth Quiet element 11.
+-- elements). Whole elements but 32, 35, 37 and 40 are skipped; a second 32, 35 or 37 is 10, and a ninth Quiet element 11. The place of
+-- an element's fault is its ID octet, and that of another interval its field (02, One).
 use mathlib.Core.Bool.{not}
 use mathlib.Core.List.{List, [], _∷_, _++_}
 use Prim.Native.Nat.{ℕ}
@@ -7,6 +8,7 @@ use lib.Dec.{ltb, leb, eqb}
 use lib.IntN.{pos}
 use lib.ListN.{length, drop}
 use Rattle.answer.specs.Checks.{Outcome, refused, accepted, pick, _⇒_, checked, judged, andThen}
+use Rattle.answer.specs.Faults.{faultAt, faultNowhere, Placed, placedAt}
 use Rattle.answer.specs.declared.Refusal.{Refusal}
 use Rattle.element.specs.ChannelSwitch.{switchMeans}
 use Rattle.element.specs.PowerConstraint.{powerMeans}
@@ -15,14 +17,17 @@ use Rattle.element.specs.TpcReport.{tpcReportMeans}
 use Rattle.element.specs.declared.quiet.Quiet.{Quiet}
 use Rattle.element.specs.declared.tpc_report.TpcReport.{TpcReport}
 use Rattle.octets.specs.Numbers.{number}
-use Rattle.walk.specs.Elements.{Elements, end, cutHeader, cutContents, more, elementsIn}
+use Rattle.walk.specs.Elements.{Elements, end, cutHeader, cutContents, more, elementsIn, pastElement}
 use Rattle.beacon.specs.Notices.{elementless, withPower, withReport, withSwitch, hasPower, hasReport, hasSwitch}
 use Rattle.beacon.specs.declared.Notice.{Notice}
 use Rattle.beacon.specs.declared.elements.Element.{Element}
 
--- the octets of the fixed fields
+-- the octets of the fixed fields, and how many stand before the interval
 abbrev pub fixedLength : ℕ
 fixedLength = 12
+
+abbrev pub intervalField : ℕ
+intervalField = 8
 
 -- at most 8 Quiet elements in one frame
 abbrev pub quietLimit : ℕ
@@ -60,18 +65,21 @@ adds t Element.Other = accepted t
 unfoldable pub takes : ℕ → ℕ → List ℕ → Told → Outcome Told
 takes b id c t = andThen (elementMeans b id c) (adds t)
 
--- all elements, in their order
-unfoldable pub says : ℕ → Elements → Told → Outcome Told
-says b end t = accepted t
-says b cutHeader t = refused Refusal.ElementCut
-says b (cutContents id) t = refused Refusal.ElementCut
-says b (more id c es) t = andThen (takes b id c t) (says b es)
+-- all elements, in their order; n octets stand before them
+unfoldable pub says : ℕ → ℕ → Elements → Told → Placed Told
+says b n end t = accepted t
+says b n cutHeader t = refused (faultAt n Refusal.ElementCut)
+says b n (cutContents id) t = refused (faultAt n Refusal.ElementCut)
+says b n (more id c es) t = andThen (placedAt n (takes b id c t)) (says b (pastElement n c) es)
 
 -- before any element
 abbrev pub opening : List ℕ → Told
 opening body = tells (elementless (number 8 0 body) (number 2 10 body)) []
 
-unfoldable pub beaconMeans : ℕ → List ℕ → Outcome Told
+unfoldable pub beaconMeans : ℕ → List ℕ → Placed Told
 beaconMeans b body =
-    checked (ltb (length body) fixedLength ⇒ Refusal.TooShort ∷ not (eqb (number 2 8 body) b) ⇒ Refusal.OtherInterval ∷ [])
-    (says b (elementsIn (drop fixedLength body)) (opening body))
+    checked
+    (ltb (length body) fixedLength ⇒ faultNowhere Refusal.TooShort
+    ∷ not (eqb (number 2 intervalField body) b) ⇒ faultAt intervalField Refusal.OtherInterval
+    ∷ [])
+    (says b fixedLength (elementsIn (drop fixedLength body)) (opening body))

@@ -2,8 +2,9 @@
 use mathlib.Core.List.{List, [], _++_}
 use Prim.Native.Nat.{_-_}
 use lib.ListN.{length, replicate}
-use Rattle.answer.specs.Checks.{Outcome, refused, accepted}
-use Rattle.answer.specs.declared.Answer.{Answer}
+use Rattle.answer.specs.Checks.{refused, accepted}
+use Rattle.answer.specs.Faults.{Placed}
+use Rattle.answer.specs.declared.Verdict.{Verdict}
 use Rattle.element.specs.declared.quiet.Quiet.{Quiet}
 use Rattle.beacon.specs.Beacons.{Told, tells, quietLimit}
 use Rattle.beacon.specs.Notices.{nothing}
@@ -15,9 +16,9 @@ noQuiet = record { count = 0; period = 0; duration = 0; offset = 0 }
 abbrev pub slots : List Quiet → List Quiet
 slots qs = qs ++ replicate (quietLimit - length qs) noQuiet
 
-abbrev pub heardWith : Answer → Told → Heard
-heardWith answer t = record { answer = answer; notice = t .notice; quiets = slots (t .quiets); count = length (t .quiets) }
+abbrev pub heardWith : Verdict → Told → Heard
+heardWith verdict t = record { verdict = verdict; notice = t .notice; quiets = slots (t .quiets); count = length (t .quiets) }
 
-abbrev pub laid : Outcome Told → Heard
-laid (refused r) = heardWith (Answer.Refused r) (tells nothing [])
-laid (accepted t) = heardWith Answer.Accepted t
+abbrev pub laid : Placed Told → Heard
+laid (refused x) = heardWith (Verdict.Refused x) (tells nothing [])
+laid (accepted t) = heardWith Verdict.Accepted t

@@ -4,11 +4,13 @@ mod elements;
 
 ghost use mathlib.Core.Path.{_≡_};
 ghost use Rattle.answer.specs.Checks.{refused};
+ghost use Rattle.answer.specs.Faults.{faultAt};
 ghost use Rattle.beacon.specs.Beacons.{beaconMeans};
 ghost use Rattle.beacon.specs.Laid.{laid};
 use crate::adding::Added;
-use answer::Answer;
+use answer::Fault;
 use answer::Refusal;
+use answer::Verdict;
 use element::channel_switch::ChannelSwitch;
 use element::power_constraint::PowerConstraint;
 use element::quiet::Quiet;
@@ -18,8 +20,10 @@ use walk::Found;
 // How many Quiet elements a frame may have.
 pub const QUIETS: usize = 8;
 
-// The octets of the fixed fields: timestamp 8, interval 2, capability 2.
+// The octets of the fixed fields: timestamp 8, interval 2, capability 2; and how many stand before the interval.
 const FIXED_LENGTH: usize = 12;
+
+const INTERVAL: usize = 8;
 
 pub enum MaybePower {
     Absent,
@@ -56,10 +60,10 @@ impl Notice {
     };
 }
 
-// The answer, the notice, and the Quiet elements beside it: the first `count` slots in the order of the frame, the others blank.
+// The verdict, the notice, and the Quiet elements beside it: the first `count` slots in the order of the frame, the others blank.
 // A refusal leaves everything blank.
 pub struct Heard {
-    pub answer: Answer,
+    pub verdict: Verdict,
     pub notice: Notice,
     pub quiets: [Quiet; QUIETS],
     pub count: usize,
@@ -73,18 +77,25 @@ pub const NO_QUIET: Quiet = Quiet {
     offset: 0,
 };
 
-fn refused(refusal: Refusal) -> Heard
-    ensures { λ r. ⌜ r ≡ laid (refused refusal) ⌝ }
+fn refused(fault: Fault) -> Heard
+    ensures { λ r. ⌜ r ≡ laid (refused fault) ⌝ }
 {
-    let answer = Answer::Refused(refusal);
+    let verdict = Verdict::Refused(fault);
     let notice = Notice::NOTHING;
     let quiets = [NO_QUIET; QUIETS];
     Heard {
-        answer,
+        verdict,
         notice,
         quiets,
         count: 0,
     }
+}
+
+// The same at an octet of the body, which has so many before it.
+fn refused_at(refusal: Refusal, at: usize) -> Heard
+    ensures { λ r. ⌜ r ≡ laid (refused (faultAt at refusal)) ⌝ }
+{
+    refused(Fault::at(refusal, at))
 }
 
 // A body of a beacon or a probe response, heard by a station whose beacon interval is `interval`.
@@ -92,10 +103,10 @@ pub fn read(body: &[u8], interval: u16) -> Heard
     ensures { λ r. ⌜ r ≡ laid (beaconMeans interval (now (body .entry))) ⌝ }
 {
     if body.len() < FIXED_LENGTH {
-        return refused(Refusal::TooShort);
+        return refused(Fault::nowhere(Refusal::TooShort));
     }
-    if octets::number16(body, 8) != interval {
-        return refused(Refusal::OtherInterval);
+    if octets::number16(body, INTERVAL) != interval {
+        return refused_at(Refusal::OtherInterval, INTERVAL);
     }
     let mut notice = Notice {
         timestamp: octets::number64(body, 0),
@@ -109,22 +120,22 @@ pub fn read(body: &[u8], interval: u16) -> Heard
         match walk::element_at(body, at) {
             Found::End => {
                 return Heard {
-                    answer: Answer::Accepted,
+                    verdict: Verdict::Accepted,
                     notice,
                     quiets,
                     count,
                 };
             }
             Found::CutHeader => {
-                return refused(Refusal::ElementCut);
+                return refused_at(Refusal::ElementCut, at);
             }
             Found::CutContents(_) => {
-                return refused(Refusal::ElementCut);
+                return refused_at(Refusal::ElementCut, at);
             }
             Found::Whole { id, start, end } => {
                 match adding::add_element(notice, count, id, &body[start..end], interval) {
                     Added::Refused(refusal) => {
-                        return refused(refusal);
+                        return refused_at(refusal, at);
                     }
                     Added::Notice(next) => {
                         notice = next;

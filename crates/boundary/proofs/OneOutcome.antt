@@ -7,6 +7,7 @@ use denote.Ref.{now}
 use Rattle.answer.specs.Checks.{Outcome}
 use Rattle.boundary.specs.Codes.{Put, Given}
 use Rattle.boundary.proofs.reading.oneiralth_read_frame as Read-frame
+use Rattle.boundary.proofs.reading.oneiralth_fault_offset as Fault-offset
 use Rattle.boundary.proofs.reading.oneiralth_read_quiet as Read-quiet
 use Rattle.boundary.proofs.reading.oneiralth_read_request as Read-request
 use Rattle.boundary.proofs.reading.oneiralth_read_report as Read-report
@@ -38,6 +39,9 @@ given-once p q = (p .answers ∙ sym (q .answers), p .leaves ∙ sym (q .leaves)
 
 pub boundary-read-frame : OneOutcome 2 Read-frame.Kinds.ps Read-frame.Kinds.r Read-frame.Reads.Post (λ κs e. now (e .1 .1 .1 .1 .0))
 boundary-read-frame κs a e f x y p q = given-once p q
+
+pub boundary-fault-offset : OneResult 1 Fault-offset.Kinds.ps Fault-offset.Kinds.r Fault-offset.Reads.Post
+boundary-fault-offset κs a e f x y p q = p ∙ sym q
 
 pub boundary-read-quiet : OneOutcome 2 Read-quiet.Kinds.ps Read-quiet.Kinds.r Read-quiet.Reads.Post (λ κs e. now (e .1 .1 .1 .1 .1 .0))
 boundary-read-quiet κs a e f x y p q = given-once p q

@@ -1,10 +1,11 @@
 -- A Quiet element by its index, out of the slots that a reader hands out. Assumes nothing.
 use mathlib.Core.List.{List, [], _∷_, _++_}
-use mathlib.Core.Path.{_≡_, refl, ap}
+use mathlib.Core.Path.{_≡_, refl}
 use Prim.Native.Nat.{ℕ, zero, suc, _-_, _<_, _≤_}
 use native.Mathlib.Omega.{arith}
 use lib.ListN.{length, getD, replicate}
-use Rattle.answer.specs.Checks.{Outcome, refused, accepted}
+use Rattle.answer.specs.Checks.{refused, accepted}
+use Rattle.answer.specs.Faults.{Placed}
 use Rattle.answer.specs.declared.Refusal.{Refusal}
 use Rattle.beacon.specs.Beacons.{quietLimit}
 use Rattle.beacon.specs.Laid.{noQuiet}
@@ -32,16 +33,12 @@ at-index (suc i) (q ∷ qs) rest blank h = at-index i qs rest blank (omega arith
 
 -- by the outcome that was laid out
 module _ (i : ℕ) where
-  pub refused-quiet : (o : Outcome Sent) (r : Refusal) → frameLaid o .reading ≡ Reading.Refused r → quietOf i o ≡ refused r
-  refused-quiet (refused q) r e = ap refused (let same : q ≡ r = cc in same)
-  refused-quiet (accepted s) r e = absurd (let z : _≡_ {A = ℕ} 0 1 = cc in omega arith)
-
-  pub no-quiet : (o : Outcome Sent) (f : Frame) → frameLaid o .reading ≡ Reading.Is f → frameLaid o .count ≤ i → quietOf i o ≡ refused Refusal.Impossible
-  no-quiet (refused q) f e h = absurd (let z : _≡_ {A = ℕ} 0 1 = cc in omega arith)
+  pub no-quiet : (o : Placed Sent) (f : Frame) → frameLaid o .reading ≡ Reading.Is f → frameLaid o .count ≤ i → quietOf i o ≡ refused Refusal.Impossible
+  no-quiet (refused x) f e h = absurd (let z : _≡_ {A = ℕ} 0 1 = cc in omega arith)
   no-quiet (accepted s) f e h = past-last i (quietsOf (s .kind)) h
 
-  pub one-quiet : (o : Outcome Sent) (blank : Quiet) → i < frameLaid o .count → quietOf i o ≡ accepted (getD (frameLaid o .quiets) i blank)
-  one-quiet (refused q) blank h = absurd (omega arith)
+  pub one-quiet : (o : Placed Sent) (blank : Quiet) → i < frameLaid o .count → quietOf i o ≡ accepted (getD (frameLaid o .quiets) i blank)
+  one-quiet (refused x) blank h = absurd (omega arith)
   one-quiet (accepted s) blank h = at-index i (quietsOf (s .kind)) (replicate (quietLimit - length (quietsOf (s .kind))) noQuiet) blank h
 
 -- the slots in use are some of the slots
@@ -53,6 +50,6 @@ few-quiets b (action body) a = omega arith
 pub slots-in-use : (own ap' : List ℕ) (b : ℕ) (f : List ℕ) → frameLaid (frameMeans own ap' b f) .count ≤ quietLimit
 slots-in-use own ap' b f = by (frameMeans own ap' b f) (frame-allowed b own ap' f)
   where
-    by : (o : Outcome Sent) → ((x : Sent) → o ≡ accepted x → KindAllowed b (x .kind)) → frameLaid o .count ≤ quietLimit
-    by (refused r) h = omega arith
+    by : (o : Placed Sent) → ((x : Sent) → o ≡ accepted x → KindAllowed b (x .kind)) → frameLaid o .count ≤ quietLimit
+    by (refused x) h = omega arith
     by (accepted s) h = few-quiets b (s .kind) (h s refl)

@@ -1,4 +1,4 @@
--- The refusals' numbers (01, "Answer numbers") are 1 to 20, and no two refusals share one. Assumes nothing.
+-- The refusals' numbers (01, "Answer numbers") are 1 to 22, and no two refusals share one. Assumes nothing.
 use mathlib.Core.List.{List, [], _∷_}
 use mathlib.Core.Path.{_≡_, refl, sym, ap, _∙_}
 use Prim.Native.Nat.{ℕ, _-_, _≤_}
@@ -11,21 +11,22 @@ use Rattle.answer.specs.declared.Refusal.{Refusal}
 abbrev inOrder : List Refusal
 inOrder =
     Refusal.TooShort ∷ Refusal.TooLong ∷ Refusal.ForeignHeader ∷ Refusal.ForeignAddress ∷ Refusal.ForeignAction
-    ∷ Refusal.ElementCut ∷ Refusal.ElementsUnfit ∷ Refusal.WrongLength ∷ Refusal.ForbiddenValue ∷ Refusal.Repeated
+    ∷ Refusal.ElementCut ∷ Refusal.ElementAbsent ∷ Refusal.WrongLength ∷ Refusal.ForbiddenValue ∷ Refusal.Repeated
     ∷ Refusal.TooManyQuiets ∷ Refusal.OtherInterval ∷ Refusal.BufferShort ∷ Refusal.PastClock ∷ Refusal.BadStart
-    ∷ Refusal.Impossible ∷ Refusal.BlockDamaged ∷ Refusal.NoReplyDue ∷ Refusal.NoStation ∷ Refusal.RecordMalformed ∷ []
+    ∷ Refusal.Impossible ∷ Refusal.BlockDamaged ∷ Refusal.NoReplyDue ∷ Refusal.NoStation ∷ Refusal.RecordMalformed
+    ∷ Refusal.OtherElement ∷ Refusal.LeftOver ∷ []
 
 abbrev withNumber : ℕ → Refusal
 withNumber n = getD inOrder (n - 1) Refusal.TooShort
 
-pub numbered : (r : Refusal) → (1 ≤ numberOf r) × (numberOf r ≤ 20) × (withNumber (numberOf r) ≡ r)
+pub numbered : (r : Refusal) → (1 ≤ numberOf r) × (numberOf r ≤ 22) × (withNumber (numberOf r) ≡ r)
 numbered Refusal.TooShort = (omega arith, omega arith, refl)
 numbered Refusal.TooLong = (omega arith, omega arith, refl)
 numbered Refusal.ForeignHeader = (omega arith, omega arith, refl)
 numbered Refusal.ForeignAddress = (omega arith, omega arith, refl)
 numbered Refusal.ForeignAction = (omega arith, omega arith, refl)
 numbered Refusal.ElementCut = (omega arith, omega arith, refl)
-numbered Refusal.ElementsUnfit = (omega arith, omega arith, refl)
+numbered Refusal.ElementAbsent = (omega arith, omega arith, refl)
 numbered Refusal.WrongLength = (omega arith, omega arith, refl)
 numbered Refusal.ForbiddenValue = (omega arith, omega arith, refl)
 numbered Refusal.Repeated = (omega arith, omega arith, refl)
@@ -39,6 +40,8 @@ numbered Refusal.BlockDamaged = (omega arith, omega arith, refl)
 numbered Refusal.NoReplyDue = (omega arith, omega arith, refl)
 numbered Refusal.NoStation = (omega arith, omega arith, refl)
 numbered Refusal.RecordMalformed = (omega arith, omega arith, refl)
+numbered Refusal.OtherElement = (omega arith, omega arith, refl)
+numbered Refusal.LeftOver = (omega arith, omega arith, refl)
 
 pub same-refusal : (r q : Refusal) → numberOf r ≡ numberOf q → r ≡ q
 same-refusal r q e = sym (numbered r .2) ∙ ap withNumber e ∙ numbered q .2

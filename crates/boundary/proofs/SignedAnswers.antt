@@ -9,17 +9,24 @@ use denote.Ref.{now}
 use lib.ListN.{length}
 use Rattle.answer.proofs.Judged.{passed, kept}
 use Rattle.answer.specs.Checks.{Outcome, refused, accepted, andThen}
+use Rattle.answer.specs.Faults.{Placed}
+use Rattle.answer.specs.declared.Offset.{Offset}
 use Rattle.answer.specs.declared.Refusal.{Refusal}
 use Rattle.channel.specs.Centres.{highest, centreOf}
 use Rattle.fraction.proofs.Possible.{within}
 use Rattle.fraction.proofs.SumBound.{fraction-bound}
 use Rattle.fraction.specs.Fractions.{fractionOf, possible, busyOf}
+use Rattle.frame.proofs.Within.{frame-within}
+use Rattle.frame.specs.CodeTerms.Located.{OffsetWithin}
+use Rattle.frame.specs.Frames.{Sent, frameMeans}
 use Rattle.octets.specs.Writing.{room, wrote, after, left}
 use Rattle.reply.specs.Replies.{leftBy}
 use Rattle.boundary.proofs.RefusalNumbers.{numbered, same-refusal}
-use Rattle.boundary.specs.Codes.{codeOf, Put, Given}
+use Rattle.boundary.specs.Codes.{codeOf, addressOf, Put, Given}
+use Rattle.boundary.specs.FaultOffsets.{offsetOr, faultOffset}
 use Rattle.boundary.specs.SignedAnswers.{IsNegative, InRange, Answers, EachAnswers}
 use Rattle.boundary.proofs.reading.oneiralth_read_frame as Read-frame
+use Rattle.boundary.proofs.reading.oneiralth_fault_offset as Fault-offset
 use Rattle.boundary.proofs.reading.oneiralth_read_quiet as Read-quiet
 use Rattle.boundary.proofs.reading.oneiralth_read_request as Read-request
 use Rattle.boundary.proofs.reading.oneiralth_read_report as Read-report
@@ -106,6 +113,19 @@ busy-in-range duration time = by (busyOf duration time) refl
         let bounds = within duration time (possible duration time) refl (p .0) in
         omega (arith, fraction-bound duration time (bounds .0) (bounds .1), kept (fractionOf duration time) (p .1))
 
+-- ---- an offset is no further than the frame's end
+
+offset-in-range : (size : ℕ) → size < 2 ^ 63 → (r : Refusal) (o : Offset) → OffsetWithin size o → InRange (offsetOr r o)
+offset-in-range size h r Offset.Absent k = tt
+offset-in-range size h r (Offset.At n) k = omega arith
+
+fault-in-range : (own ap' : List ℕ) (b : ℕ) (f : List ℕ) → length f < 2 ^ 63 → InRange (faultOffset (frameMeans own ap' b f))
+fault-in-range own ap' b f h = by (frameMeans own ap' b f) refl
+  where
+    by : (o : Placed Sent) → frameMeans own ap' b f ≡ o → InRange (faultOffset o)
+    by (refused x) e = offset-in-range (length f) h (x .refusal) (x .offset) (frame-within own ap' b f x e)
+    by (accepted s) e = tt
+
 -- a slice of octets has fewer than 2 ^ 63 of them
 fewer : {n : ℕ} → (n < 2 ^ 64) × (n * 1 < 2 ^ 63) → n < 2 ^ 63
 fewer h = omega arith
@@ -114,6 +134,7 @@ fewer h = omega arith
 
 pub record EveryCall : Type 0 where
   pub read-frame : EachAnswers 2 Read-frame.Kinds.ps Read-frame.Reads.Post (λ κs a. now (a .1 .1 .1 .1 .0)) (λ κs e. now (e .1 .1 .1 .1 .0))
+  pub fault-offset : EachAnswers 1 Fault-offset.Kinds.ps Fault-offset.Reads.Post (λ κs a. []) (λ κs e. [])
   pub read-quiet : EachAnswers 2 Read-quiet.Kinds.ps Read-quiet.Reads.Post (λ κs a. now (a .1 .1 .1 .1 .1 .0)) (λ κs e. now (e .1 .1 .1 .1 .1 .0))
   pub read-request : EachAnswers 2 Read-request.Kinds.ps Read-request.Reads.Post (λ κs a. now (a .1 .1 .1 .1 .1 .0)) (λ κs e. now (e .1 .1 .1 .1 .1 .0))
   pub read-report : EachAnswers 2 Read-report.Kinds.ps Read-report.Reads.Post (λ κs a. now (a .1 .1 .1 .1 .1 .0)) (λ κs e. now (e .1 .1 .1 .1 .1 .0))
@@ -140,6 +161,10 @@ pub every-call : EveryCall
 every-call =
     record {
       read-frame = λ κs a e x g p. given-answers _ (fewer (g .1 .1 .1 .1 .0)) p;
+      fault-offset =
+          λ κs a e x g p.
+          answers (faultOffset (frameMeans (addressOf (a .1 .0)) (addressOf (a .1 .1 .0)) (a .1 .1 .1 .0) (now (a .0)))) x [] []
+          (fault-in-range (addressOf (a .1 .0)) (addressOf (a .1 .1 .0)) (a .1 .1 .1 .0) (now (a .0)) (fewer (g .0))) p (λ r f. refl);
       read-quiet = λ κs a e x g p. given-answers _ (fewer (g .1 .1 .1 .1 .1 .0)) p;
       read-request = λ κs a e x g p. given-answers _ (fewer (g .1 .1 .1 .1 .1 .0)) p;
       read-report = λ κs a e x g p. given-answers _ (fewer (g .1 .1 .1 .1 .1 .0)) p;

@@ -2,6 +2,7 @@
 use mathlib.Core.List.{List, [], _∷_, _++_}
 use Prim.Native.Nat.{ℕ}
 use Rattle.answer.specs.Checks.{Outcome, andThen}
+use Rattle.answer.specs.Faults.{Placed, withoutPlace}
 use Rattle.element.specs.declared.quiet.Quiet.{Quiet}
 use Rattle.frame.specs.Frames.{Sent}
 use Rattle.frame.specs.Laid.{quietsOf}
@@ -19,8 +20,8 @@ use Rattle.boundary.specs.declared.element_fields.Said.{Said}
 
 -- ---- a Quiet element by its index, as the measurement elements are: past the last, or on another kind, 16
 
-abbrev pub quietOf : ℕ → Outcome Sent → Outcome Quiet
-quietOf i o = andThen o (λ s. nth i (quietsOf (s .kind)))
+abbrev pub quietOf : ℕ → Placed Sent → Outcome Quiet
+quietOf i o = andThen (withoutPlace o) (λ s. nth i (quietsOf (s .kind)))
 
 -- ---- a Measurement Request element: what is asked, by the numbers that a writer takes; the two bits of an Enable element
 

@@ -61,7 +61,7 @@ fieldOctets f toAll quiets =
 
 -- of what was received, or its refusal
 abbrev pub readingFields : Reading → Bool → ℕ → Outcome (List ℕ)
-readingFields (Reading.Refused r) toAll quiets = refused r
+readingFields (Reading.Refused x) toAll quiets = refused (x .refusal)
 readingFields (Reading.Is f) toAll quiets = accepted (fieldOctets (fieldsOf f) toAll quiets)
 
 unfoldable pub frameFields : Received → Outcome (List ℕ)

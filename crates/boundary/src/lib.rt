@@ -27,6 +27,7 @@ pub use lists::oneiralth_list;
 pub use numbers::oneiralth_busy_fraction;
 pub use numbers::oneiralth_centre;
 pub use numbers::oneiralth_rpi_densities;
+pub use reading::oneiralth_fault_offset;
 pub use reading::oneiralth_read_frame;
 pub use reading::oneiralth_read_quiet;
 pub use reading::oneiralth_read_report;

@@ -1,15 +1,18 @@
 // Frames and measurement elements, put as fields at fixed places (docs/BOUNDARY.md), from the front of the buffer on.
+ghost use mathlib.Core.Path.{_≡_};
 ghost use Rattle.answer.specs.Checks.{andThen, accepted};
 ghost use Rattle.element.specs.Quiet.{quietContents};
 ghost use Rattle.frame.specs.Frames.{frameMeans, elementOf, requestIn, reportIn};
 ghost use Rattle.frame.specs.Laid.{frameLaid};
-ghost use Rattle.boundary.specs.Codes.{addressOf, Given};
+ghost use Rattle.boundary.specs.Codes.{codeOf, addressOf, Given};
 ghost use Rattle.boundary.specs.ElementFields.{quietOf, requestFields, reportFields};
+ghost use Rattle.boundary.specs.FaultOffsets.{faultOffset};
 ghost use Rattle.boundary.specs.FrameFields.{frameFields};
 use crate::codes;
 use crate::element_fields;
 use crate::frame_fields;
 use answer::Answer;
+use answer::Offset;
 use answer::Refusal;
 use frame::Reading;
 use measurement_element::measurement_request;
@@ -29,11 +32,36 @@ pub extern "C" fn oneiralth_read_frame(
     let received = frame::read(frame, own, ap, interval);
     let reading = received.reading;
     match reading {
-        Reading::Refused(refusal) => codes::refused(refusal),
+        Reading::Refused(fault) => {
+            let refusal = fault.refusal;
+            codes::refused(refusal)
+        }
         Reading::Is(frame) => {
             let fields = frame_fields::of_frame(frame);
             let count = received.count as u64;
             codes::wrote(frame_fields::put(fields, received.broadcast, count, out))
+        }
+    }
+}
+
+// Where a frame that is refused broke: the offset of the octet at fault. A refusal that has none is answered again, and an accepted frame is 16.
+#[no_mangle]
+pub extern "C" fn oneiralth_fault_offset(frame: &[u8], own: u64, ap: u64, interval: u16) -> u64
+    ensures { λ r. ⌜ r ≡ codeOf (faultOffset (frameMeans (addressOf own) (addressOf ap) interval (now (frame .entry)))) ⌝ }
+{
+    let own = codes::address(own);
+    let ap = codes::address(ap);
+    let received = frame::read(frame, own, ap, interval);
+    let reading = received.reading;
+    match reading {
+        Reading::Is(_) => codes::refused(Refusal::Impossible),
+        Reading::Refused(fault) => {
+            let refusal = fault.refusal;
+            let offset = fault.offset;
+            match offset {
+                Offset::Absent => codes::refused(refusal),
+                Offset::At(before) => before as u64,
+            }
         }
     }
 }
@@ -56,7 +84,10 @@ pub extern "C" fn oneiralth_read_quiet(
     let reading = received.reading;
     let quiets = received.quiets;
     match reading {
-        Reading::Refused(refusal) => codes::refused(refusal),
+        Reading::Refused(fault) => {
+            let refusal = fault.refusal;
+            codes::refused(refusal)
+        }
         Reading::Is(_) => {
             if received.count <= index {
                 return codes::refused(Refusal::Impossible);

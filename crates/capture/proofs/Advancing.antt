@@ -28,13 +28,13 @@ module _ (l : Lister) (e : l .active ≡ true) (v : Valid (l .station)) (n : ℕ
   pub refused-line : clockAdvance (l .station .clock) (l .station .pending) n ≡ Advanced.Refused → line l Word.Advance (refusal Refusal.PastClock) ≡ noted l (advancing n)
   refused-line k =
       ap (λ (x : Lister). line x Word.Advance (refusal Refusal.PastClock)) (as-followed (l .station))
-      ∙ ap (stepped l Word.Advance) (advanced (l .station) n Advanced.Refused k v .0) ∙ an-advance l e n
+      ∙ ap (stepped l) (advanced (l .station) n Advanced.Refused k v .0) ∙ an-advance l e n
 
   module _ (t : ℕ) (k : clockAdvance (l .station .clock) (l .station .pending) n ≡ Advanced.Goes t) where
     pub clock-line : line (clockedAt l t) Word.Advance (Response.Call Answer.Accepted) ≡ noted l (advancing n)
     clock-line =
         ap (λ (x : Lister). line x Word.Advance (Response.Call Answer.Accepted)) (as-followed (withClock (l .station) t))
-        ∙ ap (stepped l Word.Advance) (advanced (l .station) n (Advanced.Goes t) k v .0) ∙ an-advance l e n
+        ∙ ap (stepped l) (advanced (l .station) n (Advanced.Goes t) k v .0) ∙ an-advance l e n
 
     pub clock-sound : Sound (clockedAt l t)
     clock-sound = record { followed = λ f. advanced (l .station) n (Advanced.Goes t) k v .1; idle = λ f. clash (sym e ∙ f) }

@@ -13,7 +13,7 @@ use Rattle.station.specs.Clock.{advanceOf}
 use Rattle.station.specs.Taking.{takeOf}
 use Rattle.line.specs.declared.words.Word.{Word}
 use Rattle.capture.specs.CodeTerms.Stepping.{lacksStation, wordFor}
-use Rattle.capture.specs.Lists.{line, stepped, noStation, noted}
+use Rattle.capture.specs.Lists.{line, stepped, taken, noStation, noted}
 use Rattle.capture.specs.declared.lister.Lister.{Lister}
 use Rattle.capture.specs.declared.response.Response.{Response}
 
@@ -45,11 +45,11 @@ module _ (l : Lister) where
   lacking c (Entry.Ask n) e = no-ask (not-true (l .active) e) n
 
   module _ (e : l .active ≡ true) where
-    pub an-advance : (n : ℕ) → stepped l Word.Advance (advanceOf (l .station) n) ≡ noted l (advancing n)
+    pub an-advance : (n : ℕ) → stepped l (advanceOf (l .station) n) ≡ noted l (advancing n)
     unfolding noted
     an-advance n = yes (l .active) _ _ e
 
-    pub a-frame : (f : List ℕ) → stepped l Word.Frame (takeOf (l .station) f) ≡ noted l (hearing f)
+    pub a-frame : (f : List ℕ) → taken l (takeOf (l .station) f) ≡ noted l (hearing f)
     unfolding noted
     a-frame f = yes (l .active) _ _ e
 

@@ -4,8 +4,10 @@ use mathlib.Core.List.{List, [], _∷_, _++_}
 use Prim.Native.Nat.{ℕ, zero, suc, _+_, _-_}
 use lib.ListN.{take}
 use Rattle.answer.specs.Checks.{Outcome, refused, accepted, pick}
-use Rattle.answer.specs.Numbers.{answerNumber}
+use Rattle.answer.specs.Faults.{verdictOffset}
+use Rattle.answer.specs.Numbers.{answerNumber, verdictNumber}
 use Rattle.answer.specs.declared.Answer.{Answer}
+use Rattle.answer.specs.declared.Offset.{Offset}
 use Rattle.answer.specs.declared.Refusal.{Refusal}
 use Rattle.block.specs.Blocks.{blockSize, usedPart, blockMeans}
 use Rattle.block.specs.declared.Block.{Block}
@@ -17,6 +19,7 @@ use Rattle.station.specs.Starting.{startMeans}
 use Rattle.station.specs.Taking.{takeOf}
 use Rattle.station.specs.declared.Station.{Station}
 use Rattle.station.specs.declared.clock.Stepped.{Stepped}
+use Rattle.station.specs.declared.taking.Taken.{Taken}
 use Rattle.line.specs.Lines.{lineOf, closingOf}
 use Rattle.line.specs.declared.words.Word.{Word}
 use Rattle.capture.specs.Listers.{fresh, without, following, oneLineMore, oneBlockMore}
@@ -31,17 +34,26 @@ pub record Told : Type 0 where
 abbrev pub nothing : Lister → Told
 nothing l = record { lister = l; text = [] }
 
--- the number of each answer
+-- the number of each answer, and where a frame broke
 abbrev pub responseNumber : Response → ℕ
 responseNumber (Response.Call a) = answerNumber a
+responseNumber (Response.Frame v) = verdictNumber v
 responseNumber (Response.Question p) = permissionNumber p
+
+abbrev pub responseOffset : Response → Offset
+responseOffset (Response.Call a) = Offset.Absent
+responseOffset (Response.Frame v) = verdictOffset v
+responseOffset (Response.Question p) = Offset.Absent
 
 abbrev pub refusal : Refusal → Response
 refusal r = Response.Call (Answer.Refused r)
 
--- "number from 1 over the file, word, answer number"
+-- "number from 1 over the file, word, answer number", and after it the offset
+abbrev pub answerLine : ℕ → Word → Response → List ℕ
+answerLine number word answer = lineOf number word (responseNumber answer) (responseOffset answer)
+
 abbrev pub line : Lister → Word → Response → Told
-line l word answer = record { lister = oneLineMore l; text = lineOf (l .lines + 1) word (responseNumber answer) }
+line l word answer = record { lister = oneLineMore l; text = answerLine (l .lines + 1) word answer }
 
 abbrev pub before : List ℕ → Told → Told
 before text t = record { lister = t .lister; text = text ++ t .text }
@@ -52,8 +64,11 @@ abbrev pub started : Lister → Outcome Station → Told
 started l (refused r) = line (without l) Word.Start (refusal r)
 started l (accepted s) = line (following l s) Word.Start (Response.Call Answer.Accepted)
 
-abbrev pub stepped : Lister → Word → Stepped → Told
-stepped l word x = line (following l (x .station)) word (Response.Call (x .answer))
+abbrev pub stepped : Lister → Stepped → Told
+stepped l x = line (following l (x .station)) Word.Advance (Response.Call (x .answer))
+
+abbrev pub taken : Lister → Taken → Told
+taken l x = line (following l (x .station)) Word.Frame (Response.Frame (x .verdict))
 
 -- a record with no station started is 19
 abbrev pub noStation : Lister → Word → Told
@@ -66,8 +81,8 @@ badRecord l = line (without l) Word.Record (refusal Refusal.RecordMalformed)
 unfoldable pub noted : Lister → Noted → Told
 noted l malformed = badRecord l
 noted l (starting s) = started l (startMeans (s .own) (s .ap) (s .interval) (s .channel))
-noted l (advancing n) = pick (l .active) (stepped l Word.Advance (advanceOf (l .station) n)) (noStation l Word.Advance)
-noted l (hearing f) = pick (l .active) (stepped l Word.Frame (takeOf (l .station) f)) (noStation l Word.Frame)
+noted l (advancing n) = pick (l .active) (stepped l (advanceOf (l .station) n)) (noStation l Word.Advance)
+noted l (hearing f) = pick (l .active) (taken l (takeOf (l .station) f)) (noStation l Word.Frame)
 noted l (asking n) = pick (l .active) (line l Word.Ask (Response.Question (permissionOf (l .station) n))) (noStation l Word.Ask)
 
 -- ---- a block

@@ -7,11 +7,10 @@ ghost use Rattle.block.specs.Blocks.{payload};
 ghost use Rattle.octets.specs.Writing.{left, filled};
 ghost use Rattle.capture_record.specs.Records.{recordsIn};
 ghost use Rattle.line.specs.Backs.{lineRoom};
-ghost use Rattle.line.specs.Lines.{lineOf};
 ghost use Rattle.capture.specs.CodeTerms.Following.{lineFor, Listed};
 ghost use Rattle.capture.specs.Feeding.{enoughRoom};
 ghost use Rattle.capture.specs.Listers.{mostLines, lineLimit, oneLineMore, Sound};
-ghost use Rattle.capture.specs.Lists.{responseNumber, recorded};
+ghost use Rattle.capture.specs.Lists.{answerLine, recorded};
 use crate::Lister;
 use crate::noting;
 use crate::noting::Answered;
@@ -43,10 +42,14 @@ fn put_text(text: Text, out: &mut [u8], count: usize) -> usize
 // The line of this number, after the lines before it: how many octets there are then.
 fn put_numbered(number: u64, word: Word, answer: Response, out: &mut [u8], count: usize) -> usize
     requires { ⌜ count + lineRoom ≤ length (now out) ⌝ }
-    ensures { λ r. ⌜ (r ≡ count + length (lineOf number word (responseNumber answer))) × (r ≤ count + lineRoom) ⌝ }
-    ensures { λ _. ⌜ now (out .exit) ≡ left true (lineOf number word (responseNumber answer)) count (now (out .entry)) ⌝ }
+    ensures { λ r. ⌜ (r ≡ count + length (answerLine number word answer)) × (r ≤ count + lineRoom) ⌝ }
+    ensures { λ _. ⌜ now (out .exit) ≡ left true (answerLine number word answer) count (now (out .entry)) ⌝ }
 {
-    put_text(line::line(number, word, answer.number()), out, count)
+    put_text(
+        line::line(number, word, answer.number(), answer.offset()),
+        out,
+        count,
+    )
 }
 
 // The line that tells a record's answer, after the lines before it.

@@ -86,13 +86,13 @@ fn frame(lister: Lister, contents: &[u8]) -> Answered
     ensures { λ r. ⌜ Follows lister (r .lister) ⌝ }
 {
     let station = lister.station;
-    let stepped = station.take(contents);
-    let answer = stepped.answer;
-    let next = stepped.station;
+    let taken = station.take(contents);
+    let verdict = taken.verdict;
+    let next = taken.station;
     Answered {
         lister: lister::following(lister, next),
         word: Word::Frame,
-        answer: Response::Call(answer),
+        answer: Response::Frame(verdict),
     }
 }
 

@@ -10,7 +10,8 @@ use lib.Dec.{ltb, eqb}
 use lib.Seq.{take-at}
 use Rattle.answer.proofs.Booleans.{either, neither}
 use Rattle.answer.proofs.Judged.{never}
-use Rattle.answer.specs.Checks.{Outcome, refused, accepted}
+use Rattle.answer.specs.Checks.{refused, accepted}
+use Rattle.answer.specs.Faults.{Placed}
 use Rattle.beacon.specs.Allowed.{QuietsAllowed}
 use Rattle.beacon.specs.Beacons.{Told}
 use Rattle.beacon.specs.declared.MaybePower.{MaybePower}
@@ -222,7 +223,7 @@ module _ (s : Settings) (pos : 1 ≤ s .interval) where
       unfolding takeMeans
       takes = by-outcome (frameMeans (r .own) (r .ap) (r .interval) f) refl
         where
-          by-outcome : (o : Outcome Sent) → frameMeans (r .own) (r .ap) (r .interval) f ≡ o → Agrees s (frame f ∷ h) (takeOf r f .station)
+          by-outcome : (o : Placed Sent) → frameMeans (r .own) (r .ap) (r .interval) f ≡ o → Agrees s (frame f ∷ h) (takeOf r f .station)
           by-outcome (refused q) e =
               rw e
               (idle (frame f) still-frame

@@ -2,6 +2,7 @@
 -- Measurement Request but Enable elements, whatever the clock. Assumes nothing.
 use mathlib.Core.Bool.{Bool, true, false}
 use mathlib.Core.List.{List}
+use mathlib.Core.Logic.{_⊎_, inl, inr}
 use mathlib.Core.Path.{_≡_, refl, sym, ap, _∙_, subst, subst₃}
 use Prim.Native.Nat.{ℕ, _+_, _≤_}
 use native.Mathlib.Omega.{arith}
@@ -35,13 +36,14 @@ use Rattle.octets.specs.Writing.{wroteTold, wrote, filled}
 use Rattle.octets.specs.declared.writing.Wrote.{Wrote}
 use Rattle.reply.proofs.Framed.{head-length}
 use Rattle.reply.proofs.OneReport.{body, short-body}
-use Rattle.reply.specs.Due.{dueMeans}
+use Rattle.reply.specs.Due.{asks, breaks, dueMeans}
 use Rattle.reply.specs.Frames.{replyHead, replyFrame}
 use Rattle.reply.specs.Replies.{tpcReply, measurementReply, leftBy, Replied}
 use Rattle.single_body.specs.Singles.{tpcReportBody}
-use Rattle.claims.proofs.DueFrames.{due-asks, element-allowed}
+use Rattle.claims.proofs.DueFrames.{owed-by-station, element-allowed}
 use Rattle.claims.proofs.OwedReports.{owed}
-use Rattle.claims.proofs.ReplyParts.{measurement-parts}
+use Rattle.claims.proofs.ReplyParts.{MeasurementParts, ReturnParts, measurement-parts}
+use Rattle.claims.proofs.Same.{accepted-once}
 use Rattle.claims.specs.AnsweredRequests.{IsEnable, TpcCall, MeasurementCall, Answered}
 use Rattle.claims.specs.PossibleReadings.{AsAsked, basic, cca, rpi, Possible, incapable, late, refuses, carried, refusing}
 
@@ -114,9 +116,9 @@ put-in-front {os = os} {buffer = buffer} {answer = answer} w e h = (
 )
 
 module _ (own ap' f : List ℕ) where
-  reply-length : (asked : Body) → dueMeans own ap' f ≡ accepted asked → (os : List ℕ) → length (replyFrame own ap' os) ≡ headerLength + length os
+  reply-length : (asked : Body) → dueMeans own ap' f ≡ accepted (asks asked) → (os : List ℕ) → length (replyFrame own ap' os) ≡ headerLength + length os
   reply-length asked d os =
-      let a = due-asks own ap' f asked d in
+      let a = owed-by-station own ap' f (asks asked) d in
       length-append (replyHead own ap') os ∙ ap (λ (n : ℕ). n + length os) (head-length own ap' (ap length (sym (a .toStation))) (ap length (sym (a .fromAp))))
 
   -- ---- TPC Requests
@@ -127,7 +129,7 @@ module _ (own ap' f : List ℕ) where
         let same : tpcReply (a .1 .0) (a .1 .1 .0) (a .1 .1 .1 .0) (now (a .0)) ≡ tpcReply own ap' report f = cc in
         subst₃ (λ (o : Outcome (List ℕ)) (b x : List ℕ). Replied o b answer x) same lent left promised
 
-    pub tpc-answered : (token : ℕ) → dueMeans own ap' f ≡ accepted (tpcRequest token) → Answered (tpcReply own ap' report f) (TpcCall own ap' f report)
+    pub tpc-answered : (token : ℕ) → dueMeans own ap' f ≡ accepted (asks (tpcRequest token)) → Answered (tpcReply own ap' report f) (TpcCall own ap' f report)
     unfolding tpcReply tpcReportOctets
     tpc-answered token d =
         let given : tpcReply own ap' report f ≡ accepted (replyFrame own ap' (tpcReportBody token report)) = rw d in
@@ -147,7 +149,7 @@ module _ (own ap' f : List ℕ) where
         let same : measurementReply (a .1 .0) (a .1 .1 .0) (a .1 .1 .1 .0) (a .1 .1 .1 .1 .0) (a .1 .1 .1 .1 .1 .0) (now (a .0)) ≡ measurementReply own ap' clock index readings f = cc in
         subst₃ (λ (o : Outcome (List ℕ)) (b x : List ℕ). Replied o b answer x) same lent left promised
 
-    module _ (readings : Readings) (token : ℕ) (rs : List Request) (q : Request) (due : dueMeans own ap' f ≡ accepted (requests token rs)) (at : nth index rs ≡ accepted q) where
+    module _ (readings : Readings) (token : ℕ) (rs : List Request) (q : Request) (due : dueMeans own ap' f ≡ accepted (asks (requests token rs))) (at : nth index rs ≡ accepted q) where
       -- with all possible readings
       pub element-answered : length (readings .times) ≡ 8 → Possible clock readings q → Answered (measurementReply own ap' clock index readings f) (MeasurementCall own ap' f clock index readings)
       unfolding measurementReply checked
@@ -164,13 +166,17 @@ module _ (own ap' f : List ℕ) where
 
       -- and with no others
       pub only-possible : (os : List ℕ) → measurementReply own ap' clock index readings f ≡ accepted os → Possible clock readings q
-      only-possible os e =
-          let p = measurement-parts own ap' f os clock index readings e in
-          let list : p .elements ≡ rs = cc in
-          let same : p .request ≡ q = cc in
-          subst (Possible clock readings) same (owed clock readings (p .request) (p .report) (p .owed) .possible (p .may))
+      only-possible os e = by (measurement-parts own ap' f os clock index readings e)
+        where
+          by : MeasurementParts own ap' f os clock index readings ⊎ ReturnParts own ap' f os → Possible clock readings q
+          by (inl p) =
+              let asked : asks (requests (p .token) (p .elements)) ≡ asks (requests token rs) = accepted-once (sym (p .due) ∙ due) in
+              let list : p .elements ≡ rs = cc in
+              let same : p .request ≡ q = cc in
+              subst (Possible clock readings) same (owed clock readings (p .request) (p .report) (p .owed) .possible (p .may))
+          by (inr p) = absurd (let k : breaks (p .body) ≡ asks (requests token rs) = accepted-once (sym (p .due) ∙ due) in let z : _≡_ {A = ℕ} 0 1 = cc in omega arith)
 
     -- so each element but Enable has a reply, whatever was found: a station may always refuse
-    pub each-element-answered : (token : ℕ) (rs : List Request) (q : Request) → dueMeans own ap' f ≡ accepted (requests token rs) → nth index rs ≡ accepted q
+    pub each-element-answered : (token : ℕ) (rs : List Request) (q : Request) → dueMeans own ap' f ≡ accepted (asks (requests token rs)) → nth index rs ≡ accepted q
         → (IsEnable (q .matter) → ⊥) → Answered (measurementReply own ap' clock index refusing f) (MeasurementCall own ap' f clock index refusing)
     each-element-answered token rs q due at measures = element-answered refusing token rs q due at refl (refusing-possible clock q measures)

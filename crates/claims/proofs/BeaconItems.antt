@@ -10,8 +10,10 @@ use borrow.Author.Tests.{eq-eqb, eqb-true, eqb-false, ne-eqb, le-ltb, ltb-false,
 use lib.Dec.{leb, eqb}
 use lib.ListN.{length, drop, length-append}
 use Rattle.answer.specs.Checks.{Outcome, refused, accepted, checked, andThen}
+use Rattle.answer.specs.Faults.{placedAt}
+use Rattle.answer.specs.declared.Refusal.{Refusal}
+use Rattle.answer.proofs.Placing.{placed-value}
 use Rattle.answer.proofs.Judged.{never, passed, stands, kept, followed, past, through}
-use Rattle.answer.proofs.Yielding.{Yields}
 use Rattle.beacon.proofs.Allowing.{beacon-allowed}
 use Rattle.beacon.specs.Beacons.{Told, opening, fixedLength, quietLimit, withoutMargin, elementMeans, adds, takes, says, beaconMeans}
 use Rattle.beacon.specs.Notices.{hasPower, hasReport, hasSwitch}
@@ -26,7 +28,7 @@ use Rattle.element.specs.TpcReport.{tpcReportMeans}
 use Rattle.element.specs.declared.quiet.Quiet.{Quiet}
 use Rattle.element.specs.declared.tpc_report.TpcReport.{TpcReport}
 use Rattle.octets.specs.Numbers.{number}
-use Rattle.walk.specs.Elements.{Elements, end, cutHeader, cutContents, more, elementsIn}
+use Rattle.walk.specs.Elements.{Elements, end, cutHeader, cutContents, more, elementsIn, pastElement}
 use Rattle.claims.specs.FilteredFrames.{anyPower, anyReport, anySwitch, noticeReportMeans, NoticeOf}
 use Rattle.claims.specs.Filters.{Item, item, ofId, walkedAs}
 use Rattle.claims.proofs.NoticeFields.{one-power, one-report, one-switch, same-told, powerAs, reportAs, switchAs, quietsAs}
@@ -97,7 +99,7 @@ module _ (b : ℕ) where
     abbrev Then : ℕ → Type 0
     Then id = Said (item id c ∷ xs) before after
 
-    from : {next made : Told} → checked [] (accepted made) ≡ accepted next → Said xs next after → Said xs made after
+    from : {next made : Told} → checked {R = Refusal} [] (accepted made) ≡ accepted next → Said xs next after → Said xs made after
     from e s = subst (λ (t : Told). Said xs t after) (sym (kept _ e)) s
 
     power-fore : Fore 32 → Then 32
@@ -207,15 +209,15 @@ module _ (b : ℕ) where
         capability = refl;
       }
 
-  said : (es : Elements) (before after : Told) → says b es before ≡ accepted after → (xs : List Item) × (es ≡ walkedAs xs end) × Said xs before after
+  said : (n : ℕ) (es : Elements) (before after : Told) → says b n es before ≡ accepted after → (xs : List Item) × (es ≡ walkedAs xs end) × Said xs before after
   unfolding says walkedAs
-  said end before after e = ([], refl, subst (λ (t : Told). Said [] before t) (accepted-once e) (none before))
-  said cutHeader before after e = absurd (never e)
-  said (cutContents id) before after e = absurd (never e)
-  said (more id c es) before after e =
-      let p = followed (takes b id c before) (says b es) after e in
-      let r = said es (p .0) after (p .2) in
-      (item id c ∷ r .0, ap (more id c) (r .1), fore id c (r .0) before after (p .0, p .1, r .2))
+  said n end before after e = ([], refl, subst (λ (t : Told). Said [] before t) (accepted-once e) (none before))
+  said n cutHeader before after e = absurd (never e)
+  said n (cutContents id) before after e = absurd (never e)
+  said n (more id c es) before after e =
+      let p = followed (placedAt n (takes b id c before)) (says b (pastElement n c) es) after e in
+      let r = said (pastElement n c) es (p .0) after (p .2) in
+      (item id c ∷ r .0, ap (more id c) (r .1), fore id c (r .0) before after (p .0, placed-value n (takes b id c before) (p .1), r .2))
 
   module _ (after : Told) (few : length (after .quiets) ≤ quietLimit) where
     then : (id : ℕ) (c : List ℕ) (xs : List Item) (before : Told) → Then c xs before after id → Fore c xs before after id
@@ -230,22 +232,22 @@ module _ (b : ℕ) where
         same-told before after (sym (s .timestamp)) (sym (s .capability)) (sym (grew-none powerMeans (s .power)))
         (sym (grew-none noticeReportMeans (s .report))) (sym (grew-none switchMeans (s .switch))) (sym (grew-none (quietMeans b) (s .quiet)))
 
-    says-all : (xs : List Item) (before : Told) → Said xs before after → says b (walkedAs xs end) before ≡ accepted after
+    says-all : (n : ℕ) (xs : List Item) (before : Told) → Said xs before after → says b n (walkedAs xs end) before ≡ accepted after
     unfolding says walkedAs
-    says-all [] before s = ap accepted (nothing-added before s)
-    says-all (x ∷ xs) before s =
+    says-all n [] before s = ap accepted (nothing-added before s)
+    says-all n (x ∷ xs) before s =
         let p = then (x .id) (x .contents) xs before s in
-        simp (p .1) (says-all xs (p .0) (p .2))
+        simp (p .1) (says-all (pastElement n (x .contents)) xs (p .0) (p .2))
 
 -- ---- a body is accepted as what its elements say, and only so
 
 module _ (b : ℕ) (body : List ℕ) (t : Told) where
   accepted-notice : beaconMeans b body ≡ accepted t → NoticeOf b body t
-  unfolding beaconMeans Yields
+  unfolding beaconMeans
   accepted-notice e =
       let p = passed _ _ _ e in
       let q = passed _ _ _ (p .1) in
-      let r = said b (elementsIn (drop fixedLength body)) (opening body) t (stands _ (q .1)) in
+      let r = said b fixedLength (elementsIn (drop fixedLength body)) (opening body) t (stands _ (q .1)) in
       record {
         none-missing = ltb-false (length body) fixedLength (p .0);
         interval-is = eqb-true (number 2 8 body) b (not-false (eqb (number 2 8 body) b) (q .0));
@@ -273,8 +275,8 @@ module _ (b : ℕ) (body : List ℕ) (t : Told) where
         capability = n .capability-is;
       } in
       let w = walk-whole (drop fixedLength body) (n .items) .1 (n .octets) in
-      let whole : says b (elementsIn (drop fixedLength body)) (opening body) ≡ accepted t =
-      ap (λ (es : Elements). says b es (opening body)) w ∙ says-all b t (n .few-quiets) (n .items) (opening body) s in
+      let whole : says b fixedLength (elementsIn (drop fixedLength body)) (opening body) ≡ accepted t =
+      ap (λ (es : Elements). says b fixedLength es (opening body)) w ∙ says-all b t (n .few-quiets) fixedLength (n .items) (opening body) s in
       sym (past _ _ _ (le-ltb (length body) fixedLength (n .none-missing))
       (past _ _ _ (rw (eq-eqb (number 2 8 body) b (n .interval-is))) (through _ (sym whole))))
 

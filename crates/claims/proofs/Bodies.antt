@@ -13,6 +13,8 @@ use Rattle.single_body.specs.Singles.{tpcRequestBody, tpcReportBody, switchBody
 use Rattle.answer.proofs.Booleans.{both}
 use Rattle.answer.proofs.Judged.{passed, kept, followed}
 use Rattle.answer.specs.Checks.{Outcome, accepted}
+use Rattle.answer.specs.Faults.{nowhere, placedPast}
+use Rattle.answer.proofs.Placing.{nowhere-value, past-value}
 use Rattle.beacon.specs.Beacons.{beaconMeans}
 use Rattle.element.specs.ChannelSwitch.{switchOctets}
 use Rattle.octets.specs.Elements.{RoundTrip}
@@ -88,8 +90,8 @@ module _ (own ap' : List ℕ) (b : ℕ) (f : List ℕ) where
   pub accepted-short : (x : Sent) → frameMeans own ap' b f ≡ accepted x → length (bodyOf f) ≤ longestBody
   unfolding frameMeans
   accepted-short x e =
-      let h = followed (headerMeans own ap' f) _ x e in
-      omega (arith, not-too-long own ap' f (h .0) (h .1), length-drop headerLength f)
+      let h = followed (nowhere (headerMeans own ap' f)) _ x e in
+      omega (arith, not-too-long own ap' f (h .0) (nowhere-value (headerMeans own ap' f) (h .1)), length-drop headerLength f)
 
   -- what an accepted action frame says is what its body means
   body-means : (s : Subtype) (body : Body) → kindOf b s (bodyOf f) ≡ accepted (action body) → actionMeans (bodyOf f) ≡ accepted body
@@ -106,10 +108,10 @@ module _ (own ap' : List ℕ) (b : ℕ) (f : List ℕ) where
   kind-means : (x : Sent) → frameMeans own ap' b f ≡ accepted x → (s : Subtype) × (kindOf b s (bodyOf f) ≡ accepted (x .kind))
   unfolding frameMeans
   kind-means x e =
-      let h = followed (headerMeans own ap' f) _ x e in
-      let k = followed (kindOf b (h .0 .subtype) (bodyOf f)) _ x (h .2) in
+      let h = followed (nowhere (headerMeans own ap' f)) _ x e in
+      let k = followed (placedPast headerLength (kindOf b (h .0 .subtype) (bodyOf f))) _ x (h .2) in
       let same : record { toAll = h .0 .toAll; kind = k .0 } ≡ x = cc (k .2) in
-      (h .0 .subtype, k .1 ∙ ap (λ (y : Sent). accepted (y .kind)) same)
+      (h .0 .subtype, past-value headerLength (kindOf b (h .0 .subtype) (bodyOf f)) (k .1) ∙ ap (λ (y : Sent). accepted (y .kind)) same)
 
   -- so the body of each accepted action frame with nothing uninterpreted and no reserved bit set is written back
   pub frame-written-back : (x : Sent) (body : Body) (buffer : List ℕ) → Octets f → frameMeans own ap' b f ≡ accepted x → x .kind ≡ action body

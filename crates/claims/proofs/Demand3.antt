@@ -19,6 +19,7 @@ use Rattle.station.specs.Validity.{Valid}
 use Rattle.station.specs.declared.Station.{Station}
 use Rattle.station.specs.declared.asking.Permission.{Permission}
 use Rattle.station.specs.declared.clock.Stepped.{Stepped}
+use Rattle.station.specs.declared.taking.Taken.{Taken}
 use Rattle.station.specs.declared.starting.Started.{Started}
 use Rattle.capture_record.specs.declared.entry.Settings.{Settings}
 use Rattle.claims.specs.Histories.{frame, advance, ask, History}
@@ -53,7 +54,7 @@ module _ (s : Settings) where
   leaves-take : (before r : Station) (f : List ℕ) → Takes before f r → (r ≡ takeOf before f .station) × Valid r
   leaves-take before r f (κs, a, x, e, promise, (self, octets, result)) =
       let same : x ≡ takeOf before f = rw (← self, ← octets) (promise .0) in
-      (sym result ∙ ap (λ (y : Stepped). y .station) same, subst Valid result (promise .1))
+      (sym result ∙ ap (λ (y : Taken). y .station) same, subst Valid result (promise .1))
 
   leaves-advance : (before r : Station) (n : ℕ) → Advances before n r → (r ≡ advanceOf before n .station) × Valid r
   leaves-advance before r n (κs, a, x, e, promise, (self, units, result)) =

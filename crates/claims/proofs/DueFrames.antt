@@ -1,6 +1,6 @@
--- What a frame that is due a reply says of itself (01, "Replies": "Due only for accepted Action frames whose DA is the station"): its three
+-- What a frame that is due a reply says of itself (01, "Replies": "Due only for accepted Action frames whose DA is the station"; 02, One): its three
 -- addresses, and its body. Assumes nothing.
-use mathlib.Core.Bool.{Bool, true, false, _||_}
+use mathlib.Core.Bool.{Bool, true, false, _&&_, _||_}
 use mathlib.Core.List.{List, [], _∷_}
 use mathlib.Core.Path.{_≡_, refl, sym, ap, ap₂, _∙_, subst}
 use Prim.Native.Nat.{ℕ, _-_}
@@ -10,7 +10,11 @@ use lib.ListN.{take, drop, take-append-drop}
 use Rattle.action.specs.Openings.{fixedFields}
 use Rattle.answer.proofs.Booleans.{clash, both, neither}
 use Rattle.answer.proofs.Judged.{never, passed, kept}
-use Rattle.answer.specs.Checks.{Outcome, refused, accepted, andThen}
+use Rattle.answer.specs.Checks.{Outcome, refused, accepted, pick, andThen}
+use Rattle.answer.specs.Faults.{Placed}
+use Rattle.answer.specs.Numbers.{numberOf}
+use Rattle.answer.specs.declared.Refusal.{Refusal}
+use native.Mathlib.Omega.{arith}
 use Rattle.frame.proofs.ActionParts.{parts}
 use Rattle.frame.specs.Actions.{Body, requests, actionMeans}
 use Rattle.header.specs.Headers.{headerLength, bodyOf, same, da, sa, bssid, toAll, foreignAddress, managementMeans, addressMeans, headerMeans}
@@ -25,7 +29,7 @@ use Rattle.measurement_element.specs.MeasurementRequest.{requestMeans, requestF
 use Rattle.measurement_element.specs.declared.measurement_request.Request.{Request}
 use Rattle.octets.specs.Numbers.{Octets}
 use Rattle.walk.proofs.RunLaws.{octets-front, octets-after}
-use Rattle.reply.specs.Due.{orNone, afterHeader, dueMeans}
+use Rattle.reply.specs.Due.{Owed, asks, breaks, isReturned, hasCategory, orReturn, afterHeader, dueMeans}
 
 same-is-equal : (xs ys : List ℕ) → same xs ys ≡ true → xs ≡ ys
 same-is-equal [] [] e = refl
@@ -39,19 +43,19 @@ first-holds : (a b : Bool) → (a || b) ≡ true → b ≡ false → a ≡ true
 first-holds true b e k = refl
 first-holds false b e k = clash (sym e ∙ k)
 
--- the AP sent it to the station alone, and its body asks this
-pub record AsksStation (own ap f : List ℕ) (body : Body) : Type 0 where
+-- the AP sent it to the station alone, and its body is owed this
+pub record OwedByStation (own ap f : List ℕ) (x : Owed) : Type 0 where
   pub toStation : da f ≡ own
   pub toOne : toAll f ≡ false
   pub fromAp : sa f ≡ ap
   pub ofBss : bssid f ≡ ap
-  pub asks : actionMeans (bodyOf f) ≡ accepted body
+  pub is : orReturn (bodyOf f) (actionMeans (bodyOf f)) ≡ accepted x
 
-module _ (own ap' f : List ℕ) (body : Body) where
+module _ (own ap' f : List ℕ) (x : Owed) where
   -- past the checks on the addresses, and not to all ones
-  addressed : addressMeans own ap' f ≡ accepted false → actionMeans (bodyOf f) ≡ accepted body → AsksStation own ap' f body
+  addressed : addressMeans own ap' f ≡ accepted false → orReturn (bodyOf f) (actionMeans (bodyOf f)) ≡ accepted x → OwedByStation own ap' f x
   unfolding addressMeans foreignAddress
-  addressed e asks =
+  addressed e is =
       let p = passed _ _ _ e in
       let one : toAll f ≡ false = kept _ (p .1) in
       let from = neither _ _ (p .0) in
@@ -61,26 +65,33 @@ module _ (own ap' f : List ℕ) (body : Body) where
         toOne = one;
         fromAp = same-is-equal _ _ (not-false _ (from .0));
         ofBss = same-is-equal _ _ (not-false _ (bss .0));
-        asks = asks;
+        is = is;
       }
 
-  -- only a body that is accepted is due
-  accepted-body : (o : Outcome Body) → orNone o ≡ accepted body → o ≡ accepted body
-  accepted-body (refused r) e = absurd (never e)
-  accepted-body (accepted b) e = e
-
   by-checks : (m : Outcome Subtype) (o : Outcome Bool) → addressMeans own ap' f ≡ o
-      → andThen (andThen m (λ s. andThen o (λ t. accepted (record { subtype = s; toAll = t })))) (afterHeader f) ≡ accepted body → AsksStation own ap' f body
+      → andThen (andThen m (λ s. andThen o (λ t. accepted (record { subtype = s; toAll = t })))) (afterHeader f) ≡ accepted x → OwedByStation own ap' f x
   by-checks (refused r) o a e = absurd (never e)
   by-checks (accepted s) (refused r) a e = absurd (never e)
   by-checks (accepted s) (accepted true) a e = absurd (never e)
   by-checks (accepted Subtype.Beacon) (accepted false) a e = absurd (never e)
   by-checks (accepted Subtype.ProbeResponse) (accepted false) a e = absurd (never e)
-  by-checks (accepted Subtype.Action) (accepted false) a e = addressed a (accepted-body _ e)
+  by-checks (accepted Subtype.Action) (accepted false) a e = addressed a e
 
-  pub due-asks : dueMeans own ap' f ≡ accepted body → AsksStation own ap' f body
+  pub owed-by-station : dueMeans own ap' f ≡ accepted x → OwedByStation own ap' f x
   unfolding dueMeans headerMeans
-  due-asks e = by-checks (managementMeans f) (addressMeans own ap' f) refl e
+  owed-by-station e = by-checks (managementMeans f) (addressMeans own ap' f) refl e
+
+-- what is asked is what the body means
+pub due-asks : (own ap' f : List ℕ) (body : Body) → dueMeans own ap' f ≡ accepted (asks body) → actionMeans (bodyOf f) ≡ accepted body
+due-asks own ap' f body e = by (actionMeans (bodyOf f)) (owed-by-station own ap' f (asks body) e .is)
+  where
+    by-test : (t : Bool) → pick t (accepted (breaks (bodyOf f))) (refused Refusal.NoReplyDue) ≡ accepted (asks body) → ⊥
+    by-test true k = let z : _≡_ {A = ℕ} 0 1 = cc in omega arith
+    by-test false k = never k
+
+    by : (o : Placed Body) → orReturn (bodyOf f) o ≡ accepted (asks body) → o ≡ accepted body
+    by (refused x) k = absurd (by-test (isReturned (numberOf (x .refusal)) && hasCategory (bodyOf f)) k)
+    by (accepted b) k = cc
 
 -- ---- an element of its Measurement Request is what some of its octets mean
 
@@ -95,7 +106,7 @@ record Said (f : List ℕ) (q : Request) : Type 0 where
   octets : Octets f → Octets contents
   means : requestMeans contents ≡ accepted q
 
-module _ (own ap' f : List ℕ) (token : ℕ) (rs : List Request) (i : ℕ) (q : Request) (due : dueMeans own ap' f ≡ accepted (requests token rs)) (at : nth i rs ≡ accepted q) where
+module _ (own ap' f : List ℕ) (token : ℕ) (rs : List Request) (i : ℕ) (q : Request) (due : dueMeans own ap' f ≡ accepted (asks (requests token rs))) (at : nth i rs ≡ accepted q) where
   by-place : (p : Place) → Reads requestSort (bodyOf f) (nth i rs) p → Said f q
   by-place Place.Absent e = absurd (never (sym e ∙ at))
   by-place (Place.Contents start stop) e =
@@ -107,7 +118,7 @@ module _ (own ap' f : List ℕ) (token : ℕ) (rs : List Request) (i : ℕ) (q :
 
   said : Said f q
   said =
-      let p = parts (bodyOf f) (requests token rs) (due-asks own ap' f (requests token rs) due .asks) in
+      let p = parts (bodyOf f) (requests token rs) (due-asks own ap' f (requests token rs) due) in
       by-place (placeIn i (bodyOf f))
       (place-reads requestSort (bodyOf f) rs (ap (λ (c : List ℕ). measurementsIn requestSort (drop fixedFields c)) (p .front) ∙ p .holds .1) i)
 

@@ -11,8 +11,11 @@ use lib.Dec.{eqb, ltb}
 use lib.ListN.{length, length-append}
 use Rattle.answer.proofs.Booleans.{neither}
 use Rattle.answer.specs.Checks.{Outcome, refused, accepted, pick, checked, andThen}
-use Rattle.answer.specs.Numbers.{answerNumber}
+use Rattle.answer.specs.Faults.{Placed, verdictOffset}
+use Rattle.answer.specs.Numbers.{answerNumber, verdictNumber}
 use Rattle.answer.specs.declared.Refusal.{Refusal}
+use Rattle.answer.specs.declared.Verdict.{Verdict}
+use Rattle.capture.specs.Lists as Lists
 use Rattle.block.specs.Blocks.{usedLength, isDamaged, usedPart, blockMeans}
 use Rattle.block.specs.declared.Block.{Block}
 use Rattle.capture.specs.Listers.{fresh, oneBlockMore}
@@ -27,7 +30,7 @@ use Rattle.station.specs.Clock.{clockAdvance, advanceMeans, advanceOf}
 use Rattle.station.specs.Clock as Clock
 use Rattle.station.specs.Starting.{startForbids, startMeans}
 use Rattle.station.specs.Stations as Stations
-use Rattle.station.specs.Taking.{takeMeans, takeOf}
+use Rattle.station.specs.Taking.{taken, takeMeans, takeOf}
 use Rattle.pending.specs.declared.Pending.{Pending}
 use Rattle.station.specs.declared.Station.{Station}
 use Rattle.station.specs.declared.clock.Advanced.{Advanced}
@@ -35,7 +38,7 @@ use Rattle.line.specs.Lines.{lineOf, closingOf}
 use Rattle.line.specs.declared.words.Word.{Word}
 use Rattle.capture_record.specs.declared.entry.Settings.{Settings}
 use Rattle.claims.specs.Histories.{History, tooFar}
-use Rattle.claims.specs.HistoryLines.{Followed, nobody, since, refusesStart, followedAfter, says, outcomeNumber, Tells, TellsRecords, TellsBlock, TellsBlocks, ToldByHistories}
+use Rattle.claims.specs.HistoryLines.{Followed, nobody, since, refusesStart, followedAfter, says, saysFrame, Tells, TellsRecords, TellsBlock, TellsBlocks, ToldByHistories}
 use Rattle.claims.specs.Numbered.{Said, numberedFrom}
 use Rattle.claims.specs.Records.{recordAfter, Agrees}
 use Rattle.claims.proofs.Agreement.{agrees}
@@ -76,12 +79,16 @@ advance-number r n = by-test (tooFar (r .clock) n)
     by-test true = refl
     by-test false = by-pending (r .pending) (r .clock + n)
 
-take-number : (r : Station) (f : List ℕ) → answerNumber (takeOf r f .answer) ≡ outcomeNumber (frameMeans (r .own) (r .ap) (r .interval) f)
+-- what the line of a frame says
+abbrev verdictSaid : Verdict → Said
+verdictSaid v = record { word = Word.Frame; answer = verdictNumber v; offset = verdictOffset v }
+
+take-said : (r : Station) (f : List ℕ) → verdictSaid (takeOf r f .verdict) ≡ saysFrame (frameMeans (r .own) (r .ap) (r .interval) f)
 unfolding takeMeans
-take-number r f = by-outcome (frameMeans (r .own) (r .ap) (r .interval) f) _
+take-said r f = by-outcome (frameMeans (r .own) (r .ap) (r .interval) f) _
   where
-    by-outcome : {A : Type 0} (o : Outcome A) (next : A → Station) → answerNumber (Clock.stepped r (andThen o (λ a. accepted (next a))) .answer) ≡ outcomeNumber o
-    by-outcome (refused q) next = refl
+    by-outcome : {A : Type 0} (o : Placed A) (next : A → Station) → verdictSaid (taken r (andThen o (λ a. accepted (next a))) .verdict) ≡ saysFrame o
+    by-outcome (refused x) next = refl
     by-outcome (accepted a) next = refl
 
 -- ---- a record
@@ -90,7 +97,7 @@ take-number r f = by-outcome (frameMeans (r .own) (r .ap) (r .interval) f) _
 record One (l : Lister) (x : Followed) (e : Noted) (t : Told) : Type 0 where
   said : Said
   tells : Tells e x said
-  text : t .text ≡ lineOf (l .lines + 1) (said .word) (said .answer)
+  text : t .text ≡ lineOf (l .lines + 1) (said .word) (said .answer) (said .offset)
   line-count : t .lister .lines ≡ l .lines + 1
   keeps : Matches (t .lister) (followedAfter e x)
 
@@ -140,7 +147,7 @@ module _ (l : Lister) (s : Settings) (h : History) (active : l .active ≡ true)
   agreed : Agrees s h (l .station)
   agreed = subst (Agrees s h) (sym same) (agrees s positive h)
 
-  one-advance : (n : ℕ) → One l (since s h) (advancing n) (stepped l Word.Advance (advanceOf (l .station) n))
+  one-advance : (n : ℕ) → One l (since s h) (advancing n) (stepped l (advanceOf (l .station) n))
   unfolding Matches recordAfter
   one-advance n =
       record {
@@ -151,13 +158,13 @@ module _ (l : Lister) (s : Settings) (h : History) (active : l .active ≡ true)
         keeps = (refl, ap (λ (r : Station). advanceOf r n .station) same, positive);
       }
 
-  one-frame : (f : List ℕ) → One l (since s h) (hearing f) (stepped l Word.Frame (takeOf (l .station) f))
+  one-frame : (f : List ℕ) → One l (since s h) (hearing f) (Lists.taken l (takeOf (l .station) f))
   unfolding Matches recordAfter
   one-frame f =
       let settled : frameMeans (l .station .own) (l .station .ap) (l .station .interval) f ≡ frameMeans (s .own) (s .ap) (s .interval) f = rw (agreed .same-own, agreed .same-ap, agreed .same-interval) in
       record {
-        said = says Word.Frame (answerNumber (takeOf (l .station) f .answer));
-        tells = ap (says Word.Frame) (take-number (l .station) f ∙ ap outcomeNumber settled);
+        said = verdictSaid (takeOf (l .station) f .verdict);
+        tells = take-said (l .station) f ∙ ap saysFrame settled;
         text = refl;
         line-count = refl;
         keeps = (refl, ap (λ (r : Station). takeOf r f .station) same, positive);
@@ -198,10 +205,10 @@ record Lines (l : Lister) (t : Told) (Telling : List Said → Followed → Type 
   keeps : Matches (t .lister) next
 
 -- a line that leaves nobody followed
-alone : (l : Lister) (t : Told) (said : Said) (Telling : List Said → Followed → Type 0) → Telling (said ∷ []) nobody → t .text ≡ lineOf (l .lines + 1) (said .word) (said .answer) → t .lister .lines ≡ l .lines + 1 → t .lister .active ≡ false → Lines l t Telling
+alone : (l : Lister) (t : Told) (said : Said) (Telling : List Said → Followed → Type 0) → Telling (said ∷ []) nobody → t .text ≡ lineOf (l .lines + 1) (said .word) (said .answer) (said .offset) → t .lister .lines ≡ l .lines + 1 → t .lister .active ≡ false → Lines l t Telling
 unfolding numberedFrom Matches
 alone l t said Telling told text line-count idle =
-    record { said = said ∷ []; next = nobody; told = told; text = text ∙ sym (append-nil (lineOf (l .lines + 1) (said .word) (said .answer))); line-count = line-count; keeps = idle }
+    record { said = said ∷ []; next = nobody; told = told; text = text ∙ sym (append-nil (lineOf (l .lines + 1) (said .word) (said .answer) (said .offset))); line-count = line-count; keeps = idle }
 
 nothing-told : (l : Lister) (x : Followed) (t : Told) (Telling : List Said → Followed → Type 0) → Telling [] x → t .text ≡ [] → t .lister ≡ l → Matches l x → Lines l t Telling
 unfolding numberedFrom

@@ -12,7 +12,7 @@ use Rattle.answer.specs.declared.Refusal.{Refusal}
 use Rattle.block.specs.Blocks.{usedLength, isDamaged, usedPart, blockMeans}
 use Rattle.block.specs.declared.Block.{Block}
 use Rattle.capture.specs.Listers.{fresh, without, following, oneBlockMore}
-use Rattle.capture.specs.Lists.{Told, nothing, responseNumber, refusal, line, before, started, stepped, noStation, badRecord, noted, isMalformed, recorded, damagedTold, judged, blockTold, blocksIn, blocksTold, listOf}
+use Rattle.capture.specs.Lists.{Told, nothing, responseNumber, responseOffset, refusal, answerLine, line, before, started, stepped, taken, noStation, badRecord, noted, isMalformed, recorded, damagedTold, judged, blockTold, blocksIn, blocksTold, listOf}
 use Rattle.capture.specs.declared.lister.Lister.{Lister}
 use Rattle.capture.specs.declared.response.Response.{Response}
 use Rattle.capture_record.specs.Entries.{Noted, malformed, starting, advancing, hearing, asking, entryMeans}
@@ -23,6 +23,7 @@ use Rattle.station.specs.Starting.{startMeans}
 use Rattle.station.specs.Taking.{takeOf}
 use Rattle.station.specs.declared.Station.{Station}
 use Rattle.station.specs.declared.clock.Stepped.{Stepped}
+use Rattle.station.specs.declared.taking.Taken.{Taken}
 use Rattle.line.specs.Lines.{lineOf, closingOf}
 use Rattle.line.specs.declared.words.Word.{Word}
 use Rattle.claims.specs.Numbered.{Said, numberedFrom, recordsCounted, linesIn, linesAmong, damagedAmong, ListedAs}
@@ -40,7 +41,7 @@ pub numbered-append : (n : ℕ) (a b : List Said) → numberedFrom n (a ++ b) �
 unfolding numberedFrom
 numbered-append n [] b = ap (λ (k : ℕ). numberedFrom k b) (let e : n ≡ n + 0 = omega arith in e)
 numbered-append n (s ∷ a) b =
-    let first = lineOf (n + 1) (s .word) (s .answer) in
+    let first = lineOf (n + 1) (s .word) (s .answer) (s .offset) in
     let next : n + 1 + length a ≡ n + length (s ∷ a) = omega arith in
     ap (λ (os : List ℕ). first ++ os) (numbered-append (n + 1) a b ∙ ap (λ (k : ℕ). numberedFrom (n + 1) a ++ numberedFrom k b) next)
     ∙ sym (append-assoc first (numberedFrom (n + 1) a) _)
@@ -55,8 +56,8 @@ one : (l next : Lister) (word : Word) (answer : Response) → next .lines ≡ l 
 unfolding numberedFrom
 one l next word answer same-lines same-blocks same-damaged =
     record {
-      said = record { word = word; answer = responseNumber answer } ∷ [];
-      text = ap (λ (n : ℕ). lineOf (n + 1) word (responseNumber answer)) same-lines ∙ sym (append-nil (lineOf (l .lines + 1) word (responseNumber answer)));
+      said = record { word = word; answer = responseNumber answer; offset = responseOffset answer } ∷ [];
+      text = ap (λ (n : ℕ). answerLine (n + 1) word answer) same-lines ∙ sym (append-nil (answerLine (l .lines + 1) word answer));
       many = refl;
       line-count = omega (arith, same-lines);
       block-count = omega (arith, same-blocks);
@@ -95,8 +96,11 @@ started-one : (l : Lister) (o : Outcome Station) → Counted l (started l o) 1 0
 started-one l (refused r) = one l (without l) Word.Start (refusal r) refl refl refl
 started-one l (accepted s) = one l (following l s) Word.Start (Response.Call Answer.Accepted) refl refl refl
 
-stepped-one : (l : Lister) (word : Word) (x : Stepped) → Counted l (stepped l word x) 1 0 0
-stepped-one l word x = one l (following l (x .station)) word (Response.Call (x .answer)) refl refl refl
+stepped-one : (l : Lister) (x : Stepped) → Counted l (stepped l x) 1 0 0
+stepped-one l x = one l (following l (x .station)) Word.Advance (Response.Call (x .answer)) refl refl refl
+
+taken-one : (l : Lister) (x : Taken) → Counted l (taken l x) 1 0 0
+taken-one l x = one l (following l (x .station)) Word.Frame (Response.Frame (x .verdict)) refl refl refl
 
 unstarted-one : (l : Lister) (word : Word) → Counted l (noStation l word) 1 0 0
 unstarted-one l word = one l l word (refusal Refusal.NoStation) refl refl refl
@@ -108,8 +112,8 @@ noted-one : (l : Lister) (n : Noted) → Counted l (noted l n) 1 0 0
 unfolding noted
 noted-one l malformed = bad l
 noted-one l (starting s) = started-one l (startMeans (s .own) (s .ap) (s .interval) (s .channel))
-noted-one l (advancing n) = with-or-without l _ _ (stepped-one l Word.Advance (advanceOf (l .station) n)) (unstarted-one l Word.Advance)
-noted-one l (hearing f) = with-or-without l _ _ (stepped-one l Word.Frame (takeOf (l .station) f)) (unstarted-one l Word.Frame)
+noted-one l (advancing n) = with-or-without l _ _ (stepped-one l (advanceOf (l .station) n)) (unstarted-one l Word.Advance)
+noted-one l (hearing f) = with-or-without l _ _ (taken-one l (takeOf (l .station) f)) (unstarted-one l Word.Frame)
 noted-one l (asking n) = with-or-without l _ _ (one l l Word.Ask (Response.Question (permissionOf (l .station) n)) refl refl refl) (unstarted-one l Word.Ask)
 
 -- ---- a block

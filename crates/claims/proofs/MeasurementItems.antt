@@ -9,12 +9,13 @@ use native.Mathlib.Omega.{arith}
 use borrow.Author.Tests.{eq-eqb, ne-eqb, eqb-true, eqb-false}
 use lib.Dec.{eqb}
 use lib.ListN.{length}
+use Rattle.action.specs.Openings.{fixedFields}
 use Rattle.answer.specs.Checks.{accepted, pick}
 use Rattle.answer.proofs.Booleans.{neither, and-go}
 use Rattle.measurement_body.proofs.Listing.{onward, lists, ended, not-cut-header, not-cut-contents}
 use Rattle.measurement_body.specs.Lists.{Sort, used, repeats, listed, measurementsIn}
 use Rattle.walk.proofs.Requiring.{there}
-use Rattle.walk.specs.Elements.{Elements, end, cutHeader, cutContents, more, elementsIn}
+use Rattle.walk.specs.Elements.{Elements, end, cutHeader, cutContents, more, elementsIn, pastElement}
 use Rattle.claims.specs.FilteredFrames.{ofToken, ListOf}
 use Rattle.claims.specs.Filters.{Item, item, ofId, walkedAs}
 use Rattle.claims.proofs.ReadItems.{Grows, grows-none, grew-none, grows-all, grew-all, grows-first, grew-first}
@@ -120,10 +121,10 @@ module _ {A : Type 0} (s : Sort A) where
     some : 0 < length l
     once : Once l
 
-  read-run : (es : Elements) (before l : List A) → Once before → listed s es before ≡ accepted l → Listed es before l
+  read-run : (n : ℕ) (es : Elements) (before l : List A) → Once before → listed s n es before ≡ accepted l → Listed es before l
   unfolding walkedAs ofId
-  read-run end before l o e =
-      let p = ended s before l e in
+  read-run n end before l o e =
+      let p = ended s n before l e in
       record {
         items = [];
         walk = refl;
@@ -132,11 +133,11 @@ module _ {A : Type 0} (s : Sort A) where
         some = omega (arith, ap length (p .1), eqb-false (length before) 0 (p .0));
         once = subst Once (p .1) o;
       }
-  read-run cutHeader before l o e = absurd (not-cut-header s before l e)
-  read-run (cutContents id) before l o e = absurd (not-cut-contents s id before l e)
-  read-run (more id c es) before l o e =
-      let p = lists s id c es before l e in
-      let r = read-run es (before ++ (p .one ∷ [])) l (once-more before (p .one) o (p .new)) (p .on) in
+  read-run n cutHeader before l o e = absurd (not-cut-header s n before l e)
+  read-run n (cutContents id) before l o e = absurd (not-cut-contents s n id before l e)
+  read-run n (more id c es) before l o e =
+      let p = lists s n id c es before l e in
+      let r = read-run (pastElement n c) es (before ++ (p .one ∷ [])) l (once-more before (p .one) o (p .new)) (p .on) in
       record {
         items = item id c ∷ r .items;
         walk = ap (more id c) (r .walk);
@@ -147,19 +148,19 @@ module _ {A : Type 0} (s : Sort A) where
       }
 
   module _ (l : List A) (some : 0 < length l) (o : Once l) where
-    run-read : (xs : List Item) (before : List A) → ofId (s .id) xs ≡ xs → Grows (s .means) xs before l → listed s (walkedAs xs end) before ≡ accepted l
+    run-read : (n : ℕ) (xs : List Item) (before : List A) → ofId (s .id) xs ≡ xs → Grows (s .means) xs before l → listed s n (walkedAs xs end) before ≡ accepted l
     unfolding listed walkedAs
-    run-read [] before own g =
+    run-read n [] before own g =
         let same = grew-none (s .means) g in
         simp (ne-eqb (length before) 0 (λ z. omega (arith, ap length same))) (ap accepted (sym same))
-    run-read (x ∷ xs) before own g =
+    run-read n (x ∷ xs) before own g =
         let h = first-own (s .id) x xs own in
         let p = grew-first (s .means) x xs g in
         let es = walkedAs xs end in
         let new = was-new before (p .0) (p .2 .values) (subst Once (p .2 .joined) o) in
-        ap (λ (k : ℕ). listed s (more k (x .contents) es) before) (h .0)
-        ∙ onward s (more (s .id) (x .contents) es) (record { contents = x .contents; rest = es }) (there (s .id) (x .contents) es) before (p .1) new
-        ∙ run-read xs (before ++ (p .0 ∷ [])) (h .1) (p .2)
+        ap (λ (k : ℕ). listed s n (more k (x .contents) es) before) (h .0)
+        ∙ onward s n (more (s .id) (x .contents) es) (record { contents = x .contents; rest = es }) (there (s .id) (x .contents) es) before (p .1) new
+        ∙ run-read (pastElement n (x .contents)) xs (before ++ (p .0 ∷ [])) (h .1) (p .2)
 
   -- ---- a run is accepted as what its elements mean, and only so
 
@@ -167,7 +168,7 @@ module _ {A : Type 0} (s : Sort A) where
     accepted-list : measurementsIn s run ≡ accepted l → ListOf s run l
     unfolding measurementsIn ofToken
     accepted-list e =
-        let r = read-run (elementsIn run) [] l (λ on t. omega arith) e in
+        let r = read-run fixedFields (elementsIn run) [] l (λ on t. omega arith) e in
         record {
           items = r .items;
           octets = walk-whole run (r .items) .0 (r .walk);
@@ -180,8 +181,8 @@ module _ {A : Type 0} (s : Sort A) where
     list-accepted : ListOf s run l → measurementsIn s run ≡ accepted l
     unfolding measurementsIn
     list-accepted r =
-        ap (λ (es : Elements). listed s es []) (walk-whole run (r .items) .1 (r .octets))
-        ∙ run-read l (r .some) (r .once-each) (r .items) [] (r .all-own) (grows-all (s .means) (r .read))
+        ap (λ (es : Elements). listed s fixedFields es []) (walk-whole run (r .items) .1 (r .octets))
+        ∙ run-read l (r .some) (r .once-each) fixedFields (r .items) [] (r .all-own) (grows-all (s .means) (r .read))
 
     pub list-filtered : (measurementsIn s run ≡ accepted l) ↔ ListOf s run l
     list-filtered = (accepted-list, list-accepted)

@@ -17,6 +17,7 @@ use Rattle.single_body.proofs.write_tpc_request as Write-tpc-request
 use Rattle.action.specs.Openings.{Opens, switching, with, openingTold}
 use Rattle.action.specs.declared.Opening.{Opening}
 use Rattle.answer.specs.Checks.{Outcome, refused, accepted}
+use Rattle.answer.specs.Faults.{Placed}
 use Rattle.beacon.proofs.read as Beacon-read
 use Rattle.measurement_element.specs.MeasurementRequest.{requestTold}
 use Rattle.measurement_element.specs.declared.measurement_request.Reading as RequestReading
@@ -98,7 +99,7 @@ header-read κs a e f x y p q = told-once headerTold header-of header-told p q
 pub beacon-read : OneResult 1 Beacon-read.Kinds.ps Beacon-read.Kinds.r Beacon-read.Reads.Post
 beacon-read κs a e f x y p q = once p q
 
-opening-of : Outcome Opens → Opening
+opening-of : Placed Opens → Opening
 opening-of (refused r) = Opening.Refused r
 opening-of (accepted switching) = Opening.Switch
 opening-of (accepted (with k t)) = Opening.Token k t
@@ -115,7 +116,7 @@ forbids-token κs a e f x y p q = once p q
 pub body-opening : OneResult 1 Open.Kinds.ps Open.Kinds.r Open.Reads.Post
 body-opening κs a e f x y p q = told-once openingTold opening-of opening-told p q
 
-single-of : Outcome Single → Singles.Reading
+single-of : Placed Single → Singles.Reading
 single-of (refused r) = Singles.Reading.Refused r
 single-of (accepted s) = Singles.Reading.Is s
 
@@ -160,7 +161,7 @@ requests-append κs a e f x y p q = written-once p q
 pub reports-append : OneOutcome 1 Reports-append.Kinds.ps Reports-append.Kinds.r Reports-append.Reads.Post (λ κs e. now (e .0))
 reports-append κs a e f x y p q = written-once p q
 
-reading-of : Outcome Frame → Reading
+reading-of : Placed Frame → Reading
 reading-of (refused r) = Reading.Refused r
 reading-of (accepted f) = Reading.Is f
 

@@ -3,7 +3,11 @@ use mathlib.Core.Path.{_≡_, refl}
 use Prim.Native.Nat.{ℕ}
 use denote.Ref.{now}
 use Rattle.answer.proofs.Answer.number as Answer-number
+use Rattle.answer.proofs.Fault.at as Fault-at
+use Rattle.answer.proofs.Fault.nowhere as Fault-nowhere
 use Rattle.answer.proofs.Refusal.number as Refusal-number
+use Rattle.answer.proofs.Verdict.number as Verdict-number
+use Rattle.answer.proofs.Verdict.offset as Verdict-offset
 use Rattle.answer.specs.Checks.{Outcome, refused, accepted}
 use Rattle.channel.proofs.centre as Centre
 use Rattle.channel.specs.Centres as Centres
@@ -28,6 +32,18 @@ refusal-number κs a e f x y p q = once p q
 
 pub answer-number : OneResult 0 Answer-number.Kinds.ps Answer-number.Kinds.r Answer-number.Reads.Post
 answer-number κs a e f x y p q = once p q
+
+pub fault-at : OneResult 0 Fault-at.Kinds.ps Fault-at.Kinds.r Fault-at.Reads.Post
+fault-at κs a e f x y p q = once p q
+
+pub fault-nowhere : OneResult 0 Fault-nowhere.Kinds.ps Fault-nowhere.Kinds.r Fault-nowhere.Reads.Post
+fault-nowhere κs a e f x y p q = once p q
+
+pub verdict-number : OneResult 0 Verdict-number.Kinds.ps Verdict-number.Kinds.r Verdict-number.Reads.Post
+verdict-number κs a e f x y p q = once p q
+
+pub verdict-offset : OneResult 0 Verdict-offset.Kinds.ps Verdict-offset.Kinds.r Verdict-offset.Reads.Post
+verdict-offset κs a e f x y p q = once p q
 
 pub octet-at : OneResult 1 Octet-at.Kinds.ps Octet-at.Kinds.r Octet-at.Reads.Post
 octet-at κs a e f x y p q = once p q

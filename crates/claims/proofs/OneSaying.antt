@@ -5,6 +5,7 @@ use mathlib.Core.Path.{_≡_, refl, sym, ap, _∙_, subst}
 use Prim.Native.Nat.{ℕ, _≤_}
 use native.Mathlib.Omega.{arith}
 use Rattle.answer.specs.Checks.{accepted}
+use Rattle.answer.specs.Faults.{Placed}
 use Rattle.beacon.specs.Beacons.{Told}
 use Rattle.beacon.specs.declared.MaybePower.{MaybePower}
 use Rattle.beacon.specs.declared.MaybeSwitch.{MaybeSwitch}
@@ -19,7 +20,7 @@ use Rattle.claims.specs.Standing.{NoAnnouncement, LastAnnounced, Switche
 use Rattle.claims.specs.Tbtts.{CountedTo}
 use Rattle.claims.proofs.CountingTbtts.{one-moment}
 
-is-sent : {x y : Sent} → accepted x ≡ accepted y → x ≡ y
+is-sent : {x y : Sent} → _≡_ {A = Placed Sent} (accepted x) (accepted y) → x ≡ y
 is-sent e = cc
 
 is-switch : {w v : ChannelSwitch} → MaybeSwitch.Is w ≡ MaybeSwitch.Is v → w ≡ v

@@ -128,5 +128,4 @@ module _ (clock token kind : ℕ) (finding : Finding) (times : List ℕ) where
 
 pub owed : (clock : ℕ) (readings : Readings) (request : Request) (report : Report) → reportFor clock readings request ≡ accepted report
     → Owed clock readings request report
-unfolding Yields
 owed clock readings request report e = by-asks clock (request .token) (request .kind) (readings .finding) (readings .times) (request .matter) report e

@@ -2,6 +2,7 @@
 -- frame that is due a reply has them in it. Assumes nothing.
 use mathlib.Core.Bool.{true, false}
 use mathlib.Core.List.{List, [], _∷_}
+use mathlib.Core.Logic.{_⊎_, inl, inr}
 use mathlib.Core.Path.{_≡_, refl, ap, _∙_, subst₂}
 use Prim.Native.Nat.{ℕ, _≤_, _<_, _^_}
 use native.Mathlib.Omega.{arith}
@@ -23,17 +24,18 @@ use Rattle.measurement_body.specs.Lists.{mayAll, mayList}
 use Rattle.measurement_element.specs.MeasurementReport.{ReportFits, reportMay}
 use Rattle.measurement_element.specs.declared.measurement_report.Report.{Report}
 use Rattle.octets.specs.Numbers.{Octets}
-use Rattle.reply.proofs.OneReport.{body, short-body}
-use Rattle.reply.specs.CodeTerms.Asked.{longestReplyBody}
-use Rattle.reply.specs.Due.{dueMeans}
+use Rattle.reply.proofs.OneReport.{longestReplyBody, body, short-body}
+use Rattle.reply.specs.Due.{asks, dueMeans}
 use Rattle.reply.specs.Frames.{replyFrame}
 use Rattle.reply.specs.Replies.{tpcReply, measurementReply}
 use Rattle.single_body.specs.Singles.{tpcReportBody}
-use Rattle.claims.proofs.DueFrames.{due-asks, element-fits}
+use Rattle.claims.proofs.DueFrames.{owed-by-station, element-fits}
+use Rattle.claims.proofs.ErrorReturns.{returns-body}
 use Rattle.claims.proofs.OwedReports.{owed}
-use Rattle.claims.proofs.ReplyParts.{tpc-parts, measurement-parts}
+use Rattle.claims.proofs.ReplyParts.{TpcParts, MeasurementParts, ReturnParts, tpc-parts, measurement-parts}
+use Rattle.claims.specs.ErrorReturns.{ReturnsBody}
 use Rattle.claims.specs.Exchanged.{exchanged}
-use Rattle.claims.specs.RepliesRead.{ReadsBack}
+use Rattle.claims.specs.RepliesRead.{TpcReadsBack, ReadsBack}
 
 -- ---- the header
 
@@ -66,38 +68,39 @@ module _ (f os : List ℕ) (one : toAll f ≡ false) (short : length os ≤ long
   framed b k e = rw (headed, e)
 
 module _ (own ap' f : List ℕ) where
-  heard-from-ap : (asked : Body) → dueMeans own ap' f ≡ accepted asked → (os : List ℕ) (b : ℕ) (k : Body) → length os ≤ longestReplyBody → actionMeans os ≡ accepted k
+  heard-from-ap : (asked : Body) → dueMeans own ap' f ≡ accepted (asks asked) → (os : List ℕ) (b : ℕ) (k : Body) → length os ≤ longestReplyBody → actionMeans os ≡ accepted k
       → frameMeans own ap' b (exchanged (replyFrame own ap' os)) ≡ accepted (record { toAll = false; kind = action k })
   heard-from-ap asked d os b k short e =
-      let a = due-asks own ap' f asked d in
+      let a = owed-by-station own ap' f (asks asked) d in
       subst₂ (λ (o m : List ℕ). frameMeans o m b (exchanged (replyFrame o m os)) ≡ accepted (record { toAll = false; kind = action k })) (a .toStation) (a .fromAp)
       (framed f os (a .toOne) short b k e)
 
-  -- every reply to a TPC Request reads back as the report with the request's token
+  -- every reply to a TPC Request reads back as the report with the request's token; any other is an error return
   pub tpc-reply-read : (os : List ℕ) (report : TpcReport) → TpcReportFits report → tpcReply own ap' report f ≡ accepted os
-      → (token : ℕ) × (dueMeans own ap' f ≡ accepted (tpcRequest token))
-      × ((b : ℕ) → frameMeans own ap' b (exchanged os) ≡ accepted (record { toAll = false; kind = action (tpcReport token report) }))
+      → TpcReadsBack own ap' f report os ⊎ ReturnsBody own ap' f os
   unfolding tpcReportOctets actionMay actionOctets ActionFits
-  tpc-reply-read os report fits e =
-      let p = tpc-parts own ap' f os report e in
-      let token = p .token in (
-        token,
-        p .due,
-        λ b.
-            ap (λ (xs : List ℕ). frameMeans own ap' b (exchanged xs)) (p .octets)
-            ∙ heard-from-ap (tpcRequest token) (p .due) (tpcReportBody token report) b (tpcReport token report) (omega arith) (action-trip .there (tpcReport token report) fits refl),
-      )
+  tpc-reply-read os report fits e = by (tpc-parts own ap' f os report e)
+    where
+      by : TpcParts own ap' f os report ⊎ ReturnParts own ap' f os → TpcReadsBack own ap' f report os ⊎ ReturnsBody own ap' f os
+      by (inl p) =
+          let token = p .token in
+          inl
+          (record {
+            token = token;
+            due = p .due;
+            read = λ b.
+                ap (λ (xs : List ℕ). frameMeans own ap' b (exchanged xs)) (p .octets)
+                ∙ heard-from-ap (tpcRequest token) (p .due) (tpcReportBody token report) b (tpcReport token report) (omega arith) (action-trip .there (tpcReport token report) fits refl);
+          })
+      by (inr p) = inr (returns-body own ap' f os p)
 
   one-report : (token : ℕ) (x : Report) → ReportFits x → reportMay x ≡ true → actionMeans (body token x) ≡ accepted (reports token (x ∷ []))
   unfolding actionMay actionOctets ActionFits mayList mayAll
   one-report token x fits m = action-trip .there (reports token (x ∷ [])) (fits, tt) (rw m)
 
-  -- every reply to an element of a Measurement Request reads back as the report that is owed for it. `clock` is of 32 bits and the times are eight,
-  -- as in the code
-  pub measurement-reply-read : (os : List ℕ) (clock index : ℕ) (readings : Readings) → Octets f → clock < 2 ^ 32 → length (readings .times) ≡ 8
-      → measurementReply own ap' clock index readings f ≡ accepted os → ReadsBack own ap' f clock index readings os
-  measurement-reply-read os clock index readings octets within eight e =
-      let p = measurement-parts own ap' f os clock index readings e in
+  report-read : (os : List ℕ) (clock index : ℕ) (readings : Readings) → Octets f → clock < 2 ^ 32 → length (readings .times) ≡ 8
+      → MeasurementParts own ap' f os clock index readings → ReadsBack own ap' f clock index readings os
+  report-read os clock index readings octets within eight p =
       let token = p .token in
       let x = p .report in
       let asked = requests token (p .elements) in
@@ -119,3 +122,13 @@ module _ (own ap' f : List ℕ) where
         owed = p .owed;
         carries = o .carries (p .may);
       }
+
+  -- every reply to an element of a Measurement Request reads back as the report that is owed for it; any other is an error return. `clock` is of 32 bits
+  -- and the times are eight, as in the code
+  pub measurement-reply-read : (os : List ℕ) (clock index : ℕ) (readings : Readings) → Octets f → clock < 2 ^ 32 → length (readings .times) ≡ 8
+      → measurementReply own ap' clock index readings f ≡ accepted os → ReadsBack own ap' f clock index readings os ⊎ ReturnsBody own ap' f os
+  measurement-reply-read os clock index readings octets within eight e = by (measurement-parts own ap' f os clock index readings e)
+    where
+      by : MeasurementParts own ap' f os clock index readings ⊎ ReturnParts own ap' f os → ReadsBack own ap' f clock index readings os ⊎ ReturnsBody own ap' f os
+      by (inl p) = inl (report-read os clock index readings octets within eight p)
+      by (inr p) = inr (returns-body own ap' f os p)

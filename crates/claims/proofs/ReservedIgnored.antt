@@ -11,10 +11,12 @@ use lib.Dec.{ltb, eqb}
 use lib.ListN.{length, take, replicate, length-append, take-append-drop}
 use lib.Seq.{getD-take}
 use Rattle.answer.proofs.Judged.{passed, kept, followed}
+use Rattle.answer.proofs.Placing.{nowhere-value}
 use Rattle.answer.specs.Checks.{Outcome, accepted, _⇒_, judged, andThen}
+use Rattle.answer.specs.Faults.{Placed, nowhere, placedPast}
 use Rattle.answer.specs.declared.Refusal.{Refusal}
 use Rattle.frame.specs.Actions.{Body}
-use Rattle.frame.specs.Frames.{action, kindOf, sent, frameMeans}
+use Rattle.frame.specs.Frames.{Kind, action, kindOf, sent, frameMeans}
 use Rattle.header.specs.Headers.{headerLength, longestFrame, bodyOf, same, da, sa, bssid, flags, subtype, fragment, isRead, subtypeOf, hasForeignFlag, foreignHeader, toAll, foreignAddress, managementMeans, addressMeans, Head, headerMeans}
 use Rattle.header.specs.declared.management.Subtype.{Subtype}
 use Rattle.octets.specs.Numbers.{octet, bit}
@@ -139,11 +141,12 @@ module _ (f g : List ℕ) (a : FramesAlike f g) where
           by (inr (is, m)) =
               subst (λ (s : Subtype). kindOf b s (bodyOf f) ≡ kindOf b s (bodyOf g))
               (ap subtypeOf (sym is ∙ ap (λ (o : ℕ). o / 16) same-first) ∙ subtype-is h e)
-              (ap (λ (o : Outcome Body). andThen o (λ x. accepted (action x))) (action-ignored (bodyOf f) (bodyOf g) m))
+              (ap (λ (o : Placed Body). andThen o (λ x. accepted (action x))) (action-ignored (bodyOf f) (bodyOf g) m))
 
       -- read the same
       pub frame-ignored : frameMeans own ap' b f ≡ frameMeans own ap' b g
       unfolding frameMeans
       frame-ignored =
-          ap (λ (o : Outcome Head). andThen o (λ h. sent (h .toAll) (kindOf b (h .subtype) (bodyOf f)))) same-header
-          ∙ then-alike (headerMeans own ap' g) _ _ (λ h e. ap (sent (h .toAll)) (same-kind h e))
+          ap (λ (o : Outcome Head). andThen (nowhere o) (λ h. sent (h .toAll) (placedPast headerLength (kindOf b (h .subtype) (bodyOf f))))) same-header
+          ∙ then-alike (nowhere (headerMeans own ap' g)) _ _
+          (λ h e. ap (λ (k : Placed Kind). sent (h .toAll) (placedPast headerLength k)) (same-kind h (nowhere-value (headerMeans own ap' g) e)))

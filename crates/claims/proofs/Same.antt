@@ -3,7 +3,7 @@ use mathlib.Core.Path.{_≡_, refl, sym, ap, _∙_}
 use mathlib.Core.Bool.{Bool}
 use mathlib.Core.List.{List}
 use Prim.Native.Nat.{ℕ}
-use Rattle.answer.specs.Checks.{Outcome, refused, accepted}
+use Rattle.answer.specs.Checks.{Result, Outcome, refused, accepted}
 use Rattle.octets.specs.Writing.{wroteTold, Written}
 use Rattle.octets.specs.declared.writing.Wrote.{Wrote}
 
@@ -12,7 +12,7 @@ pub once : {A : Type 0} {x y z : A} → x ≡ z → y ≡ z → x ≡ y
 once p q = p ∙ sym q
 
 -- an accepted value
-pub accepted-once : {A : Type 0} {x y : A} → accepted x ≡ accepted y → x ≡ y
+pub accepted-once : {R A : Type 0} {x y : A} → _≡_ {A = Result R A} (accepted x) (accepted y) → x ≡ y
 accepted-once e = cc
 
 -- a promise that names what each case of the answer stands for, where the answer can be had back from that

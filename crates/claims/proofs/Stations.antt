@@ -8,8 +8,11 @@ use contract.Lifetimes.{Lfts}
 use denote.Ref.{now}
 use denote.Triple.Clauses.{AtExit}
 use Rattle.answer.specs.Checks.{Outcome, refused, accepted}
+use Rattle.answer.specs.Faults.{Placed}
 use Rattle.answer.specs.declared.Answer.{Answer}
+use Rattle.answer.specs.declared.Fault.{Fault}
 use Rattle.answer.specs.declared.Refusal.{Refusal}
+use Rattle.answer.specs.declared.Verdict.{Verdict}
 use Rattle.pending.proofs.Pending.comes_before as Comes-before
 use Rattle.pending.proofs.Pending.set_by as Pending-set-by
 use Rattle.pending.proofs.Pending.silences as Silences
@@ -23,10 +26,11 @@ use Rattle.station.proofs.asking.Permission.number as Permission-number
 use Rattle.station.proofs.advance_clock as Advance-clock
 use Rattle.station.specs.Clock.{stepped, advanceMeans}
 use Rattle.station.specs.Starting.{blank}
-use Rattle.station.specs.Taking.{heardMeans, takeMeans}
+use Rattle.station.specs.Taking.{taken, heardMeans, takeMeans}
 use Rattle.station.specs.Validity.{Valid}
 use Rattle.station.specs.declared.Station.{Station}
 use Rattle.station.specs.declared.clock.Stepped.{Stepped}
+use Rattle.station.specs.declared.taking.Taken.{Taken}
 use Rattle.answer.specs.Outcomes.{OneResult}
 use Rattle.claims.proofs.Same.{once}
 
@@ -73,13 +77,21 @@ stepped-same : (s : Station) (o : Outcome Station) (x : Stepped) (r : Refusal) �
 stepped-same s o x r e f =
     ap (λ (y : Stepped). y .station) e ∙ refused-same s o r (ap (λ (y : Stepped). y .answer) (sym e) ∙ f)
 
-pub refused-take : (κs : Lfts 1) (a : Dens κs Take.Kinds.ps) (e : AtExit (endedOf 1 Take.Kinds.ps Take.Kinds.r) κs) (x : Stepped) (r : Refusal)
-    → Take.Reads.Post κs a x e → x .answer ≡ Answer.Refused r → x .station ≡ a .0
-refused-take κs a e x r p f = stepped-same (a .0) (takeMeans (a .0) (now (a .1 .0))) x r (p .0) f
+untaken-same : (s : Station) (o : Placed Station) (q : Fault) → taken s o .verdict ≡ Verdict.Refused q → taken s o .station ≡ s
+untaken-same s (refused x) _ e = refl
+untaken-same s (accepted next) q e = absurd (let z : _≡_ {A = ℕ} 0 1 = cc in omega arith)
 
-pub refused-heard : (κs : Lfts 0) (a : Dens κs Heard.Kinds.ps) (e : AtExit (endedOf 0 Heard.Kinds.ps Heard.Kinds.r) κs) (x : Stepped) (r : Refusal)
-    → Heard.Reads.Post κs a x e → x .answer ≡ Answer.Refused r → x .station ≡ a .0
-refused-heard κs a e x r p f = stepped-same (a .0) (heardMeans (a .0) (a .1 .0)) x r (p .0) f
+taken-same : (s : Station) (o : Placed Station) (x : Taken) (q : Fault) → x ≡ taken s o → x .verdict ≡ Verdict.Refused q → x .station ≡ s
+taken-same s o x q e f =
+    ap (λ (y : Taken). y .station) e ∙ untaken-same s o q (ap (λ (y : Taken). y .verdict) (sym e) ∙ f)
+
+pub refused-take : (κs : Lfts 1) (a : Dens κs Take.Kinds.ps) (e : AtExit (endedOf 1 Take.Kinds.ps Take.Kinds.r) κs) (x : Taken) (q : Fault)
+    → Take.Reads.Post κs a x e → x .verdict ≡ Verdict.Refused q → x .station ≡ a .0
+refused-take κs a e x q p f = taken-same (a .0) (takeMeans (a .0) (now (a .1 .0))) x q (p .0) f
+
+pub refused-heard : (κs : Lfts 0) (a : Dens κs Heard.Kinds.ps) (e : AtExit (endedOf 0 Heard.Kinds.ps Heard.Kinds.r) κs) (x : Taken) (q : Fault)
+    → Heard.Reads.Post κs a x e → x .verdict ≡ Verdict.Refused q → x .station ≡ a .0
+refused-heard κs a e x q p f = taken-same (a .0) (heardMeans (a .0) (a .1 .0)) x q (p .0) f
 
 pub refused-advance : (κs : Lfts 0) (a : Dens κs Advance.Kinds.ps) (e : AtExit (endedOf 0 Advance.Kinds.ps Advance.Kinds.r) κs) (x : Stepped) (r : Refusal)
     → Advance.Reads.Post κs a x e → x .answer ≡ Answer.Refused r → x .station ≡ a .0

@@ -6,8 +6,10 @@ use mathlib.Core.Logic.{_⊎_}
 use mathlib.Core.Path.{_≡_}
 use Prim.Native.Nat.{ℕ}
 use lib.ListN.{length}
-use Rattle.answer.specs.Checks.{Outcome, refused, accepted, pick}
+use Rattle.answer.specs.Checks.{refused, accepted, pick}
+use Rattle.answer.specs.Faults.{Placed}
 use Rattle.answer.specs.Numbers.{numberOf}
+use Rattle.answer.specs.declared.Offset.{Offset}
 use Rattle.answer.specs.declared.Refusal.{Refusal}
 use Rattle.block.specs.Blocks.{isDamaged, usedPart}
 use Rattle.capture.specs.Lists.{isMalformed, blocksIn, listOf}
@@ -45,12 +47,12 @@ followedAfter (asking n) nobody = nobody
 followedAfter (asking n) (since s h) = since s (ask n ∷ h)
 
 abbrev pub says : Word → ℕ → Said
-says word answer = record { word = word; answer = answer }
+says word answer = record { word = word; answer = answer; offset = Offset.Absent }
 
--- 0, or the refusal's number
-abbrev pub outcomeNumber : {A : Type 0} → Outcome A → ℕ
-outcomeNumber (refused r) = numberOf r
-outcomeNumber (accepted a) = 0
+-- a frame: 0, or the refusal's number and where it broke (02, One)
+abbrev pub saysFrame : {A : Type 0} → Placed A → Said
+saysFrame (refused x) = record { word = Word.Frame; answer = numberOf (x .refusal); offset = x .offset }
+saysFrame (accepted a) = says Word.Frame 0
 
 -- the line of a record: no station where nobody is followed, else what the history says
 abbrev pub Tells : Noted → Followed → Said → Type 0
@@ -59,7 +61,7 @@ Tells (starting s) x line = line ≡ says Word.Start (pick (refusesStart s) (num
 Tells (advancing n) nobody line = line ≡ says Word.Advance (numberOf Refusal.NoStation)
 Tells (advancing n) (since s h) line = line ≡ says Word.Advance (pick (tooFar (clockAfter h) n) (numberOf Refusal.PastClock) 0)
 Tells (hearing f) nobody line = line ≡ says Word.Frame (numberOf Refusal.NoStation)
-Tells (hearing f) (since s h) line = line ≡ says Word.Frame (outcomeNumber (frameMeans (s .own) (s .ap) (s .interval) f))
+Tells (hearing f) (since s h) line = line ≡ saysFrame (frameMeans (s .own) (s .ap) (s .interval) f)
 Tells (asking n) nobody line = line ≡ says Word.Ask (numberOf Refusal.NoStation)
 Tells (asking n) (since s h) line = (p : Permission) × Applies s h n p × (line ≡ says Word.Ask (permissionNumber p))
 

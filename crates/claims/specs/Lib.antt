@@ -1,5 +1,7 @@
 pub mod AnsweredRequests
+pub mod BeforeOne
 pub mod BodyCalls
+pub mod ErrorReturns
 pub mod Exchanged
 pub mod FedFiles
 pub mod FilteredFrames
@@ -9,11 +11,13 @@ pub mod HistoryLines
 pub mod Moments
 pub mod Numbered
 pub mod OpenUnits
+pub mod Places
 pub mod PossibleReadings
 pub mod Records
 pub mod RepliesRead
 pub mod ReplyHeads
 pub mod Reserved
 pub mod Runs
+pub mod SoundBefore
 pub mod Standing
 pub mod Tbtts

@@ -5,6 +5,7 @@ use mathlib.Core.Path.{_≡_}
 use Prim.Native.Nat.{ℕ, _+_}
 use lib.ListN.{length}
 use Rattle.answer.specs.Checks.{pick}
+use Rattle.answer.specs.declared.Offset.{Offset}
 use Rattle.block.specs.Blocks.{isDamaged, usedPart}
 use Rattle.capture.specs.Lists.{isMalformed, blocksIn, listOf}
 use Rattle.capture_record.specs.Entries.{entryMeans}
@@ -12,15 +13,16 @@ use Rattle.capture_record.specs.Records.{Records, end, cut, more, recordsIn}
 use Rattle.line.specs.Lines.{lineOf, closingOf}
 use Rattle.line.specs.declared.words.Word.{Word}
 
--- what a line says after its number
+-- what a line says after its number: the word, the answer's number, and where a frame broke
 pub record Said : Type 0 where
   pub word : Word
   pub answer : ℕ
+  pub offset : Offset
 
 -- lines one after the other, each numbered one higher than the one before
 unfoldable pub numberedFrom : ℕ → List Said → List ℕ
 numberedFrom n [] = []
-numberedFrom n (s ∷ ss) = lineOf (n + 1) (s .word) (s .answer) ++ numberedFrom (n + 1) ss
+numberedFrom n (s ∷ ss) = lineOf (n + 1) (s .word) (s .answer) (s .offset) ++ numberedFrom (n + 1) ss
 
 -- how many records there are up to the end of the used part, or up to and with a malformed one
 unfoldable pub recordsCounted : Records → ℕ

@@ -1,4 +1,4 @@
--- A reply to an element of a Measurement Request, read from the other side (01, "Replies": "one frame for one element, same tokens and type"; "with the
+-- A reply, read from the other side (01, "Replies": "TPC Report with the same token"; of a Measurement Request: "one frame for one element, same tokens and type"; "with the
 -- request's channel, duration and start (the clock times 1,024 where that start is 0)").
 use mathlib.Core.Bool.{false}
 use mathlib.Core.List.{List, [], _∷_}
@@ -6,7 +6,8 @@ use mathlib.Core.Path.{_≡_}
 use Prim.Native.Nat.{ℕ, _*_}
 use lib.Dec.{eqb}
 use Rattle.answer.specs.Checks.{accepted, pick}
-use Rattle.frame.specs.Actions.{requests, reports}
+use Rattle.element.specs.declared.tpc_report.TpcReport.{TpcReport}
+use Rattle.frame.specs.Actions.{requests, reports, tpcRequest, tpcReport}
 use Rattle.frame.specs.Frames.{action, frameMeans}
 use Rattle.measured_report.specs.Reports.{reportFor}
 use Rattle.measured_report.specs.declared.Readings.{Readings}
@@ -17,7 +18,7 @@ use Rattle.measurement_element.specs.declared.measurement_report.Report.{Report
 use Rattle.measurement_element.specs.declared.measurement_request.Matter as Asks
 use Rattle.measurement_element.specs.declared.measurement_request.Request.{Request}
 use Rattle.measurement_element.specs.declared.span.Span.{Span}
-use Rattle.reply.specs.Due.{dueMeans}
+use Rattle.reply.specs.Due.{asks, dueMeans}
 use Rattle.claims.specs.Exchanged.{exchanged}
 use Rattle.claims.specs.PossibleReadings.{AsAsked}
 
@@ -30,13 +31,19 @@ pub record CarriesReadings (clock : ℕ) (readings : Readings) (request : Reques
   pub start : span .start ≡ pick (eqb (asked .start) 0) (clock * 1024) (asked .start)
   pub finds : AsAsked (asked .duration) (readings .times) (request .kind) (readings .finding) found densities
 
+-- the octets of a reply to a TPC Request: heard from the AP, whatever the beacon interval, they are the report with the request's token
+pub record TpcReadsBack (own ap f : List ℕ) (report : TpcReport) (os : List ℕ) : Type 0 where
+  pub token : ℕ
+  pub due : dueMeans own ap f ≡ accepted (asks (tpcRequest token))
+  pub read : (b : ℕ) → frameMeans own ap b (exchanged os) ≡ accepted (record { toAll = false; kind = action (tpcReport token report) })
+
 -- the octets of a reply to the element at an index of the frame `f`
 pub record ReadsBack (own ap f : List ℕ) (clock index : ℕ) (readings : Readings) (os : List ℕ) : Type 0 where
   -- the element that it answers
   pub token : ℕ
   pub elements : List Request
   pub request : Request
-  pub due : dueMeans own ap f ≡ accepted (requests token elements)
+  pub due : dueMeans own ap f ≡ accepted (asks (requests token elements))
   pub asked : nth index elements ≡ accepted request
   -- heard from the AP, whatever the beacon interval, they are a frame of one report, with the request's tokens and type
   pub report : Report

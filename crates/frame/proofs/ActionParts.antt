@@ -9,7 +9,8 @@ use lib.Dec.{ltb, eqb}
 use lib.ListN.{length, drop}
 use Rattle.action.specs.Openings.{fixedFields, switchFixedFields, Opens, switching, with, opensWith, forbidsToken}
 use Rattle.single_body.specs.Singles.{single}
-use Rattle.answer.specs.Checks.{Outcome, refused, accepted, pick, _⇒_, checked, judged, andThen}
+use Rattle.answer.specs.Checks.{refused, accepted, pick, _⇒_, checked, judged, andThen}
+use Rattle.answer.specs.Faults.{faultAt, faultNowhere, Placed}
 use Rattle.answer.specs.declared.Refusal.{Refusal}
 use Rattle.answer.proofs.Booleans.{clash}
 use Rattle.answer.proofs.Judged.{never, passed, stands, kept, followed}
@@ -35,26 +36,26 @@ lead (switch s) = 0 ∷ 4 ∷ []
 abbrev pub Holds : Body → List ℕ → Type 0
 Holds (requests token rs) run = (not (eqb token 0) ≡ true) × (measurementsIn requestSort run ≡ accepted rs)
 Holds (reports token rs) run = measurementsIn reportSort run ≡ accepted rs
-Holds (tpcRequest token) run = (not (eqb token 0) ≡ true) × (single 34 tpcRequestMeans (elementsIn run) ≡ accepted tt)
-Holds (tpcReport token t) run = single 35 tpcReportMeans (elementsIn run) ≡ accepted t
-Holds (switch s) run = single 37 switchMeans (elementsIn run) ≡ accepted s
+Holds (tpcRequest token) run = (not (eqb token 0) ≡ true) × (single fixedFields 34 tpcRequestMeans (elementsIn run) ≡ accepted tt)
+Holds (tpcReport token t) run = single fixedFields 35 tpcReportMeans (elementsIn run) ≡ accepted t
+Holds (switch s) run = single switchFixedFields 37 switchMeans (elementsIn run) ≡ accepted s
 
 module _ (run : List ℕ) where
-  opens : (action token : ℕ) → action ≤ 3 → forbidsToken action token ≡ false → opensWith (0 ∷ action ∷ token ∷ run) ≡ accepted (with action token)
+  pub opens : (action token : ℕ) → action ≤ 3 → forbidsToken action token ≡ false → opensWith (0 ∷ action ∷ token ∷ run) ≡ accepted (with action token)
   unfolding opensWith checked
   opens action token h k =
       let n = length (0 ∷ action ∷ token ∷ run) in
       simp (le-ltb n 1 (omega arith), le-ltb n 2 (omega arith), le-ltb 4 action (omega arith), ne-eqb action 4 (λ e. omega arith), le-ltb n 3 (omega arith), k)
 
-  opens-switch : opensWith (0 ∷ 4 ∷ run) ≡ accepted switching
+  pub opens-switch : opensWith (0 ∷ 4 ∷ run) ≡ accepted switching
   unfolding opensWith checked
   opens-switch =
       let n = length (0 ∷ 4 ∷ run) in
       simp (le-ltb n 1 (omega arith), le-ltb n 2 (omega arith))
 
-  by-lead : (c : List ℕ) (o : Opens) → opensWith c ≡ accepted o → actionMeans c ≡ afterOpening c o
+  pub by-lead : (c : List ℕ) (o : Opens) → opensWith c ≡ accepted o → actionMeans c ≡ afterOpening c o
   unfolding actionMeans
-  by-lead c o e = ap (λ (x : Outcome Opens). andThen x (afterOpening c)) e
+  by-lead c o e = ap (λ (x : Placed Opens). andThen x (afterOpening c)) e
 
   pub reads : (body : Body) → Holds body run → actionMeans (lead body ++ run) ≡ accepted body
   reads (requests token rs) h = by-lead _ _ (opens 0 token (omega arith) (not-true (eqb token 0) (h .0))) ∙ simp (h .1)
@@ -71,14 +72,14 @@ pub record Parts (c : List ℕ) (body : Body) : Type 0 where
   pub holds : Holds body run
 
 -- what an opening says of the octets
-abbrev Begins : List ℕ → Opens → Type 0
+abbrev pub Begins : List ℕ → Opens → Type 0
 Begins c switching = c ≡ 0 ∷ 4 ∷ drop switchFixedFields c
 Begins c (with action token) = (c ≡ 0 ∷ action ∷ token ∷ drop fixedFields c) × (action ≤ 3) × (forbidsToken action token ≡ false)
 
 module _ (y : ℕ) where
   -- after category 0 and an action up to 4
   by-action : (r : List ℕ) (o : Opens) (t : Bool) → eqb y 4 ≡ t → y ≤ 4
-      → pick t (accepted switching) (judged (ltb (length (0 ∷ y ∷ r)) fixedFields ⇒ Refusal.TooShort ∷ forbidsToken y (octet 2 (0 ∷ y ∷ r)) ⇒ Refusal.ForbiddenValue ∷ []) (with y (octet 2 (0 ∷ y ∷ r)))) ≡ accepted o
+      → pick t (accepted switching) (judged (ltb (length (0 ∷ y ∷ r)) fixedFields ⇒ faultNowhere Refusal.TooShort ∷ forbidsToken y (octet 2 (0 ∷ y ∷ r)) ⇒ faultAt 2 Refusal.ForbiddenValue ∷ []) (with y (octet 2 (0 ∷ y ∷ r)))) ≡ accepted o
       → Begins (0 ∷ y ∷ r) o
   by-action r o true u h e =
       let k : switching ≡ o = cc in
@@ -90,7 +91,7 @@ module _ (y : ℕ) where
       let k : with y token ≡ o = kept _ (q .1) in
       subst (Begins (0 ∷ y ∷ token ∷ r)) k (refl, omega (arith, eqb-false y 4 u), q .0)
 
-begins : (c : List ℕ) (o : Opens) → opensWith c ≡ accepted o → Begins c o
+pub begins : (c : List ℕ) (o : Opens) → opensWith c ≡ accepted o → Begins c o
 unfolding opensWith
 begins [] o e = clash (passed _ _ _ e .0)
 begins (x ∷ []) o e = clash (passed _ _ _ (passed _ _ _ (passed _ _ _ e .1) .1) .0)
@@ -101,7 +102,7 @@ begins (x ∷ y ∷ r) o e =
     subst (λ (n : ℕ). Begins (n ∷ y ∷ r) o) zeroed (by-action y r o (eqb y 4) refl (ltb-false 4 y (q .0)) (stands _ (q .1)))
 
 module _ (c : List ℕ) (body : Body) where
-  made : {A : Type 0} (make : A → Body) (o : Outcome A) → ((a : A) → o ≡ accepted a → Parts c (make a))
+  made : {A : Type 0} (make : A → Body) (o : Placed A) → ((a : A) → o ≡ accepted a → Parts c (make a))
       → andThen o (λ a. accepted (make a)) ≡ accepted body → Parts c body
   made make (refused r) k e = absurd (never e)
   made make (accepted a) k e = let g : make a ≡ body = cc in subst (Parts c) g (k a refl)

@@ -5,6 +5,7 @@ use mathlib.Core.Bool.{true, not}
 use mathlib.Core.List.{List, [], _++_, append-cancel-left}
 use Prim.Native.Nat.{ℕ}
 use lib.Dec.{eqb}
+use Rattle.action.specs.Openings.{fixedFields, switchFixedFields}
 use Rattle.single_body.specs.Singles.{single}
 use Rattle.answer.specs.Checks.{accepted}
 use Rattle.answer.proofs.Booleans.{both}
@@ -33,16 +34,16 @@ request-list = measurements-trip Kind.Requests
 report-list : RoundTrip (measurementsIn reportSort) (allOctets reportSort) (mayList reportSort) (AllFit ReportFits) (allInterpreted reportSort) (λ run. allClear reportSort (elementsIn run))
 report-list = measurements-trip Kind.Reports
 
-one-request : RoundTrip (λ run. single 34 tpcRequestMeans (elementsIn run)) (λ u. tpcRequestOctets) (λ u. true) (λ u. Unit {0}) (λ u. true) (λ run. true)
-one-request = single-trip 34 tpcRequestMeans (λ u. []) (λ u. true) (λ u. Unit {0}) tpc-request-trip
+one-request : RoundTrip (λ run. single fixedFields 34 tpcRequestMeans (elementsIn run)) (λ u. tpcRequestOctets) (λ u. true) (λ u. Unit {0}) (λ u. true) (λ run. true)
+one-request = single-trip fixedFields 34 tpcRequestMeans (λ u. []) (λ u. true) (λ u. Unit {0}) tpc-request-trip
 
-one-report : RoundTrip (λ run. single 35 tpcReportMeans (elementsIn run)) tpcReportOctets tpcReportMay TpcReportFits (λ t. true) (λ run. true)
+one-report : RoundTrip (λ run. single fixedFields 35 tpcReportMeans (elementsIn run)) tpcReportOctets tpcReportMay TpcReportFits (λ t. true) (λ run. true)
 unfolding tpcReportOctets
-one-report = single-trip 35 tpcReportMeans tpcReportContents tpcReportMay TpcReportFits tpc-report-trip
+one-report = single-trip fixedFields 35 tpcReportMeans tpcReportContents tpcReportMay TpcReportFits tpc-report-trip
 
-one-switch : RoundTrip (λ run. single 37 switchMeans (elementsIn run)) switchOctets switchMay (λ s. Unit {0}) (λ s. true) (λ run. true)
+one-switch : RoundTrip (λ run. single switchFixedFields 37 switchMeans (elementsIn run)) switchOctets switchMay (λ s. Unit {0}) (λ s. true) (λ run. true)
 unfolding switchOctets
-one-switch = single-trip 37 switchMeans switchContents switchMay (λ s. Unit {0}) switch-trip
+one-switch = single-trip switchFixedFields 37 switchMeans switchContents switchMay (λ s. Unit {0}) switch-trip
 
 -- the octets after the fixed fields
 abbrev elements : Body → List ℕ

@@ -6,9 +6,10 @@ use Prim.Native.Nat.{ℕ}
 use lib.ListN.{length, drop}
 use Rattle.action.specs.Openings.{fixedFields, with}
 use Rattle.answer.specs.Checks.{Outcome, refused, accepted, andThen}
-use Rattle.answer.specs.declared.Refusal.{Refusal}
+use Rattle.answer.specs.Faults.{Placed, nowhere, withoutPlace, placedPast}
+use Rattle.answer.specs.declared.Fault.{Fault}
 use Rattle.beacon.specs.Beacons.{Told, beaconMeans}
-use Rattle.header.specs.Headers.{bodyOf, Head, headerMeans}
+use Rattle.header.specs.Headers.{headerLength, bodyOf, Head, headerMeans}
 use Rattle.header.specs.declared.management.Subtype.{Subtype}
 use Rattle.measurement_body.proofs.PlacesRead.{Reads, place-reads}
 use Rattle.measurement_body.specs.Kinds.{Measurement, sortOf}
@@ -28,7 +29,7 @@ use Rattle.single_body.specs.Singles.{single}
 use Rattle.single_body.specs.declared.kinds.Single.{Single}
 use Rattle.walk.specs.Elements.{Elements}
 use Rattle.frame.specs.Actions.{Body, requests, reports, tpcRequest, tpcReport, switch, afterOpening, actionMeans}
-use Rattle.frame.specs.CodeTerms.Located.{unplaced, placed, located, locatedIn, kindMeans, PlaceWithin, meansAt, readThere}
+use Rattle.frame.specs.CodeTerms.Located.{readingPast, unplaced, placed, located, locatedIn, kindMeans, PlaceWithin, meansAt, readThere}
 use Rattle.frame.specs.CodeTerms.SingleFrames.{singleFrame, singleReading}
 use Rattle.frame.specs.Frames.{Kind, beacon, probeResponse, action, kindOf, sent, frameMeans, requestIn, reportIn, ofKind, elementOf}
 use Rattle.frame.specs.Laid.{frameTold, bodyFrame, frameLaid, noticeSubtype}
@@ -40,7 +41,7 @@ use Rattle.frame.proofs.ActionParts.{parts}
 
 module _ (body : List ℕ) (i : ℕ) where
   -- its reading is its frame
-  pub located-frame : (o : Outcome Body) → frameTold (located i body o .reading) ≡ bodyFrame o
+  pub located-frame : (o : Placed Body) → frameTold (located i body o .reading) ≡ bodyFrame o
   located-frame (refused r) = refl
   located-frame (accepted (requests t rs)) = refl
   located-frame (accepted (reports t rs)) = refl
@@ -49,14 +50,14 @@ module _ (body : List ℕ) (i : ℕ) where
   located-frame (accepted (switch s)) = refl
 
   -- a body of one element has no place
-  pub one-element : {X : Type 0} (id : ℕ) (means : List ℕ → Outcome X) (es : Elements) (token : ℕ) (says : X → Single) (make : X → Body)
+  pub one-element : {X : Type 0} (n id : ℕ) (means : List ℕ → Outcome X) (es : Elements) (token : ℕ) (says : X → Single) (make : X → Body)
       → ((a : X) → unplaced (Reading.Is (singleFrame token (says a))) ≡ located i body (accepted (make a)))
-      → unplaced (singleReading token (single id (λ c. andThen (means c) (λ a. accepted (says a))) es))
-      ≡ located i body (andThen (single id means es) (λ a. accepted (make a)))
-  one-element id means es token says make none =
-      ap (λ (o : Outcome Single). unplaced (singleReading token o)) (Singling.made id means says es) ∙ by (single id means es)
+      → unplaced (singleReading token (single n id (λ c. andThen (means c) (λ a. accepted (says a))) es))
+      ≡ located i body (andThen (single n id means es) (λ a. accepted (make a)))
+  one-element n id means es token says make none =
+      ap (λ (o : Placed Single). unplaced (singleReading token o)) (Singling.made n id means says es) ∙ by (single n id means es)
     where
-      by : (o : Outcome _) → unplaced (singleReading token (andThen o (λ a. accepted (says a)))) ≡ located i body (andThen o (λ a. accepted (make a)))
+      by : (o : Placed _) → unplaced (singleReading token (andThen o (λ a. accepted (says a)))) ≡ located i body (andThen o (λ a. accepted (make a)))
       by (refused r) = refl
       by (accepted a) = none a
 
@@ -66,13 +67,13 @@ module _ (body : List ℕ) (i : ℕ) where
     made Measurements.Kind.Requests xs = requests token xs
     made Measurements.Kind.Reports xs = reports token xs
 
-    of-kind : (k : Measurements.Kind) {o : Outcome (List (Measurement k))} → measurementsIn (sortOf k) (drop fixedFields body) ≡ o
+    of-kind : (k : Measurements.Kind) {o : Placed (List (Measurement k))} → measurementsIn (sortOf k) (drop fixedFields body) ≡ o
         → located i body (andThen o (λ xs. accepted (made k xs))) ≡ located i body (afterOpening body (with (sortOf k .action) token))
     unfolding made
-    of-kind Measurements.Kind.Requests e = ap (λ (o : Outcome (List Request)). located i body (andThen o (λ xs. accepted (requests token xs)))) (sym e)
-    of-kind Measurements.Kind.Reports e = ap (λ (o : Outcome (List Report)). located i body (andThen o (λ xs. accepted (reports token xs)))) (sym e)
+    of-kind Measurements.Kind.Requests e = ap (λ (o : Placed (List Request)). located i body (andThen o (λ xs. accepted (requests token xs)))) (sym e)
+    of-kind Measurements.Kind.Reports e = ap (λ (o : Placed (List Report)). located i body (andThen o (λ xs. accepted (reports token xs)))) (sym e)
 
-    pub measured-refused : (k : Measurements.Kind) {r : Refusal} → refused r ≡ measurementsIn (sortOf k) (drop fixedFields body)
+    pub measured-refused : (k : Measurements.Kind) {r : Fault} → refused r ≡ measurementsIn (sortOf k) (drop fixedFields body)
         → unplaced (Reading.Refused r) ≡ located i body (afterOpening body (with (sortOf k .action) token))
     measured-refused k e = of-kind k (sym e)
 
@@ -103,7 +104,7 @@ module _ (body : List ℕ) (i : ℕ) where
     pub request-is : readThere requestMeans body (l .reading) (l .request) ≡ request
     pub report-is : readThere reportMeans body (l .reading) (l .report) ≡ report
 
-  there-by : (o : Outcome Body) → actionMeans body ≡ o → There (located i body o) (andThen o (requestIn i)) (andThen o (reportIn i))
+  there-by : (o : Placed Body) → actionMeans body ≡ o → There (located i body o) (andThen (withoutPlace o) (requestIn i)) (andThen (withoutPlace o) (reportIn i))
   there-by (refused r) e = record { request-within = tt; report-within = tt; request-is = refl; report-is = refl }
   there-by (accepted (requests t rs)) e =
       let h = parts body (requests t rs) e in
@@ -117,70 +118,87 @@ module _ (body : List ℕ) (i : ℕ) where
   there-by (accepted (tpcReport t r)) e = record { request-within = tt; report-within = tt; request-is = refl; report-is = refl }
   there-by (accepted (switch s)) e = record { request-within = tt; report-within = tt; request-is = refl; report-is = refl }
 
-  pub in-body : There (located i body (actionMeans body)) (andThen (actionMeans body) (requestIn i)) (andThen (actionMeans body) (reportIn i))
+  pub in-body : There (located i body (actionMeans body)) (andThen (withoutPlace (actionMeans body)) (requestIn i)) (andThen (withoutPlace (actionMeans body)) (reportIn i))
   in-body = there-by (actionMeans body) refl
 
-  -- ---- in a body of any subtype
+  -- ---- in a body of any subtype, with the header before it
 
-  pub of-action : (o : Outcome Body) → located i body o ≡ locatedIn i body (andThen o (λ a. accepted (action a)))
-  of-action (refused r) = refl
-  of-action (accepted b) = refl
+  pub of-action : (o : Placed Body) {l : Located} → l ≡ located i body o
+      → record { reading = readingPast headerLength (l .reading); request = l .request; report = l .report }
+      ≡ locatedIn i body (placedPast headerLength (andThen o (λ a. accepted (action a))))
+  of-action o e = ap (λ (x : Located). record { reading = readingPast headerLength (x .reading); request = x .request; report = x .report }) e ∙ by o
+    where
+      by : (o : Placed Body)
+          → record { reading = readingPast headerLength (located i body o .reading); request = located i body o .request; report = located i body o .report }
+          ≡ locatedIn i body (placedPast headerLength (andThen o (λ a. accepted (action a))))
+      by (refused x) = refl
+      by (accepted (requests t rs)) = refl
+      by (accepted (reports t rs)) = refl
+      by (accepted (tpcRequest t)) = refl
+      by (accepted (tpcReport t r)) = refl
+      by (accepted (switch s)) = refl
 
-  pub of-notice : (b : ℕ) (probe : Bool) → unplaced (frameLaid (sent false (kindOf b (noticeSubtype probe) body)) .reading) ≡ locatedIn i body (kindOf b (noticeSubtype probe) body)
+  pub of-notice : (b : ℕ) (probe : Bool) → unplaced (frameLaid (sent false (placedPast headerLength (kindOf b (noticeSubtype probe) body))) .reading)
+      ≡ locatedIn i body (placedPast headerLength (kindOf b (noticeSubtype probe) body))
   of-notice b true = by (beaconMeans b body)
     where
-      by : (o : Outcome Told) → unplaced (frameLaid (sent false (andThen o (λ t. accepted (probeResponse t)))) .reading) ≡ locatedIn i body (andThen o (λ t. accepted (probeResponse t)))
-      by (refused r) = refl
+      by : (o : Placed Told) → unplaced (frameLaid (sent false (placedPast headerLength (andThen o (λ t. accepted (probeResponse t))))) .reading)
+          ≡ locatedIn i body (placedPast headerLength (andThen o (λ t. accepted (probeResponse t))))
+      by (refused x) = refl
       by (accepted t) = refl
   of-notice b false = by (beaconMeans b body)
     where
-      by : (o : Outcome Told) → unplaced (frameLaid (sent false (andThen o (λ t. accepted (beacon t)))) .reading) ≡ locatedIn i body (andThen o (λ t. accepted (beacon t)))
-      by (refused r) = refl
+      by : (o : Placed Told) → unplaced (frameLaid (sent false (placedPast headerLength (andThen o (λ t. accepted (beacon t))))) .reading)
+          ≡ locatedIn i body (placedPast headerLength (andThen o (λ t. accepted (beacon t))))
+      by (refused x) = refl
       by (accepted t) = refl
 
   module _ (b : ℕ) where
-    abbrev InKind : Outcome Kind → Type 0
-    InKind o = There (locatedIn i body o) (andThen o (ofKind requestIn i)) (andThen o (ofKind reportIn i))
+    abbrev InKind : Placed Kind → Type 0
+    InKind o = There (locatedIn i body (placedPast headerLength o)) (andThen (withoutPlace o) (ofKind requestIn i)) (andThen (withoutPlace o) (ofKind reportIn i))
 
-    of-body : (o : Outcome Body) → There (located i body o) (andThen o (requestIn i)) (andThen o (reportIn i)) → InKind (andThen o (λ a. accepted (action a)))
-    of-body (refused r) t = t
+    of-body : (o : Placed Body) → There (located i body o) (andThen (withoutPlace o) (requestIn i)) (andThen (withoutPlace o) (reportIn i)) → InKind (andThen o (λ a. accepted (action a)))
+    of-body (refused x) t = record { request-within = tt; report-within = tt; request-is = t .request-is; report-is = t .report-is }
     of-body (accepted x) t = t
 
     pub in-kind : (t : Subtype) → InKind (kindOf b t body)
     in-kind Subtype.Action = of-body (actionMeans body) in-body
     in-kind Subtype.Beacon = by (beaconMeans b body)
       where
-        by : (o : Outcome Told) → InKind (andThen o (λ t. accepted (beacon t)))
-        by (refused r) = record { request-within = tt; report-within = tt; request-is = refl; report-is = refl }
+        by : (o : Placed Told) → InKind (andThen o (λ t. accepted (beacon t)))
+        by (refused x) = record { request-within = tt; report-within = tt; request-is = refl; report-is = refl }
         by (accepted t) = record { request-within = tt; report-within = tt; request-is = refl; report-is = refl }
     in-kind Subtype.ProbeResponse = by (beaconMeans b body)
       where
-        by : (o : Outcome Told) → InKind (andThen o (λ t. accepted (probeResponse t)))
-        by (refused r) = record { request-within = tt; report-within = tt; request-is = refl; report-is = refl }
+        by : (o : Placed Told) → InKind (andThen o (λ t. accepted (probeResponse t)))
+        by (refused x) = record { request-within = tt; report-within = tt; request-is = refl; report-is = refl }
         by (accepted t) = record { request-within = tt; report-within = tt; request-is = refl; report-is = refl }
 
 -- ---- in a frame
 
-of-kinds : {A : Type 0} (elementIn : ℕ → Body → Outcome A) (i : ℕ) (toAll : Bool) (o : Outcome Kind)
-    → andThen o (ofKind elementIn i) ≡ elementOf elementIn i (sent toAll o)
+of-kinds : {A : Type 0} (elementIn : ℕ → Body → Outcome A) (i : ℕ) (toAll : Bool) (o : Placed Kind)
+    → andThen (withoutPlace o) (ofKind elementIn i) ≡ elementOf elementIn i (sent toAll (placedPast headerLength o))
 unfolding elementOf
-of-kinds elementIn i toAll (refused r) = refl
+of-kinds elementIn i toAll (refused x) = refl
 of-kinds elementIn i toAll (accepted k) = refl
 
 module _ (own ap' : List ℕ) (b : ℕ) (f : List ℕ) where
+  abbrev kindIn : Head → Placed Kind
+  kindIn h = placedPast headerLength (kindOf b (h .subtype) (bodyOf f))
+
   -- the kind of a frame, by its header
-  pub by-header : (o : Outcome Head) → o ≡ headerMeans own ap' f → andThen o (λ h. kindOf b (h .subtype) (bodyOf f)) ≡ kindMeans own ap' b f
+  pub by-header : (o : Outcome Head) → o ≡ headerMeans own ap' f → andThen (nowhere o) kindIn ≡ kindMeans own ap' b f
   unfolding kindMeans
-  by-header o e = ap (λ (x : Outcome Head). andThen x (λ h. kindOf b (h .subtype) (bodyOf f))) e
+  by-header o e = ap (λ (x : Outcome Head). andThen (nowhere x) kindIn) e
 
   in-frame : (i : ℕ) → There (bodyOf f) i (locatedIn i (bodyOf f) (kindMeans own ap' b f)) (elementOf requestIn i (frameMeans own ap' b f)) (elementOf reportIn i (frameMeans own ap' b f))
   unfolding kindMeans frameMeans elementOf
   in-frame i = by (headerMeans own ap' f)
     where
       by : (o : Outcome Head)
-          → There (bodyOf f) i (locatedIn i (bodyOf f) (andThen o (λ h. kindOf b (h .subtype) (bodyOf f))))
-          (elementOf requestIn i (andThen o (λ h. sent (h .toAll) (kindOf b (h .subtype) (bodyOf f)))))
-          (elementOf reportIn i (andThen o (λ h. sent (h .toAll) (kindOf b (h .subtype) (bodyOf f)))))
+          → There (bodyOf f) i (locatedIn i (bodyOf f) (andThen (nowhere o) kindIn))
+          (elementOf requestIn i (andThen (nowhere o) (λ h. sent (h .toAll) (kindIn h))))
+          (elementOf reportIn i (andThen (nowhere o) (λ h. sent (h .toAll) (kindIn h))))
       by (refused r) = record { request-within = tt; report-within = tt; request-is = refl; report-is = refl }
       by (accepted h) =
           let t = in-kind (bodyOf f) i b (h .subtype) in

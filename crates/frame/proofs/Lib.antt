@@ -2,8 +2,10 @@ pub mod ActionParts
 pub mod ActionTrip
 pub mod Allowing
 pub mod Answers
+pub mod BodyFaults
 pub mod Indexing
 pub mod Openings
 pub mod ReadFrames
 pub mod SingleTrip
+pub mod Within
 pub mod Witness

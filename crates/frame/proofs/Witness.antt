@@ -7,7 +7,8 @@ use lib.IntN.{pos, negsuc}
 use lib.ListN.{replicate}
 use Rattle.action.specs.Openings.{opensWith}
 use Rattle.single_body.specs.Singles.{single}
-use Rattle.answer.specs.Checks.{Outcome, refused, accepted, checked}
+use Rattle.answer.specs.Checks.{refused, accepted, checked}
+use Rattle.answer.specs.Faults.{faultAt, Placed}
 use Rattle.answer.specs.declared.Refusal.{Refusal}
 use Rattle.beacon.specs.Beacons.{tells, elementMeans, takes, says, beaconMeans}
 use Rattle.beacon.specs.Notices.{elementless}
@@ -42,7 +43,7 @@ master = 2 ∷ 0 ∷ 0 ∷ 0 ∷ 0 ∷ 9 ∷ []
 abbrev frame : ℕ → List ℕ → List ℕ → List ℕ
 frame first to body = (first ∷ 0 ∷ 0 ∷ 0 ∷ []) ++ to ++ master ++ master ++ (0 ∷ 0 ∷ body)
 
-abbrev heard : List ℕ → Outcome Sent
+abbrev heard : List ℕ → Placed Sent
 heard f = frameMeans own master 100 f
 
 -- Beacon, Probe Response, Action
@@ -55,7 +56,7 @@ probeFrame elements = frame 80 own (replicate 8 0 ++ (100 ∷ 0 ∷ 1 ∷ 0 ∷ 
 abbrev actionFrame : List ℕ → List ℕ
 actionFrame body = frame 208 own body
 
-abbrev to-own : Kind → Outcome Sent
+abbrev to-own : Kind → Placed Sent
 to-own k = accepted (record { toAll = false; kind = k })
 
 -- ---- the seven kinds
@@ -149,8 +150,8 @@ pub no-report : elementOf reportIn 0 (heard (actionFrame ((0 ∷ 0 ∷ 7 ∷ [])
 unfolding elementOf
 no-report = simp two-requests
 
--- a token used twice
-pub used-twice : heard (actionFrame ((0 ∷ 0 ∷ 7 ∷ []) ++ asked 5 ++ asked 5)) ≡ refused Refusal.Repeated
+-- a token used twice: the second element is at fault, after the header, the fixed fields and one element of five octets
+pub used-twice : heard (actionFrame ((0 ∷ 0 ∷ 7 ∷ []) ++ asked 5 ++ asked 5)) ≡ refused (faultAt 32 Refusal.Repeated)
 unfolding frameMeans headerMeans managementMeans addressMeans foreignHeader foreignAddress toAll checked actionMeans opensWith measurementsIn listed nextIn required elementsIn elementsAfter requestMeans used
 used-twice = refl
 

@@ -1,5 +1,5 @@
 -- What an action body means (01, "Octets": 0, action, token, elements for actions 0 (one or more 38), 1 (one or more 39), 2 (one 34)
--- and 3 (one 35); action 4 has no token and one 37), and the octets of each.
+-- and 3 (one 35); action 4 has no token and one 37), and the octets of each. Places are counted from the body's first octet.
 use mathlib.Core.Bool.{Bool, true, not, _&&_}
 use mathlib.Core.List.{List}
 use Prim.Native.Nat.{ℕ}
@@ -7,7 +7,8 @@ use lib.Dec.{eqb}
 use lib.ListN.{drop}
 use Rattle.action.specs.Openings.{fixedFields, switchFixedFields, Opens, switching, with, opensWith}
 use Rattle.single_body.specs.Singles.{single, tpcRequestBody, tpcReportBody, switchBody}
-use Rattle.answer.specs.Checks.{Outcome, accepted, pick, andThen}
+use Rattle.answer.specs.Checks.{accepted, pick, andThen}
+use Rattle.answer.specs.Faults.{Placed}
 use Rattle.element.specs.ChannelSwitch.{switchMeans, switchMay}
 use Rattle.measurement_element.specs.MeasurementReport.{ReportFits}
 use Rattle.measurement_element.specs.MeasurementRequest.{RequestFits}
@@ -33,15 +34,15 @@ pub data Body : Type 0 where
   switch : ChannelSwitch → Body
 
 -- what follows the fixed fields
-abbrev pub afterOpening : List ℕ → Opens → Outcome Body
-afterOpening body switching = andThen (single 37 switchMeans (elementsIn (drop switchFixedFields body))) (λ s. accepted (switch s))
+abbrev pub afterOpening : List ℕ → Opens → Placed Body
+afterOpening body switching = andThen (single switchFixedFields 37 switchMeans (elementsIn (drop switchFixedFields body))) (λ s. accepted (switch s))
 afterOpening body (with action token) =
     pick (eqb action 0) (andThen (measurementsIn requestSort (drop fixedFields body)) (λ rs. accepted (requests token rs)))
     (pick (eqb action 1) (andThen (measurementsIn reportSort (drop fixedFields body)) (λ rs. accepted (reports token rs)))
-    (pick (eqb action 2) (andThen (single 34 tpcRequestMeans (elementsIn (drop fixedFields body))) (λ u. accepted (tpcRequest token)))
-    (andThen (single 35 tpcReportMeans (elementsIn (drop fixedFields body))) (λ t. accepted (tpcReport token t)))))
+    (pick (eqb action 2) (andThen (single fixedFields 34 tpcRequestMeans (elementsIn (drop fixedFields body))) (λ u. accepted (tpcRequest token)))
+    (andThen (single fixedFields 35 tpcReportMeans (elementsIn (drop fixedFields body))) (λ t. accepted (tpcReport token t)))))
 
-unfoldable pub actionMeans : List ℕ → Outcome Body
+unfoldable pub actionMeans : List ℕ → Placed Body
 actionMeans body = andThen (opensWith body) (afterOpening body)
 
 -- ---- written

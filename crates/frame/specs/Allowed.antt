@@ -28,7 +28,7 @@ abbrev pub KindAllowed : ℕ → Kind → Type 0
 KindAllowed b k = FrameAllowed b (frameOf k) (quietsOf k)
 
 abbrev pub ReadingAllowed : ℕ → Reading → List Quiet → Type 0
-ReadingAllowed b (Reading.Refused r) qs = Unit {0}
+ReadingAllowed b (Reading.Refused x) qs = Unit {0}
 ReadingAllowed b (Reading.Is f) qs = FrameAllowed b f qs
 
 -- what a reader hands out

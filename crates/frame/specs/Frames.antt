@@ -1,14 +1,16 @@
 -- What a frame means to a station (01, "Answer numbers", "Octets"): header (1 to 4), then the body from left to right; one of seven
--- kinds, or one refusal. `own` is the station's address, `ap` its AP's, `b` its beacon interval.
+-- kinds, or one refusal and its place, the octets of the frame before the one at fault (02, One). `own` is the station's address, `ap` its
+-- AP's, `b` its beacon interval.
 use mathlib.Core.Bool.{Bool}
 use mathlib.Core.List.{List}
 use Prim.Native.Nat.{ℕ}
 use Rattle.answer.specs.Checks.{Outcome, refused, accepted, andThen}
+use Rattle.answer.specs.Faults.{Placed, nowhere, withoutPlace, placedPast}
 use Rattle.answer.specs.declared.Refusal.{Refusal}
 use Rattle.beacon.specs.Beacons.{Told, beaconMeans}
 use Rattle.measurement_element.specs.declared.measurement_report.Report.{Report}
 use Rattle.measurement_element.specs.declared.measurement_request.Request.{Request}
-use Rattle.header.specs.Headers.{bodyOf, headerMeans}
+use Rattle.header.specs.Headers.{headerLength, bodyOf, headerMeans}
 use Rattle.header.specs.declared.management.Subtype.{Subtype}
 use Rattle.measurement_body.specs.Lists.{nth}
 use Rattle.frame.specs.Actions.{Body, requests, reports, tpcRequest, tpcReport, switch, actionMeans}
@@ -24,18 +26,19 @@ pub record Sent : Type 0 where
   pub toAll : Bool
   pub kind : Kind
 
-abbrev pub kindOf : ℕ → Subtype → List ℕ → Outcome Kind
+abbrev pub kindOf : ℕ → Subtype → List ℕ → Placed Kind
 kindOf b Subtype.Beacon body = andThen (beaconMeans b body) (λ t. accepted (beacon t))
 kindOf b Subtype.ProbeResponse body = andThen (beaconMeans b body) (λ t. accepted (probeResponse t))
 kindOf b Subtype.Action body = andThen (actionMeans body) (λ a. accepted (action a))
 
-abbrev pub sent : Bool → Outcome Kind → Outcome Sent
+abbrev pub sent : Bool → Placed Kind → Placed Sent
 sent toAll o = andThen o (λ k. accepted (record { toAll = toAll; kind = k }))
 
-unfoldable pub frameMeans : List ℕ → List ℕ → ℕ → List ℕ → Outcome Sent
+-- what the body means, with the header before it
+unfoldable pub frameMeans : List ℕ → List ℕ → ℕ → List ℕ → Placed Sent
 frameMeans own ap b f =
-    andThen (headerMeans own ap f)
-    (λ h. sent (h .toAll) (kindOf b (h .subtype) (bodyOf f)))
+    andThen (nowhere (headerMeans own ap f))
+    (λ h. sent (h .toAll) (placedPast headerLength (kindOf b (h .subtype) (bodyOf f))))
 
 -- ---- a measurement element by its index from 0; past the last, or on another kind: 16
 
@@ -60,5 +63,5 @@ module _ {A : Type 0} (elementIn : ℕ → Body → Outcome A) where
   ofKind i (action body) = elementIn i body
 
   -- a frame that is refused has no elements either, and keeps its refusal
-  unfoldable pub elementOf : ℕ → Outcome Sent → Outcome A
-  elementOf i o = andThen o (λ s. ofKind i (s .kind))
+  unfoldable pub elementOf : ℕ → Placed Sent → Outcome A
+  elementOf i o = andThen (withoutPlace o) (λ s. ofKind i (s .kind))

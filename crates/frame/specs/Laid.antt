@@ -2,7 +2,8 @@
 use mathlib.Core.Bool.{Bool, true, false}
 use mathlib.Core.List.{List, []}
 use lib.ListN.{length}
-use Rattle.answer.specs.Checks.{Outcome, refused, accepted, andThen}
+use Rattle.answer.specs.Checks.{refused, accepted, andThen}
+use Rattle.answer.specs.Faults.{Placed}
 use Rattle.beacon.specs.Laid.{slots}
 use Rattle.element.specs.declared.quiet.Quiet.{Quiet}
 use Rattle.header.specs.declared.management.Subtype.{Subtype}
@@ -21,12 +22,12 @@ actionFrame (tpcReport token t) = Frame.TpcReport token t
 actionFrame (switch s) = Frame.ChannelSwitch s
 
 -- the outcome that each case of the answer stands for
-abbrev pub frameTold : Reading → Outcome Frame
-frameTold (Reading.Refused r) = refused r
+abbrev pub frameTold : Reading → Placed Frame
+frameTold (Reading.Refused x) = refused x
 frameTold (Reading.Is f) = accepted f
 
 -- a body's frame, or its refusal
-abbrev pub bodyFrame : Outcome Body → Outcome Frame
+abbrev pub bodyFrame : Placed Body → Placed Frame
 bodyFrame o = andThen o (λ body. accepted (actionFrame body))
 
 abbrev pub received : Reading → Bool → List Quiet → Received
@@ -43,8 +44,8 @@ quietsOf (beacon t) = t .quiets
 quietsOf (probeResponse t) = t .quiets
 quietsOf (action body) = []
 
-abbrev pub frameLaid : Outcome Sent → Received
-frameLaid (refused r) = received (Reading.Refused r) false []
+abbrev pub frameLaid : Placed Sent → Received
+frameLaid (refused x) = received (Reading.Refused x) false []
 frameLaid (accepted s) = received (Reading.Is (frameOf (s .kind))) (s .toAll) (quietsOf (s .kind))
 
 -- ---- the code's own terms, which no public promise cites

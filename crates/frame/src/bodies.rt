@@ -13,7 +13,7 @@ ghost use Rattle.walk.specs.Elements.{elementsIn};
 use crate::Frame;
 use crate::Reading;
 use action::Opening;
-use answer::Answer;
+use answer::Verdict;
 use measurement_body::Kind;
 use measurement_body::Place;
 use single_body::Single;
@@ -60,11 +60,11 @@ fn read_measurements(body: &[u8], kind: Kind, token: u8, index: usize) -> Locate
     ensures { λ r. ⌜ r ≡ located index (now (body .entry)) (afterOpening (now (body .entry)) (with (sortOf kind .action) token)) ⌝ }
 {
     let found = measurement_body::survey(body, kind, index, 0);
-    let answer = found.answer;
+    let verdict = found.verdict;
     let place = found.place;
-    match answer {
-        Answer::Refused(refusal) => unplaced(Reading::Refused(refusal)),
-        Answer::Accepted => placed(kind, token, found.count, place),
+    match verdict {
+        Verdict::Refused(fault) => unplaced(Reading::Refused(fault)),
+        Verdict::Accepted => placed(kind, token, found.count, place),
     }
 }
 
@@ -81,10 +81,10 @@ fn single_frame(said: Single, token: u8) -> Frame
 
 // Actions 2, 3 and 4: one element. Action 4 has no token, so that the one given is not looked at.
 fn read_single(body: &[u8], kind: single_body::Kind, token: u8) -> Located
-    ensures { λ r. ⌜ r ≡ unplaced (singleReading token (single (idOf kind) (contentsMean kind) (elementsIn (drop (fieldsBefore kind) (now (body .entry)))))) ⌝ }
+    ensures { λ r. ⌜ r ≡ unplaced (singleReading token (single (fieldsBefore kind) (idOf kind) (contentsMean kind) (elementsIn (drop (fieldsBefore kind) (now (body .entry)))))) ⌝ }
 {
     match single_body::read(body, kind) {
-        single_body::Reading::Refused(refusal) => unplaced(Reading::Refused(refusal)),
+        single_body::Reading::Refused(fault) => unplaced(Reading::Refused(fault)),
         single_body::Reading::Is(said) => unplaced(Reading::Is(single_frame(said, token))),
     }
 }
@@ -94,7 +94,7 @@ pub fn read_at(body: &[u8], index: usize) -> Located
     ensures { λ r. ⌜ r ≡ located index (now (body .entry)) (actionMeans (now (body .entry))) ⌝ }
 {
     match action::open(body) {
-        Opening::Refused(refusal) => unplaced(Reading::Refused(refusal)),
+        Opening::Refused(fault) => unplaced(Reading::Refused(fault)),
         Opening::Switch => read_single(body, single_body::Kind::ChannelSwitch, 0),
         Opening::Token { action, token } => match action {
             0 => read_measurements(body, Kind::Requests, token, index),
@@ -105,7 +105,7 @@ pub fn read_at(body: &[u8], index: usize) -> Located
     }
 }
 
-// The body of an action frame, as the frame that it makes.
+// The body of an action frame, as the frame that it makes. The place of a fault is counted from the body's first octet.
 pub fn read_body(body: &[u8]) -> Reading
     ensures { λ r. ⌜ frameTold r ≡ bodyFrame (actionMeans (now (body .entry))) ⌝ }
 {

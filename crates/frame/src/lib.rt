@@ -1,6 +1,7 @@
 // Frames (document 01, "A frame that is read is one of seven kinds"): any octets at all come out as one of them, or as one refusal.
 mod bodies;
 mod index;
+mod places;
 
 pub use bodies::read_body;
 pub use index::Asked;
@@ -10,11 +11,16 @@ pub use index::request_at;
 pub use index::request_in;
 ghost use mathlib.Core.Path.{_≡_};
 ghost use mathlib.Core.List.{[]};
+ghost use Prim.Native.Nat.{_≤_};
+ghost use lib.ListN.{length};
+ghost use Rattle.answer.specs.Faults.{placedPast};
 ghost use Rattle.frame.specs.Frames.{kindOf, sent, frameMeans};
 ghost use Rattle.frame.specs.Laid.{received, frameLaid, noticeSubtype};
+ghost use Rattle.header.specs.Headers.{headerLength};
 ghost use Rattle.header.specs.declared.management.Subtype.{Subtype};
-use answer::Answer;
-use answer::Refusal;
+ghost use Rattle.measurement_body.specs.Bodies.{longestBody};
+use answer::Fault;
+use answer::Verdict;
 use beacon::NO_QUIET;
 use beacon::Notice;
 use beacon::QUIETS;
@@ -36,7 +42,7 @@ pub enum Frame {
 }
 
 pub enum Reading {
-    Refused(Refusal),
+    Refused(Fault),
     Is(Frame),
 }
 
@@ -64,15 +70,16 @@ fn alone(reading: Reading, broadcast: bool) -> Received
 
 // A beacon, where `probe` is false, or a probe response: their bodies are the same.
 fn read_notice(body: &[u8], interval: u16, probe: bool, broadcast: bool) -> Received
-    ensures { λ r. ⌜ r ≡ frameLaid (sent broadcast (kindOf interval (noticeSubtype probe) (now (body .entry)))) ⌝ }
+    requires { ⌜ length (now body) ≤ longestBody ⌝ }
+    ensures { λ r. ⌜ r ≡ frameLaid (sent broadcast (placedPast headerLength (kindOf interval (noticeSubtype probe) (now (body .entry))))) ⌝ }
 {
     let heard = beacon::read(body, interval);
-    let answer = heard.answer;
+    let verdict = heard.verdict;
     let notice = heard.notice;
     let quiets = heard.quiets;
-    match answer {
-        Answer::Refused(refusal) => alone(Reading::Refused(refusal), false),
-        Answer::Accepted => {
+    match verdict {
+        Verdict::Refused(fault) => alone(Reading::Refused(places::fault_in_frame(fault)), false),
+        Verdict::Accepted => {
             let frame = if probe {
                 Frame::ProbeResponse(notice)
             } else {
@@ -90,11 +97,12 @@ fn read_notice(body: &[u8], interval: u16, probe: bool, broadcast: bool) -> Rece
 
 // An action frame.
 fn read_action(body: &[u8], broadcast: bool) -> Received
-    ensures { λ r. ⌜ r ≡ frameLaid (sent broadcast (kindOf 0 Subtype.Action (now (body .entry)))) ⌝ }
+    requires { ⌜ length (now body) ≤ longestBody ⌝ }
+    ensures { λ r. ⌜ r ≡ frameLaid (sent broadcast (placedPast headerLength (kindOf 0 Subtype.Action (now (body .entry))))) ⌝ }
 {
-    let reading = read_body(body);
+    let reading = places::reading_in_frame(read_body(body));
     match reading {
-        Reading::Refused(refusal) => alone(Reading::Refused(refusal), false),
+        Reading::Refused(fault) => alone(Reading::Refused(fault), false),
         Reading::Is(frame) => alone(Reading::Is(frame), broadcast),
     }
 }
@@ -104,7 +112,7 @@ pub fn read(frame: &[u8], own: [u8; 6], ap: [u8; 6], interval: u16) -> Received
     ensures { λ r. ⌜ r ≡ frameLaid (frameMeans own ap interval (now (frame .entry))) ⌝ }
 {
     match header::read(frame, own, ap) {
-        Header::Refused(refusal) => alone(Reading::Refused(refusal), false),
+        Header::Refused(refusal) => alone(Reading::Refused(Fault::nowhere(refusal)), false),
         Header::Is {
             subtype,
             to_all: broadcast,

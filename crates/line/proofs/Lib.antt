@@ -1,3 +1,4 @@
 pub mod Backing
 pub mod InRoom
+pub mod Lengths
 pub mod Spelling

@@ -8,10 +8,6 @@ use Rattle.line.specs.declared.back.Text.{Text}
 abbrev pub lineRoom : ℕ
 lineRoom = 64
 
--- the digits of the largest number of 64 bits
-abbrev pub mostDigits : ℕ
-mostDigits = 20
-
 -- the letters of the longest word
 abbrev pub mostLetters : ℕ
 mostLetters = 7

@@ -1,7 +1,8 @@
--- The lines of the list (01, "Capture blocks and the evening list": number, word, answer number; the last line is blocks, how many in all,
--- damaged, how many were).
+-- The lines of the list (01, "Capture blocks and the evening list": number, word, answer number; 02, One: after it the offset of the octet at
+-- fault, where there is one; the last line is blocks, how many in all, damaged, how many were).
 use mathlib.Core.List.{List, [], _∷_, _++_}
 use Prim.Native.Nat.{ℕ}
+use Rattle.answer.specs.declared.Offset.{Offset}
 use Rattle.line.specs.Decimals.{decimal}
 use Rattle.line.specs.declared.words.Word.{Word}
 
@@ -14,9 +15,15 @@ spelled Word.Ask = 97 ∷ 115 ∷ 107 ∷ []
 spelled Word.Record = 114 ∷ 101 ∷ 99 ∷ 111 ∷ 114 ∷ 100 ∷ []
 spelled Word.Block = 98 ∷ 108 ∷ 111 ∷ 99 ∷ 107 ∷ []
 
+-- a space and the offset
+abbrev pub placed : Offset → List ℕ
+placed Offset.Absent = []
+placed (Offset.At n) = (32 ∷ []) ++ decimal n
+
 -- a space between, and a line end
-unfoldable pub lineOf : ℕ → Word → ℕ → List ℕ
-lineOf number word answer = decimal number ++ ((32 ∷ []) ++ (spelled word ++ ((32 ∷ []) ++ (decimal answer ++ (10 ∷ [])))))
+unfoldable pub lineOf : ℕ → Word → ℕ → Offset → List ℕ
+lineOf number word answer offset =
+    decimal number ++ ((32 ∷ []) ++ (spelled word ++ ((32 ∷ []) ++ (decimal answer ++ (placed offset ++ (10 ∷ []))))))
 
 -- "blocks ", " damaged "
 unfoldable pub closingOf : ℕ → ℕ → List ℕ

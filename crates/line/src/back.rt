@@ -3,7 +3,7 @@ ghost use mathlib.Core.Path.{_≡_};
 ghost use mathlib.Core.List.{List, [], _++_};
 ghost use Prim.Native.Nat.{ℕ, _+_, _≤_};
 ghost use lib.ListN.{length};
-ghost use Rattle.line.specs.Backs.{lineRoom, mostDigits, backed};
+ghost use Rattle.line.specs.Backs.{lineRoom, backed};
 ghost use Rattle.line.specs.Decimals.{decimal};
 
 // The text is the octets from `from` on; those in front of it are 0.
@@ -46,9 +46,9 @@ pub fn put(octets: &[u8], text: Text) -> Text
 
 // A number in decimal, and the text after it.
 pub fn put_number(number: u64, text: Text) -> Text
-    requires { ⌜ (mostDigits ≤ text .from) × (text .from ≤ lineRoom) ⌝ }
+    requires { ⌜ (length (decimal number) ≤ text .from) × (text .from ≤ lineRoom) ⌝ }
     ensures { λ r. ⌜ ((os : List ℕ) → text ≡ backed os → r ≡ backed (decimal number ++ os)) ⌝ }
-    ensures { λ r. ⌜ (r .from ≤ text .from) × (text .from ≤ r .from + mostDigits) ⌝ }
+    ensures { λ r. ⌜ text .from ≡ r .from + length (decimal number) ⌝ }
 {
     let mut bytes = text.bytes;
     let mut from = text.from;

@@ -10,7 +10,8 @@ use lib.Dec.{leb, eqb}
 use lib.ListN.{length, take, drop, length-append, length-take}
 use lib.Seq.{take-append-seam, take-nil, length-take-le}
 use Rattle.action.specs.Openings.{fixedFields}
-use Rattle.answer.specs.Checks.{Outcome, refused, accepted, pick}
+use Rattle.answer.specs.Checks.{refused, accepted, pick}
+use Rattle.answer.specs.Faults.{Placed}
 use Rattle.octets.proofs.Overwriting.{written-as}
 use Rattle.octets.proofs.Storing.{room-left}
 use Rattle.octets.specs.Writing.{Written, left}
@@ -40,7 +41,7 @@ module _ {A : Type 0} (s : Sort A) (token : ℕ) (a : A) (there : List ℕ) wher
       ≡ (surveyed s 0 (s .token a) there .plain && not (s .once && surveyed s 0 (s .token a) there .hit))
   joined = by (measurementsIn s (drop fixedFields there))
     where
-      by : (o : Outcome (List A)) → (allClear s (elementsIn (drop fixedFields there)) && joins s a o)
+      by : (o : Placed (List A)) → (allClear s (elementsIn (drop fixedFields there)) && joins s a o)
           ≡ (surveyedAs s 0 (s .token a) there o .plain && not (s .once && surveyedAs s 0 (s .token a) there o .hit))
       by (refused r) = and-false (allClear s (elementsIn (drop fixedFields there)))
       by (accepted l) = and-assoc (allClear s (elementsIn (drop fixedFields there))) (allInterpreted s l) (not (s .once && used s (s .token a) l))

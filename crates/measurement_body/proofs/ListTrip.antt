@@ -12,8 +12,9 @@ use lib.Seq.{append-snoc}
 use Rattle.answer.specs.Checks.{accepted}
 use Rattle.answer.proofs.Booleans.{clash, both}
 use Rattle.octets.specs.Elements.{element, RoundTrip}
+use Rattle.action.specs.Openings.{fixedFields}
 use Rattle.octets.specs.Numbers.{Octets}
-use Rattle.walk.specs.Elements.{Elements, end, cutHeader, cutContents, more, elementsIn}
+use Rattle.walk.specs.Elements.{Elements, end, cutHeader, cutContents, more, elementsIn, pastElement}
 use Rattle.measurement_body.specs.Lists.{AllFit, Sort, repeats, listed, measurementsIn, allClear, allInterpreted, allOctets, mayAll, mayList}
 use Rattle.walk.proofs.Requiring as Requiring
 use Rattle.measurement_body.proofs.Listing.{onward, lists, ended, not-cut-header, not-cut-contents}
@@ -50,28 +51,28 @@ module _ {A : Type 0} (s : Sort A) (Fits : A → Type 0) (t : Trip s Fits) where
 
   -- ---- there
 
-  read-on : (a : A) (c : List ℕ) (es : Elements) (before : List A) → s .means c ≡ accepted a → repeats s a before ≡ false
-      → listed s (more (s .id) c es) before ≡ listed s es (before ++ (a ∷ []))
-  read-on a c es before m r = onward s (more (s .id) c es) (record { contents = c; rest = es }) (Requiring.there (s .id) c es) before m r
+  read-on : (n : ℕ) (a : A) (c : List ℕ) (es : Elements) (before : List A) → s .means c ≡ accepted a → repeats s a before ≡ false
+      → listed s n (more (s .id) c es) before ≡ listed s (pastElement n c) es (before ++ (a ∷ []))
+  read-on n a c es before m r = onward s n (more (s .id) c es) (record { contents = c; rest = es }) (Requiring.there (s .id) c es) before m r
 
-  there : (xs before : List A) → AllFit Fits xs → mayAll s before xs ≡ true → 0 < length (before ++ xs)
-      → listed s (elementsIn (allOctets s xs)) before ≡ accepted (before ++ xs)
+  there : (n : ℕ) (xs before : List A) → AllFit Fits xs → mayAll s before xs ≡ true → 0 < length (before ++ xs)
+      → listed s n (elementsIn (allOctets s xs)) before ≡ accepted (before ++ xs)
   unfolding allOctets listed
-  there [] before f m h =
+  there n [] before f m h =
       let some : eqb (length before) 0 ≡ false = ne-eqb (length before) 0 (λ z. omega (arith, length-append before [])) in
       simp (none, some) (ap accepted (sym (append-nil before)))
-  there (a ∷ xs) before f m h =
+  there n (a ∷ xs) before f m h =
       let p = first before a xs m in
-      ap (λ (es : Elements). listed s es before) (written a xs)
-      ∙ read-on a (t .contents a) (elementsIn (allOctets s xs)) before (t .trip .there a (f .0) (p .0)) (p .1)
-      ∙ there xs (before ++ (a ∷ [])) (f .1) (p .2) (subst (λ (l : List A). 0 < length l) (sym (append-snoc before a xs)) h)
+      ap (λ (es : Elements). listed s n es before) (written a xs)
+      ∙ read-on n a (t .contents a) (elementsIn (allOctets s xs)) before (t .trip .there a (f .0) (p .0)) (p .1)
+      ∙ there (pastElement n (t .contents a)) xs (before ++ (a ∷ [])) (f .1) (p .2) (subst (λ (l : List A). 0 < length l) (sym (append-snoc before a xs)) h)
       ∙ ap accepted (append-snoc before a xs)
 
   pub list-there : (xs : List A) → AllFit Fits xs → mayList s xs ≡ true → measurementsIn s (allOctets s xs) ≡ accepted xs
   unfolding mayList measurementsIn
   list-there xs f m =
       let p = both (ltb 0 (length xs)) (mayAll s [] xs) m in
-      there xs [] f (p .1) (ltb-true 0 (length xs) (p .0))
+      there fixedFields xs [] f (p .1) (ltb-true 0 (length xs) (p .0))
 
   -- and nothing in it is uninterpreted, and no reserved bit is set
   pub list-known : (xs before : List A) → mayAll s before xs ≡ true → allInterpreted s xs ≡ true
@@ -104,11 +105,11 @@ module _ {A : Type 0} (s : Sort A) (Fits : A → Type 0) (t : Trip s Fits) where
   known-one [] a l i = both (s .interpreted a) _ i .0
   known-one (x ∷ before) a l i = known-one before a l (both (s .interpreted x) _ i .1)
 
-  back : (es : Elements) (run : List ℕ) (before l : List A) → elementsIn run ≡ es → Octets run → allInterpreted s l ≡ true → allClear s es ≡ true
-      → listed s es before ≡ accepted l → Rest run before l
+  back : (n : ℕ) (es : Elements) (run : List ℕ) (before l : List A) → elementsIn run ≡ es → Octets run → allInterpreted s l ≡ true → allClear s es ≡ true
+      → listed s n es before ≡ accepted l → Rest run before l
   unfolding allClear allOctets mayAll
-  back end run before l e o i c h =
-      let p = ended s before l h in
+  back n end run before l e o i c h =
+      let p = ended s n before l h in
       let k = p .1 in
       record {
         tail = [];
@@ -117,17 +118,17 @@ module _ {A : Type 0} (s : Sort A) (Fits : A → Type 0) (t : Trip s Fits) where
         may = refl;
         some = lt-ltb 0 (length l) (omega (arith, ap length k, eqb-false (length before) 0 (p .0)));
       }
-  back cutHeader run before l e o i c h = absurd (not-cut-header s before l h)
-  back (cutContents id) run before l e o i c h = absurd (not-cut-contents s id before l h)
-  back (more id x es) run before l e o i c h =
-      let g = lists s id x es before l h in
+  back n cutHeader run before l e o i c h = absurd (not-cut-header s n before l h)
+  back n (cutContents id) run before l e o i c h = absurd (not-cut-contents s n id before l h)
+  back n (more id x es) run before l e o i c h =
+      let g = lists s n id x es before l h in
       let a = g .one in
       let y = split run id x es e in
       let clear = both (s .clear x) (allClear s es) c in
       let octets = subst Octets (y .octets) o in
       let inner = octets-front x (y .rest) (λ j. octets (suc (suc j))) in
       let outer = octets-after x (y .rest) (λ j. octets (suc (suc j))) in
-      let z = back es (y .rest) (before ++ (a ∷ [])) l (y .after) outer i (clear .1) (g .on) in
+      let z = back (pastElement n x) es (y .rest) (before ++ (a ∷ [])) l (y .after) outer i (clear .1) (g .on) in
       let b = t .trip .back x a inner (g .says) (known-one before a (z .tail) (ap (allInterpreted s) (sym (z .whole)) ∙ i)) (clear .0) in
       record {
         tail = a ∷ z .tail;
@@ -144,7 +145,7 @@ module _ {A : Type 0} (s : Sort A) (Fits : A → Type 0) (t : Trip s Fits) where
       (c : allClear s (elementsIn run) ≡ true) where
     rest : Rest run [] xs
     unfolding measurementsIn
-    rest = back (elementsIn run) run [] xs refl o i c h
+    rest = back fixedFields (elementsIn run) run [] xs refl o i c h
 
     pub list-back : (mayList s xs ≡ true) × (allOctets s xs ≡ run)
     unfolding mayList
@@ -158,16 +159,16 @@ module _ {A : Type 0} (s : Sort A) (Fits : A → Type 0) (t : Trip s Fits) where
     whole : l ≡ before ++ tail
     fit : Octets run → AllFit Fits tail
 
-  ends : (es : Elements) (run : List ℕ) (before l : List A) → elementsIn run ≡ es → listed s es before ≡ accepted l → Ends run before l
-  ends end run before l e h =
-      record { tail = []; whole = sym (append-nil before ∙ ended s before l h .1); fit = λ o. tt }
-  ends cutHeader run before l e h = absurd (not-cut-header s before l h)
-  ends (cutContents id) run before l e h = absurd (not-cut-contents s id before l h)
-  ends (more id x es) run before l e h =
-      let g = lists s id x es before l h in
+  ends : (n : ℕ) (es : Elements) (run : List ℕ) (before l : List A) → elementsIn run ≡ es → listed s n es before ≡ accepted l → Ends run before l
+  ends n end run before l e h =
+      record { tail = []; whole = sym (append-nil before ∙ ended s n before l h .1); fit = λ o. tt }
+  ends n cutHeader run before l e h = absurd (not-cut-header s n before l h)
+  ends n (cutContents id) run before l e h = absurd (not-cut-contents s n id before l h)
+  ends n (more id x es) run before l e h =
+      let g = lists s n id x es before l h in
       let a = g .one in
       let y = split run id x es e in
-      let z = ends es (y .rest) (before ++ (a ∷ [])) l (y .after) (g .on) in
+      let z = ends (pastElement n x) es (y .rest) (before ++ (a ∷ [])) l (y .after) (g .on) in
       record {
         tail = a ∷ z .tail;
         whole = z .whole ∙ append-snoc before a (z .tail);
@@ -182,7 +183,7 @@ module _ {A : Type 0} (s : Sort A) (Fits : A → Type 0) (t : Trip s Fits) where
   pub list-fits : (run : List ℕ) (xs : List A) → Octets run → measurementsIn s run ≡ accepted xs → AllFit Fits xs
   unfolding measurementsIn
   list-fits run xs o h =
-      let z = ends (elementsIn run) run [] xs refl h in
+      let z = ends fixedFields (elementsIn run) run [] xs refl h in
       subst (AllFit Fits) (sym (z .whole)) (z .fit o)
 
   -- lists that are the same go on with the same record
@@ -191,39 +192,39 @@ module _ {A : Type 0} (s : Sort A) (Fits : A → Type 0) (t : Trip s Fits) where
   same (x ∷ before) a b xs ys e = same before a b xs ys (cc)
 
   -- the element in front says the record that the list goes on with
-  leads : (x run : List ℕ) (before xs : List A) (a : A) → listed s (more (s .id) x (elementsIn run)) before ≡ accepted (before ++ (a ∷ xs))
-      → (s .means x ≡ accepted a) × (repeats s a before ≡ false) × (listed s (elementsIn run) (before ++ (a ∷ [])) ≡ accepted (before ++ (a ∷ xs)))
-  leads x run before xs a h =
-      let g = lists s (s .id) x (elementsIn run) before (before ++ (a ∷ xs)) h in
+  leads : (n : ℕ) (x run : List ℕ) (before xs : List A) (a : A) → listed s n (more (s .id) x (elementsIn run)) before ≡ accepted (before ++ (a ∷ xs))
+      → (s .means x ≡ accepted a) × (repeats s a before ≡ false) × (listed s (pastElement n x) (elementsIn run) (before ++ (a ∷ [])) ≡ accepted (before ++ (a ∷ xs)))
+  leads n x run before xs a h =
+      let g = lists s n (s .id) x (elementsIn run) before (before ++ (a ∷ xs)) h in
       let b = g .one in
-      let z = ends (elementsIn run) run (before ++ (b ∷ [])) (before ++ (a ∷ xs)) refl (g .on) in
+      let z = ends (pastElement n x) (elementsIn run) run (before ++ (b ∷ [])) (before ++ (a ∷ xs)) refl (g .on) in
       let e : b ≡ a = sym (same before a b xs (z .tail) (z .whole ∙ append-snoc before b (z .tail))) in (
         g .says ∙ ap accepted e,
         subst (λ (y : A). repeats s y before ≡ false) e (g .new),
-        subst (λ (y : A). listed s (elementsIn run) (before ++ (y ∷ [])) ≡ accepted (before ++ (a ∷ xs))) e (g .on),
+        subst (λ (y : A). listed s (pastElement n x) (elementsIn run) (before ++ (y ∷ [])) ≡ accepted (before ++ (a ∷ xs))) e (g .on),
       )
 
-  exact : (xs before : List A) → AllFit Fits xs → allInterpreted s xs ≡ true
-      → listed s (elementsIn (allOctets s xs)) before ≡ accepted (before ++ xs) → mayAll s before xs ≡ true
+  exact : (n : ℕ) (xs before : List A) → AllFit Fits xs → allInterpreted s xs ≡ true
+      → listed s n (elementsIn (allOctets s xs)) before ≡ accepted (before ++ xs) → mayAll s before xs ≡ true
   unfolding mayAll allInterpreted
-  exact [] before f i h = refl
-  exact (a ∷ xs) before f i h =
-      let p = leads (t .contents a) (allOctets s xs) before xs a (ap (λ (es : Elements). listed s es before) (sym (written a xs)) ∙ h) in
+  exact n [] before f i h = refl
+  exact n (a ∷ xs) before f i h =
+      let p = leads n (t .contents a) (allOctets s xs) before xs a (ap (λ (es : Elements). listed s n es before) (sym (written a xs)) ∙ h) in
       let k = both (s .interpreted a) (allInterpreted s xs) i in
       may-first before a xs (t .trip .exact a (f .0) (p .0) (k .0)) (p .1)
-      (exact xs (before ++ (a ∷ [])) (f .1) (k .1) (p .2 ∙ ap accepted (sym (append-snoc before a xs))))
+      (exact (pastElement n (t .contents a)) xs (before ++ (a ∷ [])) (f .1) (k .1) (p .2 ∙ ap accepted (sym (append-snoc before a xs))))
 
   -- an accepted list has one record or more
-  some : (xs : List A) → listed s (elementsIn (allOctets s xs)) [] ≡ accepted xs → ltb 0 (length xs) ≡ true
+  some : (n : ℕ) (xs : List A) → listed s n (elementsIn (allOctets s xs)) [] ≡ accepted xs → ltb 0 (length xs) ≡ true
   unfolding allOctets
-  some [] h =
-      let g : listed s end [] ≡ accepted [] = ap (λ (es : Elements). listed s es []) (sym none) ∙ h in
-      clash (ended s [] [] g .0)
-  some (a ∷ xs) h = lt-ltb 0 (length (a ∷ xs)) (omega arith)
+  some n [] h =
+      let g : listed s n end [] ≡ accepted [] = ap (λ (es : Elements). listed s n es []) (sym none) ∙ h in
+      clash (ended s n [] [] g .0)
+  some n (a ∷ xs) h = lt-ltb 0 (length (a ∷ xs)) (omega arith)
 
   list-exact : (xs : List A) → AllFit Fits xs → measurementsIn s (allOctets s xs) ≡ accepted xs → allInterpreted s xs ≡ true → mayList s xs ≡ true
   unfolding measurementsIn mayList
-  list-exact xs f h i = simp (some xs h, exact xs [] f i h)
+  list-exact xs f h i = simp (some fixedFields xs h, exact fixedFields xs [] f i h)
 
   -- demand 2 for a run
   pub list-trip : RoundTrip (measurementsIn s) (allOctets s) (mayList s) (AllFit Fits) (allInterpreted s) (λ run. allClear s (elementsIn run))

@@ -45,13 +45,13 @@ module _ {A : Type 0} (s : Sort A) (body : List ℕ) where
     whole : l ≡ before ++ tail
     reads : (i : ℕ) → Reads s body (nth i tail) (placeAfter at i es)
 
-  rest : (es : Elements) (at : ℕ) (before l : List A) → elementsIn (drop at body) ≡ es → listed s es before ≡ accepted l → Rest at es before l
+  rest : (es : Elements) (at : ℕ) (before l : List A) → elementsIn (drop at body) ≡ es → listed s at es before ≡ accepted l → Rest at es before l
   unfolding placeAfter nth
-  rest end at before l e h = record { tail = []; whole = sym (append-nil before ∙ ended s before l h .1); reads = λ i. refl }
-  rest cutHeader at before l e h = absurd (not-cut-header s before l h)
-  rest (cutContents id) at before l e h = absurd (not-cut-contents s id before l h)
+  rest end at before l e h = record { tail = []; whole = sym (append-nil before ∙ ended s at before l h .1); reads = λ i. refl }
+  rest cutHeader at before l e h = absurd (not-cut-header s at before l h)
+  rest (cutContents id) at before l e h = absurd (not-cut-contents s at id before l h)
   rest (more id x es) at before l e h =
-      let g = lists s id x es before l h in
+      let g = lists s at id x es before l h in
       let y = stands body at id x es e in
       let z = rest es (at + 2 + length x) (before ++ (g .one ∷ [])) l (y .after) (g .on) in
       record {
@@ -60,7 +60,7 @@ module _ {A : Type 0} (s : Sort A) (body : List ℕ) where
         reads = by g y z;
       }
     where
-      by : (g : Lists s id x es before l) (y : Stands body at x es) (z : Rest (at + 2 + length x) es (before ++ (g .one ∷ [])) l) (i : ℕ)
+      by : (g : Lists s at id x es before l) (y : Stands body at x es) (z : Rest (at + 2 + length x) es (before ++ (g .one ∷ [])) l) (i : ℕ)
           → Reads s body (nth i (g .one ∷ z .tail)) (placeAfter at i (more id x es))
       by g y z zero = (omega arith, y .inside, ap (s .means) (y .contents) ∙ g .says)
       by g y z (suc i) = z .reads i

@@ -9,10 +9,13 @@ use lib.Dec.{ltb, eqb}
 use lib.ListN.{length, take, drop, getD, set, replicate, length-append, length-drop}
 use Rattle.action.specs.Openings.{fixedFields}
 use Rattle.answer.proofs.Booleans.{neither, or-go}
-use Rattle.answer.specs.Checks.{Outcome, refused, accepted, pick}
-use Rattle.answer.specs.declared.Answer.{Answer}
+use Rattle.answer.specs.Checks.{refused, accepted, pick}
+use Rattle.answer.specs.Faults as Faults
+use Rattle.answer.specs.Faults.{faultAt}
+use Rattle.answer.specs.declared.Fault.{Fault}
 use Rattle.answer.specs.declared.Refusal.{Refusal}
-use Rattle.walk.proofs.Requiring.{Lies, whole, long}
+use Rattle.answer.specs.declared.Verdict.{Verdict}
+use Rattle.walk.proofs.Requiring.{Lies, whole, long, past}
 use Rattle.walk.proofs.RunLaws.{empty}
 use Rattle.walk.proofs.Walking.{at-end}
 use Rattle.walk.specs.CodeTerms.Required.{between}
@@ -37,7 +40,7 @@ interpreted-snoc s (x ∷ l) a =
 -- where the walk stands: the records in front of `at` are those before, and their tokens are marked
 pub record Walked {A : Type 0} (s : Sort A) (body : List ℕ) (index : ℕ) (marks : List Bool) (count at : ℕ) (place : Place) (plain more : Bool) : Type 0 where
   pub before : List A
-  pub same : listed s (elementsIn (drop at body)) before ≡ measurementsIn s (drop fixedFields body)
+  pub same : listed s at (elementsIn (drop at body)) before ≡ measurementsIn s (drop fixedFields body)
   pub marked : Marked s marks before
   pub counted : count ≡ length before
   pub few : count ≤ at
@@ -66,20 +69,20 @@ start s body index =
 
 module _ {A : Type 0} {s : Sort A} {body : List ℕ} {index : ℕ} {marks : List Bool} {count at : ℕ} {place : Place} {plain more : Bool}
     (w : Walked s body index marks count at place plain more) where
-  as-whole : {o : Outcome (List A)} → listed s (elementsIn (drop at body)) (w .before) ≡ o → measurementsIn s (drop fixedFields body) ≡ o
+  as-whole : {o : Faults.Placed (List A)} → listed s at (elementsIn (drop at body)) (w .before) ≡ o → measurementsIn s (drop fixedFields body) ≡ o
   as-whole e = sym (w .same) ∙ e
 
   -- ---- an element that has to be there
 
   pub absent : (id : ℕ) → id ≡ s .id → more ≡ true → {r : Refusal} → required id (elementsIn (drop at body)) ≡ refused r
-      → measurementsIn s (drop fixedFields body) ≡ refused r
+      → measurementsIn s (drop fixedFields body) ≡ refused (faultAt at r)
   absent id own m e =
       as-whole
-      (stops s (elementsIn (drop at body)) (w .before) (λ h. none-before (past h))
+      (stops s at (elementsIn (drop at body)) (w .before) (λ h. none-before (over h))
       (ap (λ (n : ℕ). required n (elementsIn (drop at body))) (sym own) ∙ e))
     where
-      past : elementsIn (drop at body) ≡ end → length body ≤ at
-      past h = omega (arith, length-drop at body, ap length (empty (drop at body) h))
+      over : elementsIn (drop at body) ≡ end → length body ≤ at
+      over h = omega (arith, length-drop at body, ap length (empty (drop at body) h))
 
       none-before : length body ≤ at → length (w .before) ≡ 0
       none-before h = by (eqb count 0) refl
@@ -96,8 +99,8 @@ module _ {A : Type 0} {s : Sort A} {body : List ℕ} {index : ℕ} {marks : List
     abbrev contents : List ℕ
     contents = take (stop - start) (drop start body)
 
-    pub unfit : {r : Refusal} → s .means contents ≡ refused r → measurementsIn s (drop fixedFields body) ≡ refused r
-    unfit m = as-whole (misread s (elementsIn (drop at body)) (between body start stop) (l .stands) (w .before) m)
+    pub unfit : {r : Refusal} → s .means contents ≡ refused r → measurementsIn s (drop fixedFields body) ≡ refused (faultAt at r)
+    unfit m = as-whole (misread s at (elementsIn (drop at body)) (between body start stop) (l .stands) (w .before) m)
 
     module _ {token : ℕ} {is-plain : Bool} (h : Holds s contents token is-plain) (small : token < 256) where
       -- whether it repeats one before it, by its mark
@@ -107,8 +110,8 @@ module _ {A : Type 0} {s : Sort A} {body : List ℕ} {index : ℕ} {marks : List
           ∙ ap (λ (b : Bool). s .once && b) (sym (w .marked .at token small))
           ∙ e
 
-      pub again : (s .once && getD marks token false) ≡ true → measurementsIn s (drop fixedFields body) ≡ refused Refusal.Repeated
-      again e = as-whole (repeated s (elementsIn (drop at body)) (between body start stop) (l .stands) (w .before) (h .says) (marked-by e))
+      pub again : (s .once && getD marks token false) ≡ true → measurementsIn s (drop fixedFields body) ≡ refused (faultAt at Refusal.Repeated)
+      again e = as-whole (repeated s at (elementsIn (drop at body)) (between body start stop) (l .stands) (w .before) (h .says) (marked-by e))
 
       pub further : (s .once && getD marks token false) ≡ false
           → Walked s body index (set marks token true) (count + 1) stop (pick (eqb count index) (Place.Contents start stop) place) (plain && is-plain) (ltb stop (length body))
@@ -119,7 +122,9 @@ module _ {A : Type 0} {s : Sort A} {body : List ℕ} {index : ℕ} {marks : List
           let c = s .clear contents in
           record {
             before = w .before ++ (a ∷ []);
-            same = sym (onward s es here (l .stands) (w .before) (h .says) (marked-by e)) ∙ w .same;
+            same =
+                ap (λ (n : ℕ). listed s n (elementsIn (drop stop body)) (w .before ++ (a ∷ []))) (sym (past l))
+                ∙ sym (onward s at es here (l .stands) (w .before) (h .says) (marked-by e)) ∙ w .same;
             marked = one-more s (w .marked) a token (h .tokened) small;
             counted = simp length-append (omega (arith, w .counted));
             few = omega (arith, w .few, l .begins, l .ordered);
@@ -151,7 +156,7 @@ module _ {A : Type 0} {s : Sort A} {body : List ℕ} {index : ℕ} {marks : List
     unfolding listed
     all-read =
         as-whole
-        (ap (λ (es : Elements). listed s es (w .before)) none-left
+        (ap (λ (es : Elements). listed s at es (w .before)) none-left
         ∙ simp (ne-eqb (length (w .before)) 0 (λ e. eqb-false count 0 (tests .0) (w .counted ∙ e))))
 
     all-clear : allClear s (elementsIn (drop fixedFields body)) ≡ w .clear
@@ -162,10 +167,10 @@ module _ {A : Type 0} {s : Sort A} {body : List ℕ} {index : ℕ} {marks : List
     found = final (subst (λ (x : Elements). Placed (placeIn index body) x index count at place) none-left (w .placed))
 
     pub read : (token : ℕ) → token < 256
-        → record { answer = Answer.Accepted; count = count; place = place; hit = getD marks token false; plain = plain } ≡ surveyed s index token body
+        → record { verdict = Verdict.Accepted; count = count; place = place; hit = getD marks token false; plain = plain } ≡ surveyed s index token body
     read token small = rw (all-read, all-clear, w .counted, w .plainly, found, w .marked .at token small)
 
 -- a refusal, as it is handed out
-pub refused-as : {A : Type 0} (s : Sort A) (index token : ℕ) (body : List ℕ) {x : Surveyed} {r : Refusal} → x ≡ notSurveyed r
+pub refused-as : {A : Type 0} (s : Sort A) (index token : ℕ) (body : List ℕ) {x : Surveyed} {r : Fault} → x ≡ notSurveyed r
     → measurementsIn s (drop fixedFields body) ≡ refused r → x ≡ surveyed s index token body
 refused-as s index token body h e = h ∙ ap (surveyedAs s index token body) (sym e)

@@ -6,7 +6,8 @@ use Prim.Native.Nat.{ℕ, _+_}
 use lib.Dec.{leb, eqb}
 use lib.ListN.{length, drop}
 use Rattle.action.specs.Openings.{fixedFields, forbidsToken}
-use Rattle.answer.specs.Checks.{Outcome, refused, accepted, pick}
+use Rattle.answer.specs.Checks.{refused, accepted, pick}
+use Rattle.answer.specs.Faults.{Placed}
 use Rattle.octets.specs.Numbers.{octet}
 use Rattle.walk.specs.Elements.{elementsIn}
 use Rattle.measurement_body.specs.Lists.{Sort, repeats, measurementsIn, allClear, allInterpreted, allOctets}
@@ -34,8 +35,8 @@ module _ {A : Type 0} (s : Sort A) where
   mayOpen token = not (forbidsToken (s .action) token)
 
   -- whether a record may stand after those of a run
-  abbrev pub joins : A → Outcome (List A) → Bool
-  joins a (refused r) = false
+  abbrev pub joins : A → Placed (List A) → Bool
+  joins a (refused x) = false
   joins a (accepted before) = allInterpreted s before && not (repeats s a before)
 
   module _ (token : ℕ) (a : A) (there : List ℕ) where

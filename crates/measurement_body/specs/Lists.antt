@@ -1,13 +1,15 @@
 -- One or more elements of one ID, in a run (01, "Octets": actions 0 and 1 have one or more of 38 or 39). For each element: the one that
--- has to be there (7, 6), its length and value (8, 9), repeat (10).
+-- has to be there (7, 6, 21), its length and value (8, 9), repeat (10). The place of an element's fault is its ID octet (02, One).
 use mathlib.Core.Bool.{Bool, true, false, not, _&&_, _||_}
 use mathlib.Core.List.{List, [], _∷_, _++_}
 use Prim.Native.Nat.{ℕ, zero, suc}
 use lib.Dec.{ltb, eqb}
 use lib.ListN.{length}
+use Rattle.action.specs.Openings.{fixedFields}
 use Rattle.answer.specs.Checks.{Outcome, refused, accepted, pick, _⇒_, judged, andThen}
+use Rattle.answer.specs.Faults.{Placed, placedAt}
 use Rattle.answer.specs.declared.Refusal.{Refusal}
-use Rattle.walk.specs.Elements.{Elements, end, cutHeader, cutContents, more, elementsIn}
+use Rattle.walk.specs.Elements.{Elements, end, cutHeader, cutContents, more, elementsIn, pastElement}
 use Rattle.walk.specs.Required.{required}
 
 -- what a list of such elements goes by
@@ -43,16 +45,16 @@ module _ {A : Type 0} (s : Sort A) where
       (λ e. andThen (s .means (e .contents))
       (λ a. judged (repeats a before ⇒ Refusal.Repeated ∷ []) a))
 
-  -- the records in the run, after those that came before: where there is none yet, one has to come
-  unfoldable pub listed : Elements → List A → Outcome (List A)
-  listed end before = pick (eqb (length before) 0) (andThen (nextIn end before) (λ a. accepted (a ∷ []))) (accepted before)
-  listed cutHeader before = andThen (nextIn cutHeader before) (λ a. accepted (before ++ (a ∷ [])))
-  listed (cutContents id) before = andThen (nextIn (cutContents id) before) (λ a. accepted (before ++ (a ∷ [])))
-  listed (more id c es) before = andThen (nextIn (more id c es) before) (λ a. listed es (before ++ (a ∷ [])))
+  -- the records in the run, n octets before it, after those that came before: where there is none yet, one has to come
+  unfoldable pub listed : ℕ → Elements → List A → Placed (List A)
+  listed n end before = pick (eqb (length before) 0) (andThen (placedAt n (nextIn end before)) (λ a. accepted (a ∷ []))) (accepted before)
+  listed n cutHeader before = andThen (placedAt n (nextIn cutHeader before)) (λ a. accepted (before ++ (a ∷ [])))
+  listed n (cutContents id) before = andThen (placedAt n (nextIn (cutContents id) before)) (λ a. accepted (before ++ (a ∷ [])))
+  listed n (more id c es) before = andThen (placedAt n (nextIn (more id c es) before)) (λ a. listed (pastElement n c) es (before ++ (a ∷ [])))
 
-  -- the records in a run
-  unfoldable pub measurementsIn : List ℕ → Outcome (List A)
-  measurementsIn run = listed (elementsIn run) []
+  -- the records in the run after a body's fixed fields
+  unfoldable pub measurementsIn : List ℕ → Placed (List A)
+  measurementsIn run = listed fixedFields (elementsIn run) []
 
   -- no reserved bit is set in any of the elements
   unfoldable pub allClear : Elements → Bool

@@ -5,10 +5,11 @@ use mathlib.Core.List.{List}
 use Prim.Native.Nat.{ℕ, zero, suc, _+_}
 use lib.ListN.{length, drop}
 use Rattle.action.specs.Openings.{fixedFields}
-use Rattle.answer.specs.Checks.{Outcome, refused, accepted}
-use Rattle.answer.specs.declared.Answer.{Answer}
-use Rattle.answer.specs.declared.Refusal.{Refusal}
-use Rattle.walk.specs.Elements.{Elements, end, cutHeader, cutContents, more, elementsIn}
+use Rattle.answer.specs.Checks.{refused, accepted}
+use Rattle.answer.specs.Faults.{Placed}
+use Rattle.answer.specs.declared.Fault.{Fault}
+use Rattle.answer.specs.declared.Verdict.{Verdict}
+use Rattle.walk.specs.Elements.{Elements, end, cutHeader, cutContents, more, elementsIn, pastElement}
 use Rattle.measurement_body.specs.Lists.{Sort, used, measurementsIn, allClear, allInterpreted}
 use Rattle.measurement_body.specs.declared.surveying.Place.{Place}
 use Rattle.measurement_body.specs.declared.surveying.Surveyed.{Surveyed}
@@ -18,22 +19,22 @@ unfoldable pub placeAfter : ℕ → ℕ → Elements → Place
 placeAfter before i end = Place.Absent
 placeAfter before i cutHeader = Place.Absent
 placeAfter before i (cutContents id) = Place.Absent
-placeAfter before zero (more id c es) = Place.Contents (before + 2) (before + 2 + length c)
-placeAfter before (suc i) (more id c es) = placeAfter (before + 2 + length c) i es
+placeAfter before zero (more id c es) = Place.Contents (before + 2) (pastElement before c)
+placeAfter before (suc i) (more id c es) = placeAfter (pastElement before c) i es
 
 -- where they lie in a body
 abbrev pub placeIn : ℕ → List ℕ → Place
 placeIn i body = placeAfter fixedFields i (elementsIn (drop fixedFields body))
 
-abbrev pub notSurveyed : Refusal → Surveyed
-notSurveyed r = record { answer = Answer.Refused r; count = 0; place = Place.Absent; hit = false; plain = false }
+abbrev pub notSurveyed : Fault → Surveyed
+notSurveyed x = record { verdict = Verdict.Refused x; count = 0; place = Place.Absent; hit = false; plain = false }
 
 module _ {A : Type 0} (s : Sort A) (index token : ℕ) (body : List ℕ) where
-  abbrev pub surveyedAs : Outcome (List A) → Surveyed
-  surveyedAs (refused r) = notSurveyed r
+  abbrev pub surveyedAs : Placed (List A) → Surveyed
+  surveyedAs (refused x) = notSurveyed x
   surveyedAs (accepted xs) =
       record {
-        answer = Answer.Accepted;
+        verdict = Verdict.Accepted;
         count = length xs;
         place = placeIn index body;
         hit = used s token xs;

@@ -3,14 +3,16 @@ ghost use mathlib.Core.Bool.{_&&_};
 ghost use mathlib.Core.Path.{_≡_};
 ghost use lib.Dec.{eqb};
 ghost use Rattle.answer.specs.Checks.{pick};
+ghost use Rattle.answer.specs.Faults.{faultAt};
 ghost use Rattle.measurement_body.specs.Kinds.{sortOf};
 ghost use Rattle.measurement_body.specs.Surveys.{notSurveyed, surveyed};
 ghost use Rattle.measurement_body.specs.declared.surveying.Place.{Place};
 use crate::judging;
 use crate::judging::Judged;
 use crate::kinds::Kind;
-use answer::Answer;
+use answer::Fault;
 use answer::Refusal;
+use answer::Verdict;
 use walk::Required;
 
 // Where the contents of an element lie in the body.
@@ -21,7 +23,7 @@ pub enum Place {
 
 // What one walk finds out.
 pub struct Surveyed {
-    pub answer: Answer,
+    pub verdict: Verdict,
     // how many elements there are
     pub count: usize,
     // the one at the index that was asked for
@@ -32,12 +34,13 @@ pub struct Surveyed {
     pub plain: bool,
 }
 
-// The refusal of a survey, with everything else at one fixed value.
-fn refused(refusal: Refusal) -> Surveyed
-    ensures { λ r. ⌜ r ≡ notSurveyed refusal ⌝ }
+// The refusal of a survey at an octet of the body, which has so many before it, with everything else at one fixed value.
+fn refused(refusal: Refusal, at: usize) -> Surveyed
+    ensures { λ r. ⌜ r ≡ notSurveyed (faultAt at refusal) ⌝ }
 {
+    let fault = Fault::at(refusal, at);
     Surveyed {
-        answer: Answer::Refused(refusal),
+        verdict: Verdict::Refused(fault),
         count: 0,
         place: Place::Absent,
         hit: false,
@@ -80,12 +83,12 @@ pub fn survey(body: &[u8], kind: Kind, index: usize, token: u8) -> Surveyed
     while more {
         match walk::required_at(body, at, id) {
             Required::Refused(refusal) => {
-                return refused(refusal);
+                return refused(refusal, at);
             }
             Required::Contents { start, end } => {
                 match judging::judge(kind, &body[start..end]) {
                     Judged::Refused(refusal) => {
-                        return refused(refusal);
+                        return refused(refusal, at);
                     }
                     Judged::Is {
                         token: met,
@@ -93,7 +96,7 @@ pub fn survey(body: &[u8], kind: Kind, index: usize, token: u8) -> Surveyed
                     } => {
                         let mark = met as usize;
                         if both(once, marks[mark]) {
-                            return refused(Refusal::Repeated);
+                            return refused(Refusal::Repeated, at);
                         }
                         marks[mark] = true;
                         place = keep(place, count, index, start, end);
@@ -109,7 +112,7 @@ pub fn survey(body: &[u8], kind: Kind, index: usize, token: u8) -> Surveyed
     let mark = token as usize;
     let hit = marks[mark];
     Surveyed {
-        answer: Answer::Accepted,
+        verdict: Verdict::Accepted,
         count,
         place,
         hit,

@@ -5,7 +5,7 @@ use mathlib.Core.List.{List, [], _∷_}
 use Prim.Native.Nat.{ℕ}
 use lib.ListN.{length}
 use lib.Dec.{eqb}
-use Rattle.answer.specs.Checks.{Outcome, accepted, _⇒_, judged}
+use Rattle.answer.specs.Checks.{Result, Outcome, accepted, _⇒_, judged}
 use Rattle.answer.specs.declared.Refusal.{Refusal}
 use Rattle.octets.specs.Numbers.{Octets}
 
@@ -23,7 +23,7 @@ element id contents = id ∷ length contents ∷ contents
 -- Demand 2 for one element. `means` is what its contents say, `contents` are a record's octets, `may` says which records may be
 -- written, `Fits` that a record's fields fit their types, `interpreted` that it holds no uninterpreted contents, and `clear`
 -- that no reserved bit is set.
-pub record RoundTrip {A : Type 0} (means : List ℕ → Outcome A) (contents : A → List ℕ) (may : A → Bool) (Fits : A → Type 0)
+pub record RoundTrip {R A : Type 0} (means : List ℕ → Result R A) (contents : A → List ℕ) (may : A → Bool) (Fits : A → Type 0)
     (interpreted : A → Bool) (clear : List ℕ → Bool) : Type 0 where
   -- a record that may be written reads back the same
   pub there : (a : A) → Fits a → may a ≡ true → means (contents a) ≡ accepted a

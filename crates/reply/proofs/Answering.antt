@@ -19,61 +19,85 @@ use Rattle.measurement_element.specs.declared.measurement_request.Reading as Re
 use Rattle.octets.specs.Writing.{wrote, left, Written}
 use Rattle.octets.specs.declared.writing.Wrote.{Wrote}
 use Rattle.octets.proofs.Storing.{not-answer, left-not}
-use Rattle.reply.specs.CodeTerms.Asked.{requestReading, dueOf}
-use Rattle.reply.specs.Replies.{tpcAnswer, measurementAnswer, leftBy, Replied}
+use Rattle.reply.specs.CodeTerms.Asked.{requestReading, requestDue, dueOf}
+use Rattle.reply.specs.Due.{Owed, asks, breaks}
+use Rattle.reply.specs.Replies.{owed, tpcAnswer, measurementAnswer, leftBy, Replied}
 use Rattle.reply.specs.declared.due.Due.{Due}
 use Rattle.measured_report.specs.declared.Readings.{Readings}
 
 apart : {A : Type 0} → _≡_ {A = ℕ} 0 1 → A
 apart e = absurd (omega arith)
 
--- ---- the body after what is due
+-- ---- what is owed, by what is due
 
 module _ (i : ℕ) where
-  pub tpc-due : (o : Outcome Body) (token : ℕ) → Due.Tpc token ≡ dueOf i o → o ≡ accepted (tpcRequest token)
+  tpc-body : (b : Body) (token : ℕ) → Due.Tpc token ≡ requestDue i b → b ≡ tpcRequest token
+  tpc-body (requests t rs) token e = apart cc
+  tpc-body (reports t rs) token e = apart cc
+  tpc-body (tpcRequest t) token e = ap tpcRequest (let same : t ≡ token = cc in same)
+  tpc-body (tpcReport t r) token e = apart cc
+  tpc-body (switch w) token e = apart cc
+
+  pub tpc-due : (o : Outcome Owed) (token : ℕ) → Due.Tpc token ≡ dueOf i o → o ≡ accepted (asks (tpcRequest token))
   tpc-due (refused r) token e = apart cc
-  tpc-due (accepted (requests t rs)) token e = apart cc
-  tpc-due (accepted (reports t rs)) token e = apart cc
-  tpc-due (accepted (tpcRequest t)) token e = ap (λ (n : ℕ). accepted (tpcRequest n)) (let same : t ≡ token = cc in same)
-  tpc-due (accepted (tpcReport t r)) token e = apart cc
-  tpc-due (accepted (switch w)) token e = apart cc
+  tpc-due (accepted (asks b)) token e = ap (λ (x : Body). accepted (asks x)) (tpc-body b token e)
+  tpc-due (accepted (breaks b)) token e = apart cc
 
   read-told : {x : RequestReading.Reading} (o : Outcome Request) → x ≡ requestReading o → requestTold x ≡ o
   read-told (refused r) e = ap requestTold e
   read-told (accepted q) e = ap requestTold e
 
   -- a measurement request, with its elements and the one at the index
-  pub measurement-due : (o : Outcome Body) (token : ℕ) (x : RequestReading.Reading) → Due.Measurement token x ≡ dueOf i o
-      → (rs : List Request) × (o ≡ accepted (requests token rs)) × (requestTold x ≡ nth i rs)
-  measurement-due (refused r) token x e = apart cc
-  measurement-due (accepted (requests t rs)) token x e =
+  measurement-body : (b : Body) (token : ℕ) (x : RequestReading.Reading) → Due.Measurement token x ≡ requestDue i b
+      → (rs : List Request) × (b ≡ requests token rs) × (requestTold x ≡ nth i rs)
+  measurement-body (requests t rs) token x e =
       let same : x ≡ requestReading (nth i rs) = cc in
-      (rs, ap (λ (n : ℕ). accepted (requests n rs)) (let k : t ≡ token = cc in k), read-told (nth i rs) same)
-  measurement-due (accepted (reports t rs)) token x e = apart cc
-  measurement-due (accepted (tpcRequest t)) token x e = apart cc
-  measurement-due (accepted (tpcReport t r)) token x e = apart cc
-  measurement-due (accepted (switch w)) token x e = apart cc
+      (rs, ap (λ (n : ℕ). requests n rs) (let k : t ≡ token = cc in k), read-told (nth i rs) same)
+  measurement-body (reports t rs) token x e = apart cc
+  measurement-body (tpcRequest t) token x e = apart cc
+  measurement-body (tpcReport t r) token x e = apart cc
+  measurement-body (switch w) token x e = apart cc
+
+  pub measurement-due : (o : Outcome Owed) (token : ℕ) (x : RequestReading.Reading) → Due.Measurement token x ≡ dueOf i o
+      → (rs : List Request) × (o ≡ accepted (asks (requests token rs))) × (requestTold x ≡ nth i rs)
+  measurement-due (refused r) token x e = apart cc
+  measurement-due (accepted (asks b)) token x e =
+      let p = measurement-body b token x e in
+      (p .0, ap (λ (y : Body). accepted (asks y)) (p .1), p .2)
+  measurement-due (accepted (breaks b)) token x e = apart cc
+
+  pub broken-due : (o : Outcome Owed) → Due.Broken ≡ dueOf i o → (body : List ℕ) × (o ≡ accepted (breaks body))
+  broken-due (refused r) e = apart cc
+  broken-due (accepted (asks (requests t rs))) e = apart cc
+  broken-due (accepted (asks (reports t rs))) e = apart cc
+  broken-due (accepted (asks (tpcRequest t))) e = apart cc
+  broken-due (accepted (asks (tpcReport t r))) e = apart cc
+  broken-due (accepted (asks (switch w))) e = apart cc
+  broken-due (accepted (breaks body)) e = (body, refl)
 
 same-refusal : {q r : Refusal} → Due.Refused q ≡ Due.Refused r → q ≡ r
 same-refusal e = cc
 
 -- where nothing is due, both replies say so
 module _ (own ap' : List ℕ) (q : Refusal) where
-  pub no-tpc : (report : TpcReport) (o : Outcome Body) → Due.Refused q ≡ dueOf 0 o → refused q ≡ andThen o (tpcAnswer own ap' report)
+  pub no-tpc : (report : TpcReport) (o : Outcome Owed) → Due.Refused q ≡ dueOf 0 o → refused q ≡ andThen o (owed own ap' (tpcAnswer own ap' report))
   no-tpc report (refused r) e = ap refused (same-refusal e)
-  no-tpc report (accepted (requests t rs)) e = apart cc
-  no-tpc report (accepted (reports t rs)) e = ap refused (same-refusal e)
-  no-tpc report (accepted (tpcRequest t)) e = apart cc
-  no-tpc report (accepted (tpcReport t r)) e = ap refused (same-refusal e)
-  no-tpc report (accepted (switch w)) e = ap refused (same-refusal e)
+  no-tpc report (accepted (asks (requests t rs))) e = apart cc
+  no-tpc report (accepted (asks (reports t rs))) e = ap refused (same-refusal e)
+  no-tpc report (accepted (asks (tpcRequest t))) e = apart cc
+  no-tpc report (accepted (asks (tpcReport t r))) e = ap refused (same-refusal e)
+  no-tpc report (accepted (asks (switch w))) e = ap refused (same-refusal e)
+  no-tpc report (accepted (breaks b)) e = apart cc
 
-  pub no-measurement : (clock index : ℕ) (readings : Readings) (o : Outcome Body) → Due.Refused q ≡ dueOf index o → refused q ≡ andThen o (measurementAnswer own ap' clock index readings)
+  pub no-measurement : (clock index : ℕ) (readings : Readings) (o : Outcome Owed) → Due.Refused q ≡ dueOf index o
+      → refused q ≡ andThen o (owed own ap' (measurementAnswer own ap' clock index readings))
   no-measurement clock index readings (refused r) e = ap refused (same-refusal e)
-  no-measurement clock index readings (accepted (requests t rs)) e = apart cc
-  no-measurement clock index readings (accepted (reports t rs)) e = ap refused (same-refusal e)
-  no-measurement clock index readings (accepted (tpcRequest t)) e = apart cc
-  no-measurement clock index readings (accepted (tpcReport t r)) e = ap refused (same-refusal e)
-  no-measurement clock index readings (accepted (switch w)) e = ap refused (same-refusal e)
+  no-measurement clock index readings (accepted (asks (requests t rs))) e = apart cc
+  no-measurement clock index readings (accepted (asks (reports t rs))) e = ap refused (same-refusal e)
+  no-measurement clock index readings (accepted (asks (tpcRequest t))) e = apart cc
+  no-measurement clock index readings (accepted (asks (tpcReport t r))) e = ap refused (same-refusal e)
+  no-measurement clock index readings (accepted (asks (switch w))) e = ap refused (same-refusal e)
+  no-measurement clock index readings (accepted (breaks b)) e = apart cc
 
 -- ---- the answer, and the buffer
 

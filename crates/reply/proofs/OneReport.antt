@@ -19,8 +19,11 @@ use Rattle.measurement_body.specs.Reports.{reportSort}
 use Rattle.octets.specs.Writing.{wroteTold, wrote, left, Written}
 use Rattle.octets.specs.declared.writing.Wrote.{Wrote}
 use Rattle.octets.proofs.Overwriting.{written-as}
-use Rattle.reply.specs.CodeTerms.Asked.{longestReplyBody}
 use Rattle.octets.proofs.Storing.{not-answer, room-answer, front-left, filled-front}
+
+-- how many octets such a body has at most: the fixed fields, and one element 39
+abbrev pub longestReplyBody : ℕ
+longestReplyBody = 27
 
 and-true : (b : Bool) → (b && true) ≡ b
 and-true true = refl

@@ -1,4 +1,4 @@
--- The two replies (01, "Replies"), in 01's order: header (1 to 4), 18, 16, 13.
+-- The two replies (01, "Replies"), in 01's order: header (1 to 4), 18, 16, 13. Either gives the error return of a broken body (02, One).
 use mathlib.Core.Bool.{true, not}
 use mathlib.Core.List.{List, [], _∷_}
 use mathlib.Core.Path.{_≡_}
@@ -14,14 +14,19 @@ use Rattle.measurement_body.specs.Lists.{nth}
 use Rattle.measurement_body.specs.Reports.{reportSort}
 use Rattle.octets.specs.Writing.{wroteTold, wrote, left}
 use Rattle.octets.specs.declared.writing.Wrote.{Wrote}
-use Rattle.reply.specs.Due.{dueMeans}
-use Rattle.reply.specs.Frames.{replyFrame}
+use Rattle.reply.specs.Due.{Owed, asks, breaks, dueMeans}
+use Rattle.reply.specs.Frames.{replyFrame, errorReturn}
 use Rattle.measured_report.specs.Reports.{reportFor}
 use Rattle.measured_report.specs.declared.Readings.{Readings}
 
 -- ---- the octets of a reply, or the refusal
 
 module _ (own ap : List ℕ) where
+  -- a request is answered, and a broken body sent back
+  abbrev pub owed : (Body → Outcome (List ℕ)) → Owed → Outcome (List ℕ)
+  owed answers (asks body) = answers body
+  owed answers (breaks body) = accepted (replyFrame own ap (errorReturn body))
+
   -- a TPC Request is answered by a TPC Report with its token; what is no request is due none
   abbrev pub tpcAnswer : TpcReport → Body → Outcome (List ℕ)
   tpcAnswer report (requests token rs) = refused Refusal.Impossible
@@ -31,7 +36,7 @@ module _ (own ap : List ℕ) where
   tpcAnswer report (switch w) = refused Refusal.NoReplyDue
 
   unfoldable pub tpcReply : TpcReport → List ℕ → Outcome (List ℕ)
-  tpcReply report f = andThen (dueMeans own ap f) (tpcAnswer report)
+  tpcReply report f = andThen (dueMeans own ap f) (owed (tpcAnswer report))
 
   -- one frame for one element, with the request's dialog token; impossible readings are 16
   abbrev pub measurementAnswer : ℕ → ℕ → Readings → Body → Outcome (List ℕ)
@@ -44,7 +49,7 @@ module _ (own ap : List ℕ) where
   measurementAnswer clock index readings (switch w) = refused Refusal.NoReplyDue
 
   unfoldable pub measurementReply : ℕ → ℕ → Readings → List ℕ → Outcome (List ℕ)
-  measurementReply clock index readings f = andThen (dueMeans own ap f) (measurementAnswer clock index readings)
+  measurementReply clock index readings f = andThen (dueMeans own ap f) (owed (measurementAnswer clock index readings))
 
 -- ---- the answer, and every byte of the buffer
 

@@ -6,11 +6,12 @@ ghost use Prim.Native.Nat.{_≤_};
 ghost use lib.ListN.{length};
 ghost use Rattle.single_body.specs.Singles.{tpcReportBody};
 ghost use Rattle.measurement_element.specs.MeasurementReport.{reportMay};
-ghost use Rattle.measurement_body.specs.Bodies.{bodyOctets};
+ghost use Rattle.measurement_body.specs.Bodies.{longestBody, bodyOctets};
 ghost use Rattle.measurement_body.specs.Reports.{reportSort};
 ghost use Rattle.octets.specs.Writing.{Written};
-ghost use Rattle.reply.specs.CodeTerms.Asked.{longestReplyBody};
-ghost use Rattle.reply.specs.Frames.{replyHead, replyFrame};
+ghost use Rattle.reply.specs.Due.{hasCategory};
+ghost use Rattle.reply.specs.Frames.{replyHead, replyFrame, errorReturn};
+use action::CATEGORY;
 use answer::Refusal;
 use element::tpc_report::TpcReport;
 use measurement_element::measurement_report::Report;
@@ -55,7 +56,7 @@ fn head(own: [u8; 6], ap: [u8; 6]) -> [u8; header::LENGTH]
 
 // Refuses a buffer that is too short (13) before anything is put, so that no half frame is ever left.
 fn put_frame(own: [u8; 6], ap: [u8; 6], body: &[u8], buffer: &mut [u8]) -> Wrote
-    requires { ⌜ length (now body) ≤ longestReplyBody ⌝ }
+    requires { ⌜ length (now body) ≤ longestBody ⌝ }
     ensures { λ r. ⌜ Written true (replyFrame own ap (now (body .entry))) 0 (now (buffer .entry)) r (now (buffer .exit)) ⌝ }
 {
     let size = header::LENGTH + body.len();
@@ -66,6 +67,22 @@ fn put_frame(own: [u8; 6], ap: [u8; 6], body: &[u8], buffer: &mut [u8]) -> Wrote
     octets::put(true, &head, buffer, 0);
     octets::put(true, body, buffer, header::LENGTH);
     Wrote::Length(size)
+}
+
+// A broken body on its way back (document 02, One): straight from the frame into the buffer, and there the category's top bit is set.
+pub fn put_return(own: [u8; 6], ap: [u8; 6], body: &[u8], buffer: &mut [u8]) -> Wrote
+    requires { ⌜ length (now body) ≤ longestBody ⌝ }
+    requires { ⌜ hasCategory (now body) ≡ true ⌝ }
+    ensures { λ r. ⌜ Written true (replyFrame own ap (errorReturn (now (body .entry)))) 0 (now (buffer .entry)) r (now (buffer .exit)) ⌝ }
+{
+    match put_frame(own, ap, body, buffer) {
+        Wrote::Refused(refusal) => Wrote::Refused(refusal),
+        Wrote::Length(count) => {
+            let category = body[CATEGORY];
+            buffer[header::LENGTH + CATEGORY] = category + 128;
+            Wrote::Length(count)
+        }
+    }
 }
 
 // A TPC Report frame.

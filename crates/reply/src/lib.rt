@@ -1,5 +1,5 @@
-// Replies (document 01, "Replies"): what a station owes for a TPC Request and for an element of a Measurement Request, put into a lent
-// buffer as a whole frame. The station's own record takes no part but for its address, its AP and its clock.
+// Replies (document 01, "Replies"; 02, One): what a station owes for a TPC Request and for an element of a Measurement Request, put into a lent
+// buffer as a whole frame. An action frame with a broken body gets that body back from either call, whatever it was to be. The station's own record takes no part but for its address, its AP and its clock.
 mod due;
 mod framing;
 mod reporting;
@@ -22,8 +22,9 @@ pub fn to_tpc_request(
 ) -> Wrote
     ensures { λ r. ⌜ Replied (tpcReply own ap report (now (frame .entry))) (now (buffer .entry)) r (now (buffer .exit)) ⌝ }
 {
-    match due::request_of(frame, own, ap, 0) {
+    match due::due_to(frame, own, ap, 0) {
         Due::Refused(refusal) => Wrote::Refused(refusal),
+        Due::Broken => framing::put_return(own, ap, header::body(frame), buffer),
         Due::Measurement {
             token: _,
             request: _,
@@ -44,8 +45,9 @@ pub fn to_measurement_request(
 ) -> Wrote
     ensures { λ r. ⌜ Replied (measurementReply own ap clock index readings (now (frame .entry))) (now (buffer .entry)) r (now (buffer .exit)) ⌝ }
 {
-    match due::request_of(frame, own, ap, index) {
+    match due::due_to(frame, own, ap, index) {
         Due::Refused(refusal) => Wrote::Refused(refusal),
+        Due::Broken => framing::put_return(own, ap, header::body(frame), buffer),
         Due::Tpc { token: _ } => Wrote::Refused(Refusal::Impossible),
         Due::Measurement { token, request } => {
             let owed = reporting::report_on(request, clock, readings);

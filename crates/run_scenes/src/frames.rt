@@ -1,9 +1,11 @@
 // Frames as octets: handed to a station, or read.
 ghost use Prim.Native.Nat.{_≤_};
 ghost use Rattle.station.specs.Validity.{Valid};
-use crate::calls;
+use crate::faults;
 use crate::received;
+use answer::Verdict;
 use scene::line;
+use scene::say;
 use station::Station;
 
 // How a frame begins, by its type and subtype.
@@ -50,7 +52,13 @@ pub fn take(station: Station, frame: [u8; LONGEST], length: usize) -> Station
     requires { ⌜ length ≤ 2400 ⌝ }
     ensures { λ r. ⌜ Valid r ⌝ }
 {
-    calls::told(station.take(&frame[0..length]), true)
+    let taken = station.take(&frame[0..length]);
+    let verdict = taken.verdict;
+    match verdict {
+        Verdict::Accepted => say::number(0),
+        Verdict::Refused(fault) => faults::show(fault),
+    }
+    taken.station
 }
 
 pub fn read(frame: [u8; LONGEST], length: usize)

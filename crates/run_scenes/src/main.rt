@@ -29,6 +29,7 @@
 // interval of a scene's first station. A scene more needs no proof.
 mod after;
 mod calls;
+mod faults;
 mod frames;
 mod received;
 mod replies;

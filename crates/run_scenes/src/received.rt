@@ -2,6 +2,7 @@
 use crate::AP;
 use crate::INTERVAL;
 use crate::OWN;
+use crate::faults;
 use frame::Frame;
 use frame::Reading;
 use scene::fields;
@@ -40,12 +41,12 @@ fn kind(f: Frame) {
     }
 }
 
-// What the reader makes of a frame, by the scenes' station: the answer's number, then the frame.
+// What the reader makes of a frame, by the scenes' station: the answer's number, then the frame, or where it broke.
 pub fn show(frame: &[u8]) {
     let received = frame::read(frame, OWN, AP, INTERVAL);
     let reading = received.reading;
     match reading {
-        Reading::Refused(refusal) => say::octet(refusal.number()),
+        Reading::Refused(fault) => faults::show(fault),
         Reading::Is(f) => {
             say::number(0);
             if received.broadcast {

@@ -1,5 +1,5 @@
-// Replies as they are written: the answer's number, of a reply its length and its octets, and whether the buffer is as it was after the reply, or whole
-// where there is none.
+// Replies as they are written: the answer's number, of a reply its length and its octets, of a long one the first and whether zeros follow, and whether
+// the buffer is as it was after the reply, or whole where there is none.
 ghost use Prim.Native.Nat.{_≤_};
 use crate::AP;
 use crate::OWN;
@@ -13,6 +13,12 @@ use scene::say;
 
 // Every buffer is lent full of this octet, so that one that is changed shows.
 const BLANK: u8 = 170;
+
+// A buffer takes a reply as long as the longest frame.
+const ROOM: usize = 2400;
+
+// How many octets of a reply are told.
+const TOLD: usize = 96;
 
 fn short(n: u64) -> u32 {
     (n % 4294967296) as u32
@@ -43,17 +49,29 @@ fn readings(n: [u64; 16]) -> Readings {
 }
 
 // The first octets, and whether the others are as they were.
-fn octets(buffer: &[u8; 64], count: usize) {
+fn octets(buffer: &[u8; ROOM], count: usize) {
+    let mut zeros = true;
     let mut kept = true;
     let mut i = 0;
-    while i < 64 {
+    while i < ROOM {
         let octet = buffer[i];
         if i < count {
-            say::octet(octet);
+            if i < TOLD {
+                say::octet(octet);
+            } else if octet != 0 {
+                zeros = false;
+            }
         } else if octet != BLANK {
             kept = false;
         }
         i += 1;
+    }
+    if TOLD < count {
+        if zeros {
+            say::text(b" zeros");
+        } else {
+            say::text(b" others");
+        }
     }
     if kept {
         say::text(b" kept");
@@ -62,7 +80,7 @@ fn octets(buffer: &[u8; 64], count: usize) {
     }
 }
 
-fn tell(wrote: Wrote, buffer: &[u8; 64]) {
+fn tell(wrote: Wrote, buffer: &[u8; ROOM]) {
     match wrote {
         Wrote::Refused(refusal) => {
             say::octet(refusal.number());
@@ -88,8 +106,8 @@ fn size(n: [u64; 16], count: usize, from: usize) -> usize
 // A TPC Report, in which power and margin are octets.
 pub fn tpc(n: [u64; 16], octets: [u8; line::ROOM], count: usize) {
     let mut frame = [0u8; 2496];
-    let mut buffer = [BLANK; 64];
-    let room = (n[1] % 65) as usize;
+    let mut buffer = [BLANK; ROOM];
+    let room = (n[1] % 2401) as usize;
     let power = octets::to_signed(octets[3]);
     let margin = octets::to_signed(octets[4]);
     let length = size(n, count, 5);
@@ -101,8 +119,8 @@ pub fn tpc(n: [u64; 16], octets: [u8; line::ROOM], count: usize) {
 
 pub fn measurement(n: [u64; 16], octets: [u8; line::ROOM], count: usize) {
     let mut frame = [0u8; 2496];
-    let mut buffer = [BLANK; 64];
-    let room = (n[1] % 65) as usize;
+    let mut buffer = [BLANK; ROOM];
+    let room = (n[1] % 2401) as usize;
     let readings = readings(n);
     let length = size(n, count, 15);
     octets::put(true, &octets[15..], &mut frame, 0);

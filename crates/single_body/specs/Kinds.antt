@@ -3,6 +3,7 @@ use Prim.Native.Nat.{ℕ}
 use mathlib.Core.List.{List}
 use Rattle.action.specs.Openings.{fixedFields, switchFixedFields}
 use Rattle.answer.specs.Checks.{Outcome, refused, accepted, andThen}
+use Rattle.answer.specs.Faults.{Placed}
 use Rattle.element.specs.ChannelSwitch.{switchMeans}
 use Rattle.element.specs.TpcReport.{tpcReportMeans}
 use Rattle.element.specs.TpcRequest.{tpcRequestMeans}
@@ -28,6 +29,6 @@ contentsMean Kind.TpcReport c = andThen (tpcReportMeans c) (λ t. accepted (Sing
 contentsMean Kind.ChannelSwitch c = andThen (switchMeans c) (λ s. accepted (Single.ChannelSwitch s))
 
 -- the outcome that each case of the answer stands for
-abbrev pub singleTold : Reading → Outcome Single
-singleTold (Reading.Refused r) = refused r
+abbrev pub singleTold : Reading → Placed Single
+singleTold (Reading.Refused x) = refused x
 singleTold (Reading.Is s) = accepted s

@@ -1,19 +1,23 @@
--- Bodies of one element (01, "Octets": actions 2, 3 and 4 have one 34, 35 or 37). The element that has to be there (7, 6), its length and
--- value (8, 9), and left-over octets last (7).
+-- Bodies of one element (01, "Octets": actions 2, 3 and 4 have one 34, 35 or 37). The element that has to be there (7, 6, 21), its length
+-- and value (8, 9), and left-over octets last (22). The place of the element's fault is its ID octet (02, One).
 use mathlib.Core.List.{List, [], _∷_, _++_}
 use Prim.Native.Nat.{ℕ}
 use Rattle.answer.specs.Checks.{Outcome, andThen}
+use Rattle.answer.specs.Faults.{Placed, placedAt}
 use Rattle.element.specs.ChannelSwitch.{switchOctets}
 use Rattle.element.specs.TpcReport.{tpcReportOctets}
 use Rattle.element.specs.TpcRequest.{tpcRequestOctets}
 use Rattle.element.specs.declared.channel_switch.ChannelSwitch.{ChannelSwitch}
 use Rattle.element.specs.declared.tpc_report.TpcReport.{TpcReport}
-use Rattle.walk.specs.Elements.{Elements}
+use Rattle.walk.specs.Elements.{Elements, pastElement}
 use Rattle.walk.specs.Required.{required, nothingLeft}
 
--- one element of this ID, what its contents mean, and nothing after it
-unfoldable pub single : {A : Type 0} → ℕ → (List ℕ → Outcome A) → Elements → Outcome A
-single id means es = andThen (required id es) (λ s. andThen (means (s .contents)) (nothingLeft (s .rest)))
+-- one element of this ID with n octets before it, what its contents mean, and nothing after it
+unfoldable pub single : {A : Type 0} → ℕ → ℕ → (List ℕ → Outcome A) → Elements → Placed A
+single n id means es =
+    andThen (placedAt n (required id es))
+    (λ s. andThen (placedAt n (means (s .contents)))
+    (nothingLeft (pastElement n (s .contents)) (s .rest)))
 
 -- ---- written: 0, action, token, element; action 4 has no token
 

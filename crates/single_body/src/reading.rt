@@ -1,11 +1,13 @@
 // The element of a body that has one, of each kind by the same steps: the element that has to be there, what it says, and nothing after it.
 ghost use mathlib.Core.Path.{_≡_};
 ghost use lib.ListN.{drop};
+ghost use Rattle.answer.specs.Faults.{placedAt};
 ghost use Rattle.walk.specs.Elements.{elementsIn};
 ghost use Rattle.single_body.specs.Kinds.{singleTold, contentsMean, idOf, fieldsBefore};
 ghost use Rattle.single_body.specs.Singles.{single};
 use crate::kinds::Kind;
 use crate::kinds::Single;
+use answer::Fault;
 use answer::Refusal;
 use element::channel_switch;
 use element::tpc_report;
@@ -13,25 +15,25 @@ use element::tpc_request;
 use walk::Required;
 
 pub enum Reading {
-    Refused(Refusal),
+    Refused(Fault),
     Is(Single),
 }
 
-// What the contents of the element say.
-fn read_contents(kind: Kind, contents: &[u8]) -> Reading
-    ensures { λ r. ⌜ singleTold r ≡ contentsMean kind (now (contents .entry)) ⌝ }
+// What the contents of the element say. A fault of theirs is the element's, which has `at` octets before it.
+fn read_contents(kind: Kind, contents: &[u8], at: usize) -> Reading
+    ensures { λ r. ⌜ singleTold r ≡ placedAt at (contentsMean kind (now (contents .entry))) ⌝ }
 {
     match kind {
         Kind::TpcRequest => match tpc_request::read(contents) {
-            tpc_request::Reading::Refused(refusal) => Reading::Refused(refusal),
+            tpc_request::Reading::Refused(refusal) => Reading::Refused(Fault::at(refusal, at)),
             tpc_request::Reading::Is => Reading::Is(Single::TpcRequest),
         },
         Kind::TpcReport => match tpc_report::read(contents) {
-            tpc_report::Reading::Refused(refusal) => Reading::Refused(refusal),
+            tpc_report::Reading::Refused(refusal) => Reading::Refused(Fault::at(refusal, at)),
             tpc_report::Reading::Is(report) => Reading::Is(Single::TpcReport(report)),
         },
         Kind::ChannelSwitch => match channel_switch::read(contents) {
-            channel_switch::Reading::Refused(refusal) => Reading::Refused(refusal),
+            channel_switch::Reading::Refused(refusal) => Reading::Refused(Fault::at(refusal, at)),
             channel_switch::Reading::Is(switch) => Reading::Is(Single::ChannelSwitch(switch)),
         },
     }
@@ -39,17 +41,17 @@ fn read_contents(kind: Kind, contents: &[u8]) -> Reading
 
 // The one element of a body, after its fixed fields.
 pub fn read(body: &[u8], kind: Kind) -> Reading
-    ensures { λ r. ⌜ singleTold r ≡ single (idOf kind) (contentsMean kind) (elementsIn (drop (fieldsBefore kind) (now (body .entry)))) ⌝ }
+    ensures { λ r. ⌜ singleTold r ≡ single (fieldsBefore kind) (idOf kind) (contentsMean kind) (elementsIn (drop (fieldsBefore kind) (now (body .entry)))) ⌝ }
 {
     let at = kind.fixed_fields();
     let id = kind.id();
     match walk::required_at(body, at, id) {
-        Required::Refused(refusal) => Reading::Refused(refusal),
-        Required::Contents { start, end } => match read_contents(kind, &body[start..end]) {
-            Reading::Refused(refusal) => Reading::Refused(refusal),
+        Required::Refused(refusal) => Reading::Refused(Fault::at(refusal, at)),
+        Required::Contents { start, end } => match read_contents(kind, &body[start..end], at) {
+            Reading::Refused(fault) => Reading::Refused(fault),
             Reading::Is(said) => {
                 if walk::has_left_over(body, end) {
-                    return Reading::Refused(Refusal::ElementsUnfit);
+                    return Reading::Refused(Fault::at(Refusal::LeftOver, end));
                 }
                 Reading::Is(said)
             }

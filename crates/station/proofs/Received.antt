@@ -4,7 +4,8 @@ use mathlib.Core.Path.{_≡_, refl, ap, _∙_}
 use Prim.Native.Nat.{ℕ}
 use lib.ListN.{take}
 use lib.Seq.{take-at}
-use Rattle.answer.specs.Checks.{Outcome, refused, accepted, andThen}
+use Rattle.answer.specs.Checks.{refused, accepted, andThen}
+use Rattle.answer.specs.Faults.{Placed}
 use Rattle.element.specs.declared.quiet.Quiet.{Quiet}
 use Rattle.frame.specs.Frames.{Sent, frameMeans}
 use Rattle.frame.specs.Laid.{frameTold, frameOf, quietsOf, frameLaid}
@@ -19,7 +20,7 @@ module _ (s : Station) where
   unfolding heardMeans
   heard-as v r e = rw e
 
-  by-outcome : (o : Outcome Sent) → heardMeans s (frameLaid o) ≡ andThen o (λ sent. accepted (heard s (sent .kind)))
+  by-outcome : (o : Placed Sent) → heardMeans s (frameLaid o) ≡ andThen o (λ sent. accepted (heard s (sent .kind)))
   unfolding heardMeans
   by-outcome (refused r) = refl
   by-outcome (accepted x) = ap (λ (qs : List Quiet). accepted (changedBy s (frameOf (x .kind)) qs)) (take-at (quietsOf (x .kind)) _ _ refl)

@@ -1,9 +1,11 @@
--- Taking a frame (01, "The station"): what an accepted one changes.
+-- Taking a frame (01, "The station"): what an accepted one changes. A refused one changes nothing, and says where it broke (02, One).
 use mathlib.Core.List.{List, map}
 use Prim.Native.Nat.{ℕ, _/_}
 use lib.Dec.{eqb}
 use lib.ListN.{take}
-use Rattle.answer.specs.Checks.{Outcome, accepted, pick, andThen}
+use Rattle.answer.specs.Checks.{refused, accepted, pick, andThen}
+use Rattle.answer.specs.Faults.{Placed}
+use Rattle.answer.specs.declared.Verdict.{Verdict}
 use Rattle.beacon.specs.Beacons.{Told, tells}
 use Rattle.beacon.specs.declared.MaybePower.{MaybePower}
 use Rattle.beacon.specs.declared.MaybeSwitch.{MaybeSwitch}
@@ -16,10 +18,10 @@ use Rattle.frame.specs.declared.Received.{Received}
 use Rattle.pending.specs.Waiting.{pendingBy}
 use Rattle.schedule.specs.Schedules.{setBy}
 use Rattle.schedule.specs.declared.Schedule.{Schedule}
-use Rattle.station.specs.Clock.{stepped, switched}
+use Rattle.station.specs.Clock.{switched}
 use Rattle.station.specs.Stations.{withPower, withPending, withSchedules}
 use Rattle.station.specs.declared.Station.{Station}
-use Rattle.station.specs.declared.clock.Stepped.{Stepped}
+use Rattle.station.specs.declared.taking.Taken.{Taken}
 
 -- k, the whole part of t / B
 abbrev pub passed : Station → ℕ
@@ -62,20 +64,25 @@ changedBy s (Frame.TpcRequest token) qs = s
 changedBy s (Frame.TpcReport token t) qs = s
 changedBy s (Frame.ChannelSwitch w) qs = announced s w
 
+-- the verdict on a frame, and the station after it
+abbrev pub taken : Station → Placed Station → Taken
+taken s (refused x) = record { verdict = Verdict.Refused x; station = s }
+taken s (accepted next) = record { verdict = Verdict.Accepted; station = next }
+
 -- what a reader handed out: a refusal stays one, and a count past the slots is that of all of them
-unfoldable pub heardMeans : Station → Received → Outcome Station
+unfoldable pub heardMeans : Station → Received → Placed Station
 heardMeans s v = andThen (frameTold (v .reading)) (λ f. accepted (changedBy s f (take (v .count) (v .quiets))))
 
-abbrev pub heardOf : Station → Received → Stepped
-heardOf s v = stepped s (heardMeans s v)
+abbrev pub heardOf : Station → Received → Taken
+heardOf s v = taken s (heardMeans s v)
 
 -- an accepted frame of each kind
 abbrev pub heard : Station → Kind → Station
 heard s k = changedBy s (frameOf k) (quietsOf k)
 
 -- the octets of a frame, read by the station's own settings
-unfoldable pub takeMeans : Station → List ℕ → Outcome Station
+unfoldable pub takeMeans : Station → List ℕ → Placed Station
 takeMeans s f = andThen (frameMeans (s .own) (s .ap) (s .interval) f) (λ sent. accepted (heard s (sent .kind)))
 
-abbrev pub takeOf : Station → List ℕ → Stepped
-takeOf s f = stepped s (takeMeans s f)
+abbrev pub takeOf : Station → List ℕ → Taken
+takeOf s f = taken s (takeMeans s f)

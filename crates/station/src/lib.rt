@@ -9,6 +9,7 @@ pub use clock::Advanced;
 pub use clock::Stepped;
 pub use clock::advance_clock;
 pub use starting::Started;
+pub use taking::Taken;
 ghost use mathlib.Core.Path.{_≡_};
 ghost use Rattle.answer.specs.Checks.{refused, accepted};
 ghost use Rattle.station.specs.Clock.{stepped, switched};

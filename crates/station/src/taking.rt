@@ -10,7 +10,7 @@ ghost use Rattle.pending.specs.Waiting.{pendingBy};
 ghost use Rattle.station.specs.Taking.{passed, rescheduled, constrained, announced, announcedIf, informed, changedBy, heardOf, takeOf};
 ghost use Rattle.station.specs.Validity.{Valid};
 use crate::Station;
-use crate::Stepped;
+use answer::Verdict;
 use beacon::MaybePower;
 use beacon::MaybeSwitch;
 use beacon::Notice;
@@ -22,6 +22,12 @@ use frame::Reading;
 use frame::Received;
 use pending::Pending;
 use schedule::Schedule;
+
+// The verdict on a frame, and the station after it: the same as before where the frame was refused.
+pub struct Taken {
+    pub verdict: Verdict,
+    pub station: Station,
+}
 
 // So many of the slots, or all of them where there are no more.
 fn at_most_all(count: usize) -> usize
@@ -141,7 +147,7 @@ impl Station {
     }
 
     // What a reader handed out, so that one reading can serve several stations. A count past the slots is that of all of them.
-    pub fn heard(self, received: Received) -> Stepped
+    pub fn heard(self, received: Received) -> Taken
         requires { ⌜ Valid self ⌝ }
         ensures { λ r. ⌜ r ≡ heardOf self received ⌝ }
         ensures kept { λ r. ⌜ (ReceivedAllowed (self .interval) received → Valid (r .station)) ⌝ }
@@ -149,15 +155,21 @@ impl Station {
         let reading = received.reading;
         let quiets = received.quiets;
         match reading {
-            Reading::Refused(refusal) => Stepped::refused(refusal, self),
+            Reading::Refused(fault) => Taken {
+                verdict: Verdict::Refused(fault),
+                station: self,
+            },
             Reading::Is(frame) => {
-                let station = self.changed_by(frame, quiets, received.count);
-                Stepped::accepted(station)
+                let next = self.changed_by(frame, quiets, received.count);
+                Taken {
+                    verdict: Verdict::Accepted,
+                    station: next,
+                }
             }
         }
     }
 
-    pub fn take(self, frame: &[u8]) -> Stepped
+    pub fn take(self, frame: &[u8]) -> Taken
         requires { ⌜ Valid self ⌝ }
         ensures { λ r. ⌜ r ≡ takeOf self (now (frame .entry)) ⌝ }
         ensures kept { λ r. ⌜ Valid (r .station) ⌝ }

@@ -10,9 +10,10 @@ use lib.ListN.{length, take, drop, length-drop}
 use lib.Seq.{length-take-le}
 use Rattle.answer.proofs.Judged as Judged
 use Rattle.answer.specs.Checks.{refused, accepted, pick, checked}
+use Rattle.answer.specs.Faults.{faultAt, Placed}
 use Rattle.answer.specs.declared.Refusal.{Refusal}
 use Rattle.walk.specs.CodeTerms.Required.{between, requiredTold, RequiredWithin}
-use Rattle.walk.specs.Elements.{Elements, end, cutHeader, cutContents, more, elementsAfter, elementsIn}
+use Rattle.walk.specs.Elements.{Elements, end, cutHeader, cutContents, more, elementsAfter, elementsIn, pastElement}
 use Rattle.walk.specs.Required.{Standing, required, nothingLeft}
 use Rattle.walk.specs.declared.Required.{Required}
 use Rattle.walk.proofs.Walking.{at-end, headed}
@@ -49,6 +50,10 @@ pub record Lies (run : List ℕ) (at id start stop : ℕ) : Type 0 where
 pub long : {run : List ℕ} {at id start stop : ℕ} → Lies run at id start stop → length (take (stop - start) (drop start run)) ≡ stop - start
 long {run} {at} {id} {start} {stop} l = length-take-le (stop - start) (drop start run) (simp length-drop (omega (arith, l .ordered, l .inside)))
 
+-- and the next element begins where they end
+pub past : {run : List ℕ} {at id start stop : ℕ} → Lies run at id start stop → pastElement at (take (stop - start) (drop start run)) ≡ stop
+past l = omega (arith, long l, l .begins, l .ordered)
+
 module _ (run : List ℕ) (at id : ℕ) (x : Required) (t : requiredTold run x ≡ required id (elementsIn (drop at run))) where
   pub lies : RequiredWithin at (length run) x → {start stop : ℕ} → x ≡ Required.Contents start stop → Lies run at id start stop
   lies w e =
@@ -60,20 +65,23 @@ module _ (run : List ℕ) (at id : ℕ) (x : Required) (t : requiredTold run x �
 
 -- ---- what is left after it
 
-module _ {A : Type 0} (a : A) where
-  by-size : (t : Bool) (id : ℕ) (c : List ℕ) (es : Elements) → nothingLeft (pick t (more id c es) (cutContents id)) a ≡ refused Refusal.ElementsUnfit
+module _ {A : Type 0} (n : ℕ) (a : A) where
+  abbrev over : Placed A
+  over = refused (faultAt n Refusal.LeftOver)
+
+  by-size : (t : Bool) (id : ℕ) (c : List ℕ) (es : Elements) → nothingLeft n (pick t (more id c es) (cutContents id)) a ≡ over
   by-size true id c es = refl
   by-size false id c es = refl
 
-  left : (os : List ℕ) → 0 < length os → nothingLeft (elementsIn os) a ≡ refused Refusal.ElementsUnfit
+  left : (os : List ℕ) → 0 < length os → nothingLeft n (elementsIn os) a ≡ over
   left [] h = absurd (omega arith)
   left (id ∷ []) h = unfold elementsIn elementsAfter in refl
-  left (id ∷ n ∷ os) h =
-      ap (λ (es : Elements). nothingLeft es a) (headed id n os) ∙ by-size (leb n (length os)) id (take n os) (elementsIn (drop n os))
+  left (id ∷ m ∷ os) h =
+      ap (λ (es : Elements). nothingLeft n es a) (headed id m os) ∙ by-size (leb m (length os)) id (take m os) (elementsIn (drop m os))
 
   -- octets that are left are refused
-  pub left-over : (run : List ℕ) (at : ℕ) → at < length run → nothingLeft (elementsIn (drop at run)) a ≡ refused Refusal.ElementsUnfit
+  pub left-over : (run : List ℕ) (at : ℕ) → at < length run → nothingLeft n (elementsIn (drop at run)) a ≡ over
   left-over run at h = left (drop at run) (simp length-drop (omega arith))
 
-  pub none-left : (run : List ℕ) (at : ℕ) → length run ≤ at → nothingLeft (elementsIn (drop at run)) a ≡ accepted a
-  none-left run at h = ap (λ (es : Elements). nothingLeft es a) (at-end run at h)
+  pub none-left : (run : List ℕ) (at : ℕ) → length run ≤ at → nothingLeft n (elementsIn (drop at run)) a ≡ accepted a
+  none-left run at h = ap (λ (es : Elements). nothingLeft n es a) (at-end run at h)

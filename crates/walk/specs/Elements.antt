@@ -1,7 +1,7 @@
 -- A run of octets as elements, one after the other, and how the run ends (01, "Octets": an element is an ID, a length,
 -- contents).
 use mathlib.Core.List.{List, [], _∷_}
-use Prim.Native.Nat.{ℕ, zero, suc}
+use Prim.Native.Nat.{ℕ, zero, suc, _+_}
 use lib.Dec.{leb}
 use lib.ListN.{length, take}
 use Rattle.answer.specs.Checks.{pick}
@@ -26,3 +26,7 @@ elementsAfter (suc skip) (o ∷ os) = elementsAfter skip os
 
 unfoldable pub elementsIn : List ℕ → Elements
 elementsIn os = elementsAfter 0 os
+
+-- how many octets stand before what follows an element with these contents, n before the element itself: its ID, its length, its contents
+abbrev pub pastElement : ℕ → List ℕ → ℕ
+pastElement n c = n + 2 + length c

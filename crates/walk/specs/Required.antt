@@ -1,10 +1,11 @@
--- The element that has to be there, in an action frame (01, "Answer numbers", "Order": absent (7), header cut (6), wrong element (7),
--- contents cut (6); left-over octets come last (7)).
+-- The element that has to be there, in an action frame (01, "Answer numbers", "Order"; 02, One: absent (7), header cut (6), another
+-- element (21), contents cut (6); left-over octets come last (22)).
 use mathlib.Core.Bool.{not}
 use mathlib.Core.List.{List, [], _∷_}
 use Prim.Native.Nat.{ℕ}
 use lib.Dec.{eqb}
 use Rattle.answer.specs.Checks.{Outcome, refused, accepted, _⇒_, checked, judged}
+use Rattle.answer.specs.Faults.{faultAt, Placed}
 use Rattle.answer.specs.declared.Refusal.{Refusal}
 use Rattle.walk.specs.Elements.{Elements, end, cutHeader, cutContents, more}
 
@@ -15,14 +16,14 @@ pub record Standing : Type 0 where
 
 -- an element of this ID
 unfoldable pub required : ℕ → Elements → Outcome Standing
-required id end = refused Refusal.ElementsUnfit
+required id end = refused Refusal.ElementAbsent
 required id cutHeader = refused Refusal.ElementCut
-required id (cutContents i) = checked (not (eqb i id) ⇒ Refusal.ElementsUnfit ∷ []) (refused Refusal.ElementCut)
-required id (more i c es) = judged (not (eqb i id) ⇒ Refusal.ElementsUnfit ∷ []) (record { contents = c; rest = es })
+required id (cutContents i) = checked (not (eqb i id) ⇒ Refusal.OtherElement ∷ []) (refused Refusal.ElementCut)
+required id (more i c es) = judged (not (eqb i id) ⇒ Refusal.OtherElement ∷ []) (record { contents = c; rest = es })
 
--- nothing is left after it
-abbrev pub nothingLeft : {A : Type 0} → Elements → A → Outcome A
-nothingLeft end a = accepted a
-nothingLeft cutHeader a = refused Refusal.ElementsUnfit
-nothingLeft (cutContents id) a = refused Refusal.ElementsUnfit
-nothingLeft (more id c es) a = refused Refusal.ElementsUnfit
+-- nothing is left after the first n octets: the fault is at the next one
+abbrev pub nothingLeft : {A : Type 0} → ℕ → Elements → A → Placed A
+nothingLeft n end a = accepted a
+nothingLeft n cutHeader a = refused (faultAt n Refusal.LeftOver)
+nothingLeft n (cutContents id) a = refused (faultAt n Refusal.LeftOver)
+nothingLeft n (more id c es) a = refused (faultAt n Refusal.LeftOver)

@@ -55,11 +55,11 @@ pub fn required_at(run: &[u8], at: usize, id: u8) -> Required
     ensures { λ r. ⌜ RequiredWithin at (length (now (run .entry))) r ⌝ }
 {
     match element_at(run, at) {
-        Found::End => Required::Refused(Refusal::ElementsUnfit),
+        Found::End => Required::Refused(Refusal::ElementAbsent),
         Found::CutHeader => Required::Refused(Refusal::ElementCut),
         Found::CutContents(found) => {
             if found != id {
-                return Required::Refused(Refusal::ElementsUnfit);
+                return Required::Refused(Refusal::OtherElement);
             }
             Required::Refused(Refusal::ElementCut)
         }
@@ -69,7 +69,7 @@ pub fn required_at(run: &[u8], at: usize, id: u8) -> Required
             end,
         } => {
             if found != id {
-                return Required::Refused(Refusal::ElementsUnfit);
+                return Required::Refused(Refusal::OtherElement);
             }
             Required::Contents { start, end }
         }

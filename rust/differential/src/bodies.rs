@@ -20,7 +20,7 @@ const SEED: u64 = 0x8021_1000_2003_0003;
 /// Bodies of each sort that are appended from nothing, and single elements
 /// after octets of all sorts.
 const APPENDED: usize = 1_200;
-const BEHIND: usize = 12_000;
+const AFTER_OCTETS: usize = 12_000;
 
 /// Longer than any body.
 const AMPLE: usize = LONGEST_BODY + 60;
@@ -322,7 +322,7 @@ fn measurement_bodies<S: Sort>(count: &mut Count, rng: &mut Rng) {
         at_random::<S>(count, rng);
     }
     long_bodies::<S>(count, rng);
-    for _ in 0..BEHIND {
+    for _ in 0..AFTER_OCTETS {
         after_octets::<S>(count, rng);
     }
 }

@@ -15,6 +15,8 @@ pub const ACTION: u8 = 13;
 pub const HEADER: usize = 24;
 pub const LONGEST: usize = 2336;
 pub const LONGEST_BODY: usize = LONGEST - HEADER;
+/// Where the elements of a beacon or probe response begin.
+pub const NOTICE: usize = HEADER + 12;
 
 /// Octets that mean something somewhere in a frame: element IDs, lengths,
 /// limits. A change to one of them does more than one to any other octet.
@@ -140,6 +142,25 @@ pub fn padding(rng: &mut Rng, length: usize) -> Vec<u8> {
             most => most,
         };
         elements.extend_from_slice(&element(skipped(rng), &rng.octets(contents)));
+    }
+    elements
+}
+
+/// Measurement elements of a type that is not interpreted, so many octets of
+/// them in all (none for fewer than five). The tokens count from 1.
+pub fn measurements(rng: &mut Rng, id: u8, length: usize) -> Vec<u8> {
+    let mut elements = Vec::new();
+    let mut token = 0;
+    while length - elements.len() >= 5 {
+        let left = length - elements.len();
+        // Under five octets over would be no element.
+        let whole = match left.min(257) {
+            most if (1..5).contains(&(left - most)) => most - 5,
+            most => most,
+        };
+        token += 1;
+        let contents = [vec![token, 0, 3], rng.octets(whole - 5)].concat();
+        elements.extend_from_slice(&element(id, &contents));
     }
     elements
 }
@@ -410,7 +431,13 @@ impl Builder<'_> {
     /// Category and action, and the token where there is one.
     fn opening(&mut self, action: u8, token: Option<u8>) -> Vec<u8> {
         let mut frame = self.header(ACTION);
-        frame.push(if self.wrong() { self.rng.octet() } else { 0 });
+        frame.push(if self.wrong() {
+            // From 128 on it is an error return itself.
+            let some = self.rng.octet();
+            self.rng.pick(&[1, 127, 128, 255, some, some])
+        } else {
+            0
+        });
         frame.push(if self.wrong() {
             self.rng.octet()
         } else {

@@ -2,7 +2,8 @@
 //! lists of both sides show whether their stations go the same way.
 
 use crate::builder::{
-    action, element, mutate, notice, quiet, soup, Builder, Stage, ALL_ONES, BEACON, PROBE_RESPONSE,
+    action, element, measurements, mutate, notice, padding, quiet, soup, Builder, Stage, ALL_ONES,
+    BEACON, HEADER, NOTICE, PROBE_RESPONSE,
 };
 use crate::count::{Call, Count};
 use crate::lend::{hex, lend, Left};
@@ -38,6 +39,7 @@ pub fn run(count: &mut Count) {
     blocks(count, &mut rng);
     records(count, &mut rng);
     starts(count);
+    places(count, &mut rng);
     for _ in 0..DENSE {
         dense_evening(count, &mut rng);
     }
@@ -123,6 +125,10 @@ fn tally(count: &mut Count, list: &[u8]) {
         let words: Vec<&str> = line.split(' ').collect();
         let (word, answer) = match words[..] {
             [_, word, answer] => (word, answer.parse().unwrap_or(u8::MAX)),
+            [_, "frame", answer, place] if place.parse::<usize>().is_ok() => {
+                count.note(Call::PlacedLine, answer.parse().unwrap_or(u8::MAX));
+                continue;
+            }
             _ => continue,
         };
         match word {
@@ -336,6 +342,60 @@ fn starts(count: &mut Count) {
             count,
             &sound(&[start(&stage, 200), ask(1), frame, advance(1), ask(1)]),
         );
+    }
+}
+
+/// Frames that break at each place that a frame in a record can have, the
+/// longest record's last octet too: in the line the place follows the number.
+fn places(count: &mut Count, rng: &mut Rng) {
+    let stage = Stage::usual(100);
+    let mut broken = Vec::new();
+    for place in HEADER..ROOM - HEAD {
+        // What stands before it is whole elements: no single octet, and in a
+        // report no fewer than five.
+        if place >= NOTICE && place != NOTICE + 1 {
+            let before = padding(rng, place - NOTICE);
+            for (number, last) in [(6, &[32][..]), (8, &[40, 0])] {
+                let elements = [&before[..], last].concat();
+                broken.push((number, place, notice(&stage, BEACON, &elements)));
+            }
+        }
+        let opening = HEADER + 3;
+        if place == opening || place >= opening + 5 {
+            let before = measurements(rng, 39, place - opening);
+            let body = [&[0, 1, 0][..], &before, &[38, 0]].concat();
+            broken.push((21, place, action(&stage, &body)));
+        }
+    }
+    let mut interval = notice(&stage, BEACON, &[]);
+    interval[HEADER + 8] ^= 1;
+    let nine = element(40, &quiet(1, 0, 1, 0)).repeat(9);
+    broken.extend([
+        (5, HEADER, action(&stage, &[1])),
+        (5, HEADER + 1, action(&stage, &[0, 5])),
+        (7, HEADER + 2, action(&stage, &[0, 4])),
+        (7, HEADER + 3, action(&stage, &[0, 1, 0])),
+        (9, HEADER + 2, action(&stage, &[0, 2, 0])),
+        (10, NOTICE + 3, notice(&stage, BEACON, &[32, 1, 3, 32, 1, 3])),
+        (11, NOTICE + 64, notice(&stage, BEACON, &nine)),
+        (12, HEADER + 8, interval),
+        (22, HEADER + 5, action(&stage, &[0, 2, 7, 34, 0, 0])),
+    ]);
+    let first = sound(&[start(&stage, 36)]);
+    for (number, place, frame) in broken {
+        if frame.len() > ROOM - HEAD {
+            continue;
+        }
+        let capture = [&first[..], &sound(&[record(FRAME, &frame)])].concat();
+        let list = format!("1 start 0\n2 frame {number} {place}\nblocks 2 damaged 0\n");
+        for length in [0, list.len() - 1, list.len() + 3] {
+            in_length(count, &capture, list.as_bytes(), length);
+        }
+        let exact = in_length(count, &capture, list.as_bytes(), list.len());
+        tally(count, exact.written());
+        count.twin_gives(&twin::list(&capture), &list.clone().into_bytes(), || {
+            format!("frame {}", hex(&frame))
+        });
     }
 }
 
@@ -556,9 +616,24 @@ impl<'a> Evening<'a> {
         }
     }
 
+    /// One in eight has a fault, and then must count for nothing.
     fn announcement(&mut self) -> Vec<u8> {
-        let switch = element(37, &self.switch());
-        let mut frame = action(&self.stage, &[&[0, 4][..], &switch].concat());
+        let mut body = [vec![0, 4], element(37, &self.switch())].concat();
+        if self.rng.one_in(8) {
+            match self.rng.below(7) {
+                0 => body[self.rng.place(2)] = 5,
+                1 => body.truncate(3 + self.rng.place(4)),
+                2 => body.truncate(2),
+                3 => {
+                    body[3] += 1;
+                    body.push(0);
+                }
+                4 => body[4] = 2,
+                5 => body[2] = self.rng.pick(&[0, 36, 38]),
+                _ => body.push(self.rng.pick(&[0, 37, 255])),
+            }
+        }
+        let mut frame = action(&self.stage, &body);
         if self.rng.one_in(2) {
             frame[4..10].copy_from_slice(&ALL_ONES);
         }

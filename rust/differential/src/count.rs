@@ -2,14 +2,16 @@
 //!
 //! A run that compares equal answers shows little if some answer was never
 //! among them. So each call has the numbers that it can give, and the run
-//! fails unless it gave every one of them, and none besides.
+//! fails unless it gave every one of them, and none besides. In the same way
+//! each number has the first and the last place at which a frame can break so.
 
+use crate::builder::{HEADER, LONGEST, NOTICE};
 use crate::lend::Left;
 use crate::rng::Rng;
 use std::fmt::Debug;
 
 /// The numbers of the document's table, with 0 for accepted.
-const NUMBERS: usize = 21;
+const NUMBERS: usize = 23;
 /// The answers to an ask.
 const ASKS: usize = 6;
 /// So many differences of a subject are told; the others are counted.
@@ -19,17 +21,21 @@ const TOLD: u64 = 3;
 #[derive(Clone, Copy)]
 pub enum Call {
     ReadFrame,
+    FaultOffset,
     ReadElement,
     WriteFree,
     WriteElement,
     WriteBody,
     ReplyTpc,
+    ReturnTpc,
     ReplyMeasurement,
+    ReturnMeasurement,
     Number,
     List,
     StartLine,
     AdvanceLine,
     FrameLine,
+    PlacedLine,
     AskLine,
     RecordLine,
     BlockLine,
@@ -41,27 +47,33 @@ struct Can(&'static str, &'static [u8]);
 /// In the order of `Call`, with what cannot occur and why. All numbers occur
 /// somewhere. 14, 15, 17, 19 and 20 do in the lines of lists alone, since no
 /// other call has a clock to advance, a station to start or a block to read;
-/// 18 in replies alone; 1 to 12 where frames are read.
-const CAN: [Can; 15] = [
+/// 18 in replies alone; 1 to 12, 21 and 22 where frames are read.
+const CAN: [Can; 19] = [
     // Not 13: the safe call lends a buffer of its own, which is long enough.
     // Not 16: no index is asked for.
-    Can("read", &[0, 1, 2, 3, 4, 5, 6, 7, 8, 9, 10, 11, 12]),
+    Can("read", &[0, 1, 2, 3, 4, 5, 6, 7, 8, 9, 10, 11, 12, 21, 22]),
+    // 0 stands for a place, which is how 5 to 12, 21 and 22 are answered; 16
+    // for an accepted frame.
+    Can("place", &[0, 1, 2, 3, 4, 16]),
     // The frame's own refusal, or 16 for the index. Not 13, as above.
-    Can("index", &[0, 1, 2, 3, 4, 5, 6, 7, 8, 9, 10, 11, 12, 16]),
+    Can("index", &[0, 1, 2, 3, 4, 5, 6, 7, 8, 9, 10, 11, 12, 16, 21, 22]),
     // Elements 32, 34 and 35 and the TPC Report body. Not 16: the rules forbid
     // no value of theirs.
     Can("free", &[0, 13]),
     // Elements 37, 38, 39 and 40. Not 9: what the reader would refuse so, a
     // writer refuses with 16.
     Can("element", &[0, 13, 16]),
-    // The bodies of actions 0, 1, 2 and 4. Not 2, 6 to 10: a body that would be
-    // too long, a token that repeats, or something wrong with the body to which
-    // an element is to be appended, is 16 as well.
+    // The bodies of actions 0, 1, 2 and 4. Not 2, 6 to 10, 21, 22: a body that
+    // would be too long, a token that repeats, or something wrong with the body
+    // to which an element is to be appended, is 16 as well.
     Can("body", &[0, 13, 16]),
-    // Not 5 to 12: past check 4 a frame that is refused is one to which no
-    // reply is due, 18.
+    // Not 5 to 12, 21, 22: past check 4 a broken body is returned, which is 0,
+    // or no reply is due, 18. Beside each call, of its 0 the error returns, by
+    // what is wrong with the body. Not 11, 12: no action body is refused so.
     Can("tpc", &[0, 1, 2, 3, 4, 13, 16, 18]),
+    Can("t-error", &[1, 5, 6, 7, 8, 9, 10, 21, 22]),
     Can("measure", &[0, 1, 2, 3, 4, 13, 16, 18]),
+    Can("m-error", &[1, 5, 6, 7, 8, 9, 10, 21, 22]),
     // Not 13: nothing is lent, or a buffer of the safe call's own.
     Can("number", &[0, 16]),
     // The call as such. Nothing in a capture makes it refuse: that is told by
@@ -71,15 +83,46 @@ const CAN: [Can; 15] = [
     Can("start", &[0, 15]),
     // 14 for the clock's limit alone: two octets hold no more than 65,535.
     Can("advance", &[0, 14, 19]),
+    // Lines that end with the number, and lines in which a place follows it.
     // Not 2: a record has at most 508 octets, so a frame in it at most 505. Not
     // 13, 16, 18: a station that takes a frame writes nothing.
-    Can("frame", &[0, 1, 3, 4, 5, 6, 7, 8, 9, 10, 11, 12, 19]),
+    Can("frame", &[0, 1, 3, 4, 19]),
+    Can("f-place", &[5, 6, 7, 8, 9, 10, 11, 12, 21, 22]),
     // The answers to an ask have a table of their own, in which all six occur,
     // 5 for asks of 0 alone: two octets hold no more than 65,535.
     Can("ask", &[19]),
     // These two words stand for one refusal each.
     Can("record", &[20]),
     Can("block", &[17]),
+];
+
+/// A number that comes with a place, and the first and the last place that it
+/// can have.
+struct Placed(u8, usize, usize);
+
+/// The places were worked out from the document. The last ones are those of
+/// the shortest thing that can be so wrong, at the end of the longest frame.
+const PLACED: [Placed; 10] = [
+    // The category or the action.
+    Placed(5, HEADER, HEADER + 1),
+    // The element of action 4, which has no token; half an element's header.
+    Placed(6, HEADER + 2, LONGEST - 1),
+    // Where the element would begin, without a token before it and with one.
+    Placed(7, HEADER + 2, HEADER + 3),
+    // An element without contents.
+    Placed(8, HEADER + 2, LONGEST - 2),
+    // A token, or the element of action 4; an element of five octets.
+    Placed(9, HEADER + 2, LONGEST - 5),
+    // The second Enable element of a request; a second Power Constraint.
+    Placed(10, HEADER + 3 + 5, LONGEST - 3),
+    // A Quiet element right after eight others; one at the end.
+    Placed(11, NOTICE + 8 * 8, LONGEST - 8),
+    // The field of the interval.
+    Placed(12, HEADER + 8, HEADER + 8),
+    // As with 6, but with a whole header: half a header is 6.
+    Placed(21, HEADER + 2, LONGEST - 2),
+    // After the elements of actions 2, and 3 and 4.
+    Placed(22, HEADER + 5, HEADER + 7),
 ];
 
 /// What a subject has compared so far.
@@ -94,6 +137,8 @@ struct Subject {
 pub struct Count {
     subjects: Vec<Subject>,
     answers: [[u64; NUMBERS]; CAN.len()],
+    /// How often each number came with each place.
+    places: Vec<[u64; NUMBERS]>,
     asks: [u64; ASKS],
 }
 
@@ -102,6 +147,7 @@ impl Count {
         Count {
             subjects: Vec::new(),
             answers: [[0; NUMBERS]; CAN.len()],
+            places: vec![[0; NUMBERS]; LONGEST + 1],
             asks: [0; ASKS],
         }
     }
@@ -122,6 +168,16 @@ impl Count {
     pub fn note(&mut self, call: Call, number: u8) {
         if let Some(place) = self.answers[call as usize].get_mut(usize::from(number)) {
             *place += 1;
+        }
+    }
+
+    /// Notes that a frame was refused with this number at this place. A place
+    /// past the longest frame is none of the twin, so it is told as a
+    /// difference.
+    pub fn note_place(&mut self, number: u8, place: usize) {
+        let numbers = self.places.get_mut(place);
+        if let Some(times) = numbers.and_then(|numbers| numbers.get_mut(usize::from(number))) {
+            *times += 1;
         }
     }
 
@@ -182,6 +238,16 @@ impl Count {
         self.case(("twin", twin), ("expected", expected), input);
     }
 
+    /// Compares what the library gives with what it must give by the document.
+    pub fn library_gives<T: PartialEq + Debug>(
+        &mut self,
+        library: &T,
+        expected: &T,
+        input: impl FnOnce() -> String,
+    ) {
+        self.case(("library", library), ("expected", expected), input);
+    }
+
     /// Compares what the two sides give.
     pub fn compare<T: PartialEq + Debug>(
         &mut self,
@@ -221,6 +287,7 @@ impl Count {
     pub fn conclude(&self) -> bool {
         self.print_cases();
         self.print_answers();
+        self.print_places();
         let mut well = true;
         for subject in &self.subjects {
             if subject.differences != 0 {
@@ -270,6 +337,46 @@ impl Count {
         }
     }
 
+    /// The places at which frames were refused with this number, in order.
+    fn places_of(&self, number: usize) -> Vec<usize> {
+        let places = self.places.iter().enumerate();
+        let seen = places.filter(|(_, numbers)| numbers[number] != 0);
+        seen.map(|(place, _)| place).collect()
+    }
+
+    /// A line for each number that came with a place: how often, at how many
+    /// different places, and the first and the last of them.
+    fn print_places(&self) {
+        println!("\n place     all  places   first    last");
+        for number in 0..NUMBERS {
+            let all: u64 = self.places.iter().map(|numbers| numbers[number]).sum();
+            let places = self.places_of(number);
+            if let (Some(first), Some(last)) = (places.first(), places.last()) {
+                let many = places.len();
+                println!("{number:>6}{all:>8}{many:>8}{first:>8}{last:>8}");
+            }
+        }
+    }
+
+    /// Numbers that came with a place and should not, or of which the first or
+    /// the last place is not the one that it must be.
+    fn misplaced(&self) -> Vec<String> {
+        let mut faults = Vec::new();
+        for number in 0..NUMBERS {
+            let places = self.places_of(number);
+            let seen = places.first().copied().zip(places.last().copied());
+            let placed = PLACED.iter().find(|placed| usize::from(placed.0) == number);
+            let expected = placed.map(|&Placed(_, first, last)| (first, last));
+            if seen != expected {
+                faults.push(format!(
+                    "first and last place of {}: {:?}, not {:?}",
+                    number, seen, expected
+                ));
+            }
+        }
+        faults
+    }
+
     /// Numbers that were not reached, or that a call should not have given.
     fn faults(&self) -> Vec<String> {
         let mut faults = Vec::new();
@@ -287,6 +394,7 @@ impl Count {
                 faults.push(format!("no ask was answered by {}", answer));
             }
         }
+        faults.extend(self.misplaced());
         faults
     }
 }

@@ -1,14 +1,16 @@
 //! Frames: the kind, every field, every measurement element by its index, and
-//! refusals.
+//! refusals with the place where the frame broke.
 
 use crate::builder::{
-    action, element, header, measured, mutate, notice, padding, quiet, soup, Builder, Stage,
-    ACTION, ALL_ONES, BEACON, HEADER, LONGEST, PROBE_RESPONSE,
+    action, element, header, measured, measurements, mutate, notice, padding, quiet, soup, Builder,
+    Stage, ACTION, ALL_ONES, BEACON, HEADER, LONGEST, LONGEST_BODY, NOTICE, PROBE_RESPONSE,
 };
 use crate::count::{Call, Count};
 use crate::lend::hex;
 use crate::pairs;
+use crate::raw;
 use crate::rng::Rng;
+use oneiralth::answers::IMPOSSIBLE;
 
 const SEED: u64 = 0x8021_1000_2003_0001;
 
@@ -27,6 +29,7 @@ pub fn run(count: &mut Count) {
     repeated_elements(count);
     sizes(count, &mut rng);
     full_frames(count, &mut rng);
+    last_places(count, &mut rng);
     built(count, &mut rng);
     soups(count, &mut rng);
 }
@@ -60,13 +63,14 @@ fn compare_with(
 ) {
     let library = oneiralth::read_frame(frame, stage.settings());
     let received = twin::read_frame(frame, stage.own, stage.ap, stage.interval);
-    let twin: Reading<'_> = received.as_ref().map_err(|&refusal| refusal);
+    let twin: Reading<'_> = received.as_ref().map_err(|refusal| refusal.number);
     count.values(
         Call::ReadFrame,
         &library,
         &twin.map(pairs::received),
         || input(stage, frame),
     );
+    place(count, stage, frame, library.err(), received.as_ref().err());
     let (quiets, requests, reports) = match twin.map(|received| &received.frame) {
         Ok(twin::Frame::Beacon(said) | twin::Frame::ProbeResponse(said)) => (said.quiets.len(), 0, 0),
         Ok(twin::Frame::MeasurementRequest { requests, .. }) => (0, requests.len(), 0),
@@ -87,15 +91,42 @@ fn compare_with(
     }
 }
 
+/// Where a frame broke: a place, or the refusal again where it has none; 16 for
+/// a frame that is accepted.
+fn place(
+    count: &mut Count,
+    stage: &Stage,
+    frame: &[u8],
+    refusal: Option<u8>,
+    twin: Option<&twin::Refusal>,
+) {
+    let library = raw::fault_offset(stage, frame);
+    let expected = match twin {
+        None => Err(IMPOSSIBLE),
+        Some(twin) => twin.offset.ok_or(twin.number),
+    };
+    count.values(Call::FaultOffset, &library, &expected, || {
+        format!("place in {}", input(stage, frame))
+    });
+    if let (Some(refusal), Ok(place)) = (refusal, library) {
+        count.note_place(refusal, place);
+    }
+    // The safe call gives the number and the place together.
+    let library = oneiralth::fault(frame, stage.settings());
+    count.compare(&library, &twin.map(pairs::fault), || {
+        format!("fault of {}", input(stage, frame))
+    });
+}
+
 /// The Quiet element at an index, as the twin keeps it in the order of the
 /// frame; one past the last, or of another kind, is 16.
 fn quiet_at(count: &mut Count, stage: &Stage, frame: &[u8], twin: Reading<'_>, index: usize) {
     let library = oneiralth::read_quiet(frame, stage.settings(), index);
     let twin = twin.and_then(|received| match &received.frame {
         twin::Frame::Beacon(said) | twin::Frame::ProbeResponse(said) => {
-            said.quiets.get(index).copied().map(pairs::quiet).ok_or(oneiralth::answers::IMPOSSIBLE)
+            said.quiets.get(index).copied().map(pairs::quiet).ok_or(IMPOSSIBLE)
         }
-        _ => Err(oneiralth::answers::IMPOSSIBLE),
+        _ => Err(IMPOSSIBLE),
     });
     count.values(Call::ReadElement, &library, &twin, || {
         format!("quiet {:x} of {}", index, input(stage, frame))
@@ -426,6 +457,65 @@ fn full_frames(count: &mut Count, rng: &mut Rng) {
             let last = [vec![0, 0, 3], rng.octets(rest - 3)].concat();
             reports.extend_from_slice(&element(39, &last));
             every_element(count, &stage, &reports);
+        }
+    }
+}
+
+/// Frames of the longest length, one octet less and one more, that are all
+/// right up to their last octets: the last places that there are.
+fn last_places(count: &mut Count, rng: &mut Rng) {
+    let stage = Stage::usual(100);
+    for length in [LONGEST - 1, LONGEST, LONGEST + 1] {
+        let quiets = element(40, &quiet(1, 0, 1, 0)).repeat(8);
+        let front = [&[32, 1, 3, 35, 2, 0, 0, 37, 3, 0, 36, 1][..], &quiets].concat();
+        let tails: [&[u8]; 13] = [
+            &[],
+            &[32],
+            &[33],
+            &[32, 0],
+            &[33, 0],
+            &[33, 1],
+            &[40, 0],
+            &[32, 1, 3],
+            &[35, 2, 0, 0],
+            &[37, 3, 2, 36, 1],
+            &[37, 3, 1, 36, 1],
+            &[40, 6, 1, 0, 1, 0, 0, 0],
+            &[40, 6, 0, 0, 1, 0, 0, 0],
+        ];
+        for subtype in [BEACON, PROBE_RESPONSE] {
+            for tail in tails {
+                let pad = padding(rng, length - NOTICE - front.len() - tail.len());
+                let elements = [&front[..], &pad, tail].concat();
+                compare(count, &stage, &notice(&stage, subtype, &elements));
+            }
+        }
+        for (kind, id, other) in [(0, 38, 39), (1, 39, 38)] {
+            let tails: [&[u8]; 11] = [
+                &[],
+                &[id],
+                &[other],
+                &[id, 0],
+                &[other, 0],
+                &[id, 1],
+                &[other, 1],
+                // A token of 0, an excuse and another, a token again.
+                &[id, 3, 0, 2, 0],
+                &[id, 3, 0, 3, 0],
+                &[id, 3, 1, 2, 0],
+                &[id, 3, 99, 2],
+            ];
+            for tail in tails {
+                let pad = measurements(rng, id, length - HEADER - 3 - tail.len());
+                let body = [&[0, kind, 1][..], &pad, tail].concat();
+                compare(count, &stage, &action(&stage, &body));
+            }
+        }
+        // As much left over as there can be.
+        for body in [&[0, 2, 1, 34, 0][..], &[0, 3, 0, 35, 2, 0, 0], &[0, 4, 37, 3, 0, 36, 1]] {
+            let mut body = body.to_vec();
+            body.resize(LONGEST_BODY + length - LONGEST, 34);
+            compare(count, &stage, &action(&stage, &body));
         }
     }
 }

@@ -1,10 +1,12 @@
 //! The proved library and the twin, an independent implementation of the same
 //! document, called with the same octets: every answer must be the same, and
-//! so must every octet of a lent buffer, on a refusal too.
+//! so must every octet of a lent buffer, on a refusal too, and the place where
+//! a refused frame broke.
 //!
 //! All cases come from fixed seeds, so each run is the same run. It prints how
-//! many cases were compared and how often each number was the answer; it fails
-//! if anything differs, or if a number that can occur did not.
+//! many cases were compared, how often each number was the answer, and at how
+//! many places; it fails if anything differs, if a number that can occur did
+//! not, or if the first or the last place of one was not met.
 
 mod bodies;
 mod builder;
@@ -15,6 +17,7 @@ mod frames;
 mod lend;
 mod numbers;
 mod pairs;
+mod raw;
 mod replies;
 mod rng;
 mod tape;

@@ -136,6 +136,14 @@ pub fn received(given: &twin::Received) -> library::Received {
     }
 }
 
+/// The number and the place of a refused frame.
+pub fn fault(given: &twin::Refusal) -> library::Fault {
+    library::Fault {
+        refusal: given.number,
+        offset: given.offset,
+    }
+}
+
 pub fn finding(given: twin::Finding) -> library::Finding {
     match given {
         twin::Finding::Refused => library::Finding::Refused,

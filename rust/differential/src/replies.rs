@@ -1,14 +1,16 @@
 //! Replies to TPC Requests and to the elements of Measurement Requests, due
-//! and not due.
+//! and not due, and the error returns of broken bodies.
 
 use crate::builder::{
-    action, element, measured, mutate, Address, Builder, Stage, ALL_ONES, HEADER,
+    action, element, header, measured, measurements, mutate, soup, Address, Builder, Stage, ACTION,
+    ALL_ONES, HEADER, LONGEST, LONGEST_BODY,
 };
 use crate::count::{Call, Count};
 use crate::frames;
-use crate::lend::{hex, lend};
+use crate::lend::{hex, lend, Left};
 use crate::pairs;
 use crate::rng::Rng;
+use oneiralth::answers::NO_REPLY_DUE;
 use twin::Finding;
 
 const SEED: u64 = 0x8021_1000_2003_0004;
@@ -16,9 +18,13 @@ const SEED: u64 = 0x8021_1000_2003_0004;
 /// Requests at random, each asked for replies of several sorts.
 const AT_RANDOM: usize = 72_000;
 
-/// The lengths of the replies that there are.
+/// The lengths of the reports that there are as replies. An error return is as
+/// long as the frame that it answers.
 const TPC_REPLY: usize = 31;
 const MEASUREMENT_REPLIES: [usize; 3] = [32, 44, 51];
+
+/// The bit of a category that makes an error return of it.
+const ERROR: u8 = 0x80;
 
 /// µs in a TU.
 const TU: u64 = 1024;
@@ -30,11 +36,24 @@ pub fn run(count: &mut Count) {
     findings(count);
     elements(count);
     all_lengths(count);
+    error_returns(count, &mut rng);
+    categories(count, &mut rng);
     at_random(count, &mut rng);
 }
 
-/// The reply to a TPC Request, in one buffer.
+/// The reply to a TPC Request, in one buffer, and what becomes of it.
 fn tpc(count: &mut Count, stage: &Stage, frame: &[u8], report: (i8, i8), length: usize) {
+    let library = tpc_alone(count, stage, frame, report, length);
+    answered(count, stage, frame, &library, Call::ReturnTpc);
+}
+
+fn tpc_alone(
+    count: &mut Count,
+    stage: &Stage,
+    frame: &[u8],
+    report: (i8, i8),
+    length: usize,
+) -> Left {
     let (own, ap) = (stage.own, stage.ap);
     let library = lend(length, |out| {
         oneiralth::reply_to_tpc_request(frame, own, ap, pairs::tpc(report), out)
@@ -46,9 +65,7 @@ fn tpc(count: &mut Count, stage: &Stage, frame: &[u8], report: (i8, i8), length:
         let (frame, own, ap) = (hex(frame), hex(&own), hex(&ap));
         format!("frame {frame}, own {own}, AP {ap}, {report:?}, {length} octets")
     });
-    if library.answer.is_ok() {
-        exchanged(count, stage, library.written());
-    }
+    library
 }
 
 /// What a caller of a measurement reply has to give.
@@ -59,8 +76,20 @@ struct Asked {
     finding: Finding,
 }
 
-/// The reply to an element of a Measurement Request, in one buffer.
+/// The reply to an element of a Measurement Request, in one buffer, and what
+/// becomes of it.
 fn measurement(count: &mut Count, stage: &Stage, frame: &[u8], asked: Asked, length: usize) {
+    let library = measurement_alone(count, stage, frame, asked, length);
+    answered(count, stage, frame, &library, Call::ReturnMeasurement);
+}
+
+fn measurement_alone(
+    count: &mut Count,
+    stage: &Stage,
+    frame: &[u8],
+    asked: Asked,
+    length: usize,
+) -> Left {
     let (own, ap) = (stage.own, stage.ap);
     let Asked {
         clock,
@@ -81,18 +110,58 @@ fn measurement(count: &mut Count, stage: &Stage, frame: &[u8], asked: Asked, len
              {finding:x?}, {length} octets"
         )
     });
-    if library.answer.is_ok() {
-        exchanged(count, stage, library.written());
-    }
+    library
 }
 
 /// A reply with DA and SA exchanged is a frame to the station again, which
-/// both sides must read alike.
-fn exchanged(count: &mut Count, stage: &Stage, reply: &[u8]) {
-    let mut frame = reply.to_vec();
-    frame[4..10].copy_from_slice(&reply[10..16]);
-    frame[10..16].copy_from_slice(&reply[4..10]);
-    frames::compare(count, stage, &frame);
+/// both sides must read alike. No report has the bit of an error return, so
+/// that bit tells which it is.
+fn answered(count: &mut Count, stage: &Stage, frame: &[u8], library: &Left, error: Call) {
+    if library.answer.is_err() {
+        return;
+    }
+    let reply = library.written();
+    let mut back = reply.to_vec();
+    back[4..10].copy_from_slice(&reply[10..16]);
+    back[10..16].copy_from_slice(&reply[4..10]);
+    frames::compare(count, stage, &back);
+    if reply[HEADER] & ERROR != 0 {
+        returned(count, stage, frame, reply, &back, error);
+    }
+}
+
+/// An error return, by the document: the body of a frame that is refused, with
+/// one bit more, after the header of a reply. It gets no reply itself, or two
+/// stations would return it to each other for ever.
+fn returned(
+    count: &mut Count,
+    stage: &Stage,
+    frame: &[u8],
+    reply: &[u8],
+    back: &[u8],
+    error: Call,
+) {
+    let refusal = oneiralth::read_frame(frame, stage.settings()).err();
+    count.note(error, refusal.unwrap_or(0));
+    let mut expected = header(stage, ACTION, stage.ap);
+    expected[10..16].copy_from_slice(&stage.own);
+    expected.extend_from_slice(&frame[HEADER..]);
+    expected[HEADER] |= ERROR;
+    count.library_gives(&reply, &&expected[..], || {
+        format!("error return of {}", hex(frame))
+    });
+    let asked = Asked {
+        clock: 0,
+        index: 0,
+        finding: Finding::Refused,
+    };
+    let replies = [
+        tpc_alone(count, stage, back, (0, 0), back.len()).answer,
+        measurement_alone(count, stage, back, asked, back.len()).answer,
+    ];
+    count.library_gives(&replies, &[Err(NO_REPLY_DUE); 2], || {
+        format!("replies to {}", hex(back))
+    });
 }
 
 /// In buffers around each length that a reply can have.
@@ -330,6 +399,170 @@ fn all_lengths(count: &mut Count) {
     }
 }
 
+/// Action bodies that are refused with each number that has an error return.
+fn broken() -> Vec<(u8, Vec<u8>)> {
+    let bodies: [(u8, &[u8]); 45] = [
+        (1, &[0]),
+        (1, &[0, 0]),
+        (1, &[0, 1]),
+        (1, &[0, 2]),
+        (1, &[0, 3]),
+        (5, &[1]),
+        (5, &[127]),
+        (5, &[1, 2, 7, 34, 0]),
+        (5, &[127, 0, 9, 38, 3, 1, 2, 0]),
+        (5, &[0, 5]),
+        (5, &[0, 255, 9]),
+        (6, &[0, 0, 9, 38]),
+        (6, &[0, 0, 9, 38, 3, 1, 2, 0, 38, 3, 2, 2]),
+        (6, &[0, 1, 0, 39, 3, 0, 1]),
+        (6, &[0, 2, 7, 34]),
+        (6, &[0, 3, 0, 35, 2, 0]),
+        (6, &[0, 4, 37]),
+        (7, &[0, 0, 9]),
+        (7, &[0, 1, 0]),
+        (7, &[0, 2, 7]),
+        (7, &[0, 3, 0]),
+        (7, &[0, 4]),
+        (8, &[0, 0, 9, 38, 0]),
+        (8, &[0, 1, 0, 39, 3, 0, 1, 9, 39, 4, 0, 1, 9, 0]),
+        (8, &[0, 2, 7, 34, 1, 0]),
+        (8, &[0, 3, 0, 35, 1, 0]),
+        (8, &[0, 4, 37, 4, 0, 36, 1, 0]),
+        (9, &[0, 0, 0]),
+        (9, &[0, 0, 9, 38, 3, 0, 2, 0]),
+        (9, &[0, 1, 0, 39, 3, 0, 3, 9]),
+        (9, &[0, 2, 0, 34, 0]),
+        (9, &[0, 4, 37, 3, 2, 36, 1]),
+        (9, &[0, 4, 37, 3, 1, 201, 1]),
+        (10, &[0, 0, 9, 38, 3, 1, 2, 0, 38, 3, 1, 2, 0]),
+        (10, &[0, 0, 9, 38, 3, 1, 2, 0, 38, 3, 2, 2, 0, 38, 3, 1, 2, 0]),
+        (21, &[0, 0, 9, 39, 3, 1, 1, 0]),
+        (21, &[0, 0, 9, 38, 3, 1, 2, 0, 37, 0]),
+        (21, &[0, 1, 0, 38, 0]),
+        (21, &[0, 2, 7, 35, 0]),
+        (21, &[0, 3, 0, 34, 2]),
+        (21, &[0, 4, 40, 6]),
+        (22, &[0, 2, 7, 34, 0, 0]),
+        (22, &[0, 2, 7, 34, 0, 34, 0]),
+        (22, &[0, 3, 0, 35, 2, 0, 0, 255]),
+        (22, &[0, 4, 37, 3, 1, 200, 0, 37]),
+    ];
+    bodies.iter().map(|&(number, body)| (number, body.to_vec())).collect()
+}
+
+/// As many octets as a frame can hold, one less and one more, after bodies that
+/// are refused with the same number whatever follows; and a body that is cut
+/// that late.
+fn long_broken(rng: &mut Rng) -> Vec<(u8, Vec<u8>)> {
+    let mut bodies = Vec::new();
+    for length in [LONGEST_BODY - 1, LONGEST_BODY, LONGEST_BODY + 1] {
+        let too_long = length > LONGEST_BODY;
+        for (number, body) in broken() {
+            if ![1, 6, 7].contains(&number) {
+                let more = rng.octets(length - body.len());
+                bodies.push((if too_long { 2 } else { number }, [body, more].concat()));
+            }
+        }
+        for (kind, id) in [(0, 38), (1, 39)] {
+            for tail in [&[id][..], &[id, 1], &[id, 3, 250, 2]] {
+                let many = measurements(rng, id, length - 3 - tail.len());
+                let body = [&[0, kind, 9][..], &many, tail].concat();
+                bodies.push((if too_long { 2 } else { 6 }, body));
+            }
+        }
+    }
+    bodies
+}
+
+/// Both calls, whatever a caller may give them, in buffers of the lengths that
+/// reports need and of those that this frame's error return needs.
+fn both_calls(count: &mut Count, stage: &Stage, frame: &[u8]) {
+    let own = frame.len();
+    for length in [0, 31, 32, 44, 51, 60, own - 1, own, own + 1, LONGEST, LONGEST + 9] {
+        tpc(count, stage, frame, (-3, 20), length);
+        for (clock, index, finding) in [
+            (0, 0, Finding::Refused),
+            (7, 1, Finding::Busy(u32::MAX)),
+            (u32::MAX, usize::MAX, Finding::Map(0xFF)),
+            (1, 0, Finding::Times([u32::MAX; 8])),
+        ] {
+            let asked = Asked {
+                clock,
+                index,
+                finding,
+            };
+            measurement(count, stage, frame, asked, length);
+        }
+    }
+}
+
+/// Broken bodies of each number, short and long: to the station, to all ones,
+/// to a station that takes all ones or its AP for its own address, with
+/// something in the free fields of the header, and with a fault in it.
+fn error_returns(count: &mut Count, rng: &mut Rng) {
+    let usual = Stage::usual(100);
+    let mut bodies = broken();
+    bodies.extend(long_broken(rng));
+    for (number, body) in bodies {
+        let frame = action(&usual, &body);
+        let library = oneiralth::read_frame(&frame, usual.settings()).err();
+        count.library_gives(&library, &Some(number), || {
+            format!("number of {}", hex(&frame))
+        });
+        frames::compare(count, &usual, &frame);
+        both_calls(count, &usual, &frame);
+        let mut free = frame.clone();
+        free[1] = 0b1011_1000;
+        free[2..4].copy_from_slice(&[0xAA, 0x55]);
+        free[22..24].copy_from_slice(&[0xF0, 0x12]);
+        both_calls(count, &usual, &free);
+        let mut to_all = frame.clone();
+        to_all[4..10].copy_from_slice(&ALL_ONES);
+        both_calls(count, &usual, &to_all);
+        for own in [ALL_ONES, usual.ap] {
+            let stage = Stage { own, ..usual };
+            both_calls(count, &stage, &action(&stage, &body));
+        }
+        // Flags, fragment, each address; a beacon's or another subtype.
+        for (place, octet) in [(0, 0x80), (0, 0xC0), (1, 0x40), (4, 0), (10, 0), (16, 0), (22, 1)] {
+            let mut other = frame.clone();
+            other[place] = octet;
+            for length in [0, LONGEST] {
+                tpc(count, &usual, &other, (1, 2), length);
+                let asked = Asked {
+                    clock: 0,
+                    index: 0,
+                    finding: Finding::Refused,
+                };
+                measurement(count, &usual, &other, asked, length);
+            }
+        }
+    }
+    both_calls(count, &usual, &action(&usual, &[]));
+}
+
+/// Every category: alone, before what would be right with category 0, before
+/// another action, and before as much as a frame can hold.
+fn categories(count: &mut Count, rng: &mut Rng) {
+    let stage = Stage::usual(100);
+    let long = [vec![2, 7, 34, 0], rng.octets(LONGEST_BODY - 5)].concat();
+    for category in 0..=255 {
+        for rest in [&[][..], &[2, 7, 34, 0], &[0, 9, 38, 3, 1, 2, 0], &[5, 1], &long] {
+            let frame = action(&stage, &[&[category][..], rest].concat());
+            let asked = Asked {
+                clock: 0,
+                index: 0,
+                finding: Finding::Refused,
+            };
+            for length in [0, frame.len() - 1, frame.len(), LONGEST] {
+                tpc(count, &stage, &frame, (1, 2), length);
+                measurement(count, &stage, &frame, asked, length);
+            }
+        }
+    }
+}
+
 /// Times that fit into so many µs, all of them or nearly; or that do not.
 pub fn some_times(rng: &mut Rng, limit: u32) -> [u32; 8] {
     let mut left = limit;
@@ -365,8 +598,18 @@ fn some_finding(rng: &mut Rng, duration: u16) -> Finding {
     }
 }
 
-/// Frames of all sorts, whole, changed and cut. Most ask for nothing, or are
-/// not for the station.
+/// The length of a buffer: one of those around reports, or one time in three
+/// around what an error return of this frame needs.
+fn some_length(rng: &mut Rng, frame: &[u8], reports: &[usize]) -> usize {
+    if !rng.one_in(3) {
+        return rng.pick(reports);
+    }
+    let own = frame.len();
+    rng.pick(&[own.saturating_sub(1), own, own + 1, LONGEST])
+}
+
+/// Frames of all sorts, whole, changed and cut. Most ask for nothing, are
+/// broken, or are not for the station.
 fn at_random(count: &mut Count, rng: &mut Rng) {
     for _ in 0..AT_RANDOM {
         let mut stage = Stage::at_random(rng);
@@ -377,13 +620,20 @@ fn at_random(count: &mut Count, rng: &mut Rng) {
         let mut frame = match builder.rng.below(8) {
             0 => builder.frame(),
             1 | 2 => builder.tpc_request(),
+            3 => {
+                let length = builder.rng.pick(&[0, 1, 2, 6, 20]);
+                let octets = soup(builder.rng, length);
+                let category = builder.rng.pick(&[0, 0, 0, 1, 127, 128]);
+                let body = [&[category, builder.rng.below(6) as u8][..], &octets].concat();
+                action(&stage, &body)
+            }
             _ => builder.measurement_request(),
         };
         if rng.one_in(4) {
             mutate(rng, &mut frame);
         }
         let power = (rng.octet() as i8, rng.octet() as i8);
-        let length = rng.pick(&[0, 30, 31, 32, 60]);
+        let length = some_length(rng, &frame, &[0, 30, 31, 32, 60]);
         tpc(count, &stage, &frame, power, length);
         // The duration of the first element, if it has one, so that findings
         // are often possible.
@@ -406,7 +656,7 @@ fn at_random(count: &mut Count, rng: &mut Rng) {
                 index: rng.pick(&[0, 0, 0, 1, 2, 5]),
                 finding: some_finding(rng, duration),
             };
-            let length = rng.pick(&[0, 31, 32, 43, 44, 50, 51, 51, 60, 60]);
+            let length = some_length(rng, &frame, &[0, 31, 32, 43, 44, 50, 51, 51, 60, 60]);
             measurement(count, &stage, &frame, asked, length);
         }
     }

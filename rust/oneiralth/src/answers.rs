@@ -14,8 +14,8 @@ pub const FOREIGN_ADDRESS: Refusal = 4;
 pub const FOREIGN_ACTION: Refusal = 5;
 /// An element runs past the frame's end.
 pub const ELEMENT_CUT: Refusal = 6;
-/// The required element is absent, another is in its place, or octets are left over.
-pub const ELEMENTS_UNFIT: Refusal = 7;
+/// The required element is absent.
+pub const ELEMENT_ABSENT: Refusal = 7;
 /// The length of an element is wrong.
 pub const WRONG_LENGTH: Refusal = 8;
 /// A value that the rules forbid.
@@ -42,3 +42,7 @@ pub const NO_REPLY_DUE: Refusal = 18;
 pub const NO_STATION: Refusal = 19;
 /// A malformed capture record.
 pub const RECORD_MALFORMED: Refusal = 20;
+/// Another element stands where one is required.
+pub const OTHER_ELEMENT: Refusal = 21;
+/// Octets are left over after the one element of an action frame.
+pub const LEFT_OVER: Refusal = 22;

@@ -16,11 +16,20 @@ pub use fields::{Asks, Frame, Notice, Quiet, Received, Report, Request, Says, Sw
 /// A MAC address, in the order of its octets on the air.
 pub type Address = [u8; 6];
 
-/// A refusal's number, from 1 to 20 (`answers`, docs/ANSWERS.md).
+/// A refusal's number, from 1 to 22 (`answers`, docs/ANSWERS.md).
 pub type Refusal = u8;
 
 /// How many octets were written, or why none was.
 pub type Written = Result<usize, Refusal>;
+
+/// Why a frame is refused, and where it broke.
+#[derive(Clone, Copy, Debug, PartialEq, Eq)]
+pub struct Fault {
+    pub refusal: Refusal,
+    /// How many octets of the frame stand before the one at fault; `None`
+    /// where no octet is.
+    pub offset: Option<usize>,
+}
 
 /// The station that reads a frame or replies to one.
 #[derive(Clone, Copy, Debug, PartialEq, Eq)]
@@ -79,6 +88,15 @@ pub fn read_frame(frame: &[u8], settings: Settings) -> Result<Received, Refusal>
         raw::oneiralth_read_frame(frame.as_ptr(), frame.len(), own, ap, settings.interval, out.as_mut_ptr(), out.len())
     };
     written(code).map(|_| fields::received(&out))
+}
+
+/// Why a frame is refused and where it broke; `None` for one that is accepted.
+pub fn fault(frame: &[u8], settings: Settings) -> Option<Fault> {
+    let refusal = read_frame(frame, settings).err()?;
+    let (own, ap) = (address(settings.own), address(settings.ap));
+    let code = unsafe { raw::oneiralth_fault_offset(frame.as_ptr(), frame.len(), own, ap, settings.interval) };
+    let offset = number(code).ok().map(|offset| offset as usize);
+    Some(Fault { refusal, offset })
 }
 
 /// The Quiet element at an index of a beacon or a probe response: the frame's
@@ -243,7 +261,9 @@ pub fn append_report(buffer: &mut [u8], used: usize, dialog: u8, report: Report)
     })
 }
 
-/// The reply to a TPC Request: a whole frame.
+/// The reply to a TPC Request: a whole frame. An action frame to the station
+/// alone whose body is broken gets that body back as an error return, so a reply
+/// may be as long as a frame: 2,336 octets always suffice.
 pub fn reply_to_tpc_request(frame: &[u8], own: Address, ap: Address, report: TpcReport, out: &mut [u8]) -> Written {
     let (power, margin) = (report.power as u8, report.margin as u8);
     written(unsafe {
@@ -261,7 +281,8 @@ pub fn reply_to_tpc_request(frame: &[u8], own: Address, ap: Address, report: Tpc
 }
 
 /// The reply to the element at an index of a Measurement Request: a whole
-/// frame. `clock` is the station's, in TU.
+/// frame. `clock` is the station's, in TU. A broken body comes back as it does
+/// from `reply_to_tpc_request`.
 pub fn reply_to_measurement_request(
     frame: &[u8],
     own: Address,

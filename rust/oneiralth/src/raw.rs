@@ -11,6 +11,13 @@ extern "C" {
         out: *mut u8,
         out_length: usize,
     ) -> u64;
+    pub fn oneiralth_fault_offset(
+        frame: *const u8,
+        frame_length: usize,
+        own: u64,
+        ap: u64,
+        interval: u16,
+    ) -> u64;
     pub fn oneiralth_read_quiet(
         frame: *const u8,
         frame_length: usize,

@@ -1,5 +1,34 @@
-//! The numbers of the section "Answer numbers", and the answers to an ask
-//! from the section "The station".
+//! The numbers of the section "Answer numbers" and of request One in document
+//! 02, and the answers to an ask from the section "The station".
+
+/// The refusal of a frame, with the place where the frame broke (02, One).
+#[derive(Clone, Copy, Debug, PartialEq, Eq)]
+pub struct Refusal {
+    /// The number of the refusal.
+    pub number: u8,
+    /// "The offset in the frame of the octet at fault", the header's first
+    /// octet being 0: given for 5 to 12, 21 and 22. Of 7 it is the frame's
+    /// length. The numbers 1 to 4 have none.
+    pub offset: Option<usize>,
+}
+
+impl Refusal {
+    /// A refusal with no octet at fault: 1 to 4.
+    pub(crate) fn nowhere(number: u8) -> Refusal {
+        Refusal {
+            number,
+            offset: None,
+        }
+    }
+
+    /// A refusal whose octet at fault has `offset` octets before it.
+    pub(crate) fn at(number: u8, offset: usize) -> Refusal {
+        Refusal {
+            number,
+            offset: Some(offset),
+        }
+    }
+}
 
 /// Accepted.
 pub const ACCEPTED: u8 = 0;
@@ -15,8 +44,8 @@ pub const ADDRESSES: u8 = 4;
 pub const ACTION: u8 = 5;
 /// An element's header or contents run past the end.
 pub const ELEMENT_CUT: u8 = 6;
-/// In an action frame: element absent, another in its place, or octets left over.
-pub const ELEMENT_PLACE: u8 = 7;
+/// In an action frame: the required element is absent.
+pub const ELEMENT_ABSENT: u8 = 7;
 /// Element length wrong.
 pub const ELEMENT_LENGTH: u8 = 8;
 /// A value that the rules forbid.
@@ -44,6 +73,10 @@ pub const NO_REPLY: u8 = 18;
 pub const NO_STATION: u8 = 19;
 /// Malformed capture record.
 pub const MALFORMED_RECORD: u8 = 20;
+/// In an action frame: another element where one of the action's own must stand.
+pub const ANOTHER_ELEMENT: u8 = 21;
+/// In an action frame of one element: octets left over after it.
+pub const LEFT_OVER: u8 = 22;
 
 /// Ask: granted.
 pub const ASK_GRANTED: u8 = 0;

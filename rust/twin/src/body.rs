@@ -1,10 +1,14 @@
 //! Frame bodies: beacon and probe response are read, the five action bodies
 //! are read and written (802.11h 7.4.1; sections "Answer numbers" and
 //! "Octets").
+//!
+//! The readers here take the whole frame and say of everything where it
+//! stands in it, as how many octets are before it: that is the place of a
+//! fault (02, One).
 
 use crate::answer::{
-    ACTION, BUFFER_SHORT, ELEMENT_PLACE, FRAME_SHORT, IMPOSSIBLE, INTERVAL, NINTH_QUIET, REPEATED,
-    VALUE,
+    Refusal, ACTION, BUFFER_SHORT, FRAME_SHORT, IMPOSSIBLE, INTERVAL, LEFT_OVER, NINTH_QUIET,
+    REPEATED, VALUE,
 };
 use crate::element::{
     channel_switch_octets, cut_any, cut_required, read_channel_switch, read_power_constraint,
@@ -31,33 +35,36 @@ const ACTION_TPC_REQUEST: u8 = 2;
 const ACTION_TPC_REPORT: u8 = 3;
 const ACTION_CHANNEL_SWITCH: u8 = 4;
 
-/// Timestamp (8), interval (2) and capability (2) of a beacon.
-const FIXED_FIELDS: usize = 12;
+// Timestamp (8), interval (2) and capability (2) of a beacon, then elements.
+const TIMESTAMP_AT: usize = HEADER;
+const INTERVAL_AT: usize = TIMESTAMP_AT + 8;
+const CAPABILITY_AT: usize = INTERVAL_AT + 2;
+const ELEMENTS_AT: usize = CAPABILITY_AT + 2;
 
 /// The longest body that a frame which is read can have.
 const BODY_LIMIT: usize = FRAME_LIMIT - HEADER;
 
 /// Reads the body of a beacon or probe response under beacon interval B.
-pub(crate) fn read_notice(body: &[u8], interval: u16) -> Result<Notice, u8> {
-    if body.len() < FIXED_FIELDS {
-        return Err(FRAME_SHORT);
+pub(crate) fn read_notice(frame: &[u8], interval: u16) -> Result<Notice, Refusal> {
+    if frame.len() < ELEMENTS_AT {
+        return Err(Refusal::nowhere(FRAME_SHORT));
     }
-    if u16_at(body, 8) != interval {
-        return Err(INTERVAL);
+    if u16_at(frame, INTERVAL_AT) != interval {
+        return Err(Refusal::at(INTERVAL, INTERVAL_AT));
     }
     let mut notice = Notice {
-        timestamp: u64_at(body, 0),
-        capability: u16_at(body, 10),
+        timestamp: u64_at(frame, TIMESTAMP_AT),
+        capability: u16_at(frame, CAPABILITY_AT),
         constraint: None,
         tpc_report: None,
         switch: None,
         quiets: Vec::new(),
     };
-    let mut elements = &body[FIXED_FIELDS..];
-    while !elements.is_empty() {
-        let cut = cut_any(elements)?;
-        note(&mut notice, &cut, interval)?;
-        elements = cut.rest;
+    let mut at = ELEMENTS_AT;
+    while at < frame.len() {
+        let cut = cut_any(frame, at)?;
+        note(&mut notice, &cut, interval).map_err(|number| cut.refused(number))?;
+        at = cut.end;
     }
     Ok(notice)
 }
@@ -97,36 +104,39 @@ fn set_once<T>(place: &mut Option<T>, value: T) -> Result<(), u8> {
     Ok(())
 }
 
-/// Reads the body of an Action frame.
-pub(crate) fn read_action_body(body: &[u8]) -> Result<Frame, u8> {
-    let (category, rest) = fixed_octet(body)?;
+/// Reads the body of an Action frame, which begins at `body`: at `HEADER` in
+/// a frame, at 0 where the octets are a body alone. `body` is not past the end
+/// of the octets.
+pub(crate) fn read_action_body(octets: &[u8], body: usize) -> Result<Frame, Refusal> {
+    // Category, action, token, elements; action 4 has no token.
+    let category_at = body;
+    let action_at = category_at + 1;
+    let token_at = action_at + 1;
+    let elements_at = token_at + 1;
+    let category = fixed_octet(octets, category_at)?;
     if category != SPECTRUM_MANAGEMENT {
-        return Err(ACTION);
+        return Err(Refusal::at(ACTION, category_at));
     }
-    let (action, rest) = fixed_octet(rest)?;
+    let action = fixed_octet(octets, action_at)?;
     match action {
         ACTION_MEASUREMENT_REQUEST => {
-            let (token, elements) = token_not_0(rest)?;
-            Ok(Frame::MeasurementRequest {
-                token,
-                requests: read_requests(elements)?,
-            })
+            let token = token_not_0(octets, token_at)?;
+            let requests = read_requests(octets, elements_at)?;
+            Ok(Frame::MeasurementRequest { token, requests })
         }
         ACTION_MEASUREMENT_REPORT => {
-            let (token, elements) = fixed_octet(rest)?;
-            Ok(Frame::MeasurementReport {
-                token,
-                reports: read_reports(elements)?,
-            })
+            let token = fixed_octet(octets, token_at)?;
+            let reports = read_reports(octets, elements_at)?;
+            Ok(Frame::MeasurementReport { token, reports })
         }
         ACTION_TPC_REQUEST => {
-            let (token, elements) = token_not_0(rest)?;
-            read_single(elements, TPC_REQUEST, read_tpc_request)?;
+            let token = token_not_0(octets, token_at)?;
+            read_single(octets, elements_at, TPC_REQUEST, read_tpc_request)?;
             Ok(Frame::TpcRequest { token })
         }
         ACTION_TPC_REPORT => {
-            let (token, elements) = fixed_octet(rest)?;
-            let (power, margin) = read_single(elements, TPC_REPORT, read_tpc_report)?;
+            let token = fixed_octet(octets, token_at)?;
+            let (power, margin) = read_single(octets, elements_at, TPC_REPORT, read_tpc_report)?;
             Ok(Frame::TpcReport {
                 token,
                 power,
@@ -134,66 +144,78 @@ pub(crate) fn read_action_body(body: &[u8]) -> Result<Frame, u8> {
             })
         }
         ACTION_CHANNEL_SWITCH => {
-            let switch = read_single(rest, CHANNEL_SWITCH, read_channel_switch)?;
+            let element_at = action_at + 1;
+            let switch = read_single(octets, element_at, CHANNEL_SWITCH, read_channel_switch)?;
             Ok(Frame::ChannelSwitch(switch))
         }
-        _ => Err(ACTION),
+        _ => Err(Refusal::at(ACTION, action_at)),
     }
 }
 
-/// A fixed field of one octet, and what follows it.
-fn fixed_octet(octets: &[u8]) -> Result<(u8, &[u8]), u8> {
-    match octets.split_first() {
-        None => Err(FRAME_SHORT),
-        Some((&octet, rest)) => Ok((octet, rest)),
+/// The fixed field of one octet at `at`. Where it is missing there is no octet
+/// at fault.
+fn fixed_octet(octets: &[u8], at: usize) -> Result<u8, Refusal> {
+    match octets.get(at) {
+        None => Err(Refusal::nowhere(FRAME_SHORT)),
+        Some(&octet) => Ok(octet),
     }
 }
 
 /// The dialog token of a request, which is not 0 (802.11h 7.4.1.1, 7.4.1.3).
-fn token_not_0(octets: &[u8]) -> Result<(u8, &[u8]), u8> {
-    let (token, rest) = fixed_octet(octets)?;
+fn token_not_0(octets: &[u8], at: usize) -> Result<u8, Refusal> {
+    let token = fixed_octet(octets, at)?;
     if token == 0 {
-        return Err(VALUE);
+        return Err(Refusal::at(VALUE, at));
     }
-    Ok((token, rest))
+    Ok(token)
 }
 
-/// Reads exactly one element; left-over octets come last (7).
-fn read_single<T>(octets: &[u8], id: u8, read: fn(&[u8]) -> Result<T, u8>) -> Result<T, u8> {
-    let cut = cut_required(octets, id)?;
-    let record = read(cut.contents)?;
-    if !cut.rest.is_empty() {
-        return Err(ELEMENT_PLACE);
+/// Reads exactly one element, at `at`; left-over octets come last (22), told
+/// at the first of them.
+fn read_single<T>(
+    octets: &[u8],
+    at: usize,
+    id: u8,
+    read: fn(&[u8]) -> Result<T, u8>,
+) -> Result<T, Refusal> {
+    let cut = cut_required(octets, at, id)?;
+    let record = read(cut.contents).map_err(|number| cut.refused(number))?;
+    if cut.end < octets.len() {
+        return Err(Refusal::at(LEFT_OVER, cut.end));
     }
     Ok(record)
 }
 
-/// Reads one or more Measurement Requests with tokens that all differ.
-fn read_requests(octets: &[u8]) -> Result<Vec<Request>, u8> {
+/// Reads one or more Measurement Requests, from `first` on, with tokens that
+/// all differ. What follows an element is a further one.
+fn read_requests(octets: &[u8], first: usize) -> Result<Vec<Request>, Refusal> {
     let mut requests = Vec::new();
     let mut used = [false; 256];
-    let mut elements = octets;
+    let mut at = first;
     // The first is required, so an empty place is judged too (7).
-    while requests.is_empty() || !elements.is_empty() {
-        let cut = cut_required(elements, MEASUREMENT_REQUEST)?;
-        let request = read_measurement_request(cut.contents)?;
+    while requests.is_empty() || at < octets.len() {
+        let cut = cut_required(octets, at, MEASUREMENT_REQUEST)?;
+        let request =
+            read_measurement_request(cut.contents).map_err(|number| cut.refused(number))?;
         if !first_use(&mut used, request.token) {
-            return Err(REPEATED);
+            return Err(cut.refused(REPEATED));
         }
         requests.push(request);
-        elements = cut.rest;
+        at = cut.end;
     }
     Ok(requests)
 }
 
-/// Reads one or more Measurement Reports.
-fn read_reports(octets: &[u8]) -> Result<Vec<Report>, u8> {
+/// Reads one or more Measurement Reports, from `first` on. What follows an
+/// element is a further one.
+fn read_reports(octets: &[u8], first: usize) -> Result<Vec<Report>, Refusal> {
     let mut reports = Vec::new();
-    let mut elements = octets;
-    while reports.is_empty() || !elements.is_empty() {
-        let cut = cut_required(elements, MEASUREMENT_REPORT)?;
-        reports.push(read_measurement_report(cut.contents)?);
-        elements = cut.rest;
+    let mut at = first;
+    while reports.is_empty() || at < octets.len() {
+        let cut = cut_required(octets, at, MEASUREMENT_REPORT)?;
+        let report = read_measurement_report(cut.contents).map_err(|number| cut.refused(number))?;
+        reports.push(report);
+        at = cut.end;
     }
     Ok(reports)
 }
@@ -272,7 +294,7 @@ fn held_requests(body: &[u8], token: u8) -> Result<Vec<Request>, u8> {
     if body.is_empty() {
         return Ok(Vec::new());
     }
-    match read_action_body(body) {
+    match read_action_body(body, 0) {
         Ok(Frame::MeasurementRequest {
             token: held,
             requests,
@@ -287,7 +309,7 @@ fn held_reports(body: &[u8], token: u8) -> Result<Vec<Report>, u8> {
     if body.is_empty() {
         return Ok(Vec::new());
     }
-    match read_action_body(body) {
+    match read_action_body(body, 0) {
         Ok(Frame::MeasurementReport {
             token: held,
             reports,

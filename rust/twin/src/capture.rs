@@ -1,11 +1,11 @@
 //! The evening list of a capture (section "Capture blocks and the evening
-//! list").
+//! list"; for the place in a frame's line 02, One).
 //!
 //! One pass over the file, and every line goes into one `Vec`. An ask costs
 //! more here than it has to: the station marks the covered units one by one
 //! (see `station`), up to 65,535 of them where none is quiet.
 
-use crate::answer::{DAMAGED_BLOCK, MALFORMED_RECORD, NO_STATION};
+use crate::answer::{ACCEPTED, DAMAGED_BLOCK, MALFORMED_RECORD, NO_STATION};
 use crate::octets::u16_at;
 use crate::station::Station;
 use crate::Address;
@@ -74,7 +74,7 @@ impl Evening {
             None => {
                 self.damaged += 1;
                 self.station = None;
-                self.line("block", DAMAGED_BLOCK);
+                self.line("block", DAMAGED_BLOCK, None);
             }
         }
     }
@@ -90,7 +90,7 @@ impl Evening {
                 }
                 None => {
                     self.station = None;
-                    self.line("record", MALFORMED_RECORD);
+                    self.line("record", MALFORMED_RECORD, None);
                     return;
                 }
             }
@@ -99,36 +99,31 @@ impl Evening {
 
     /// Carries out one record and lists its answer.
     fn record(&mut self, record: Record<'_>) {
-        let (word, answer) = match record {
+        match record {
             Record::Start {
                 own,
                 ap,
                 channel,
                 interval,
-            } => ("start", self.start(own, ap, channel, interval)),
+            } => {
+                let answer = self.start(own, ap, channel, interval);
+                self.line("start", answer, None);
+            }
             Record::Advance(n) => {
                 let station = self.station.as_mut();
-                (
-                    "advance",
-                    station.map_or(NO_STATION, |station| station.advance(u32::from(n))),
-                )
+                let answer = station.map_or(NO_STATION, |station| station.advance(u32::from(n)));
+                self.line("advance", answer, None);
             }
             Record::Frame(frame) => {
-                let station = self.station.as_mut();
-                (
-                    "frame",
-                    station.map_or(NO_STATION, |station| station.take(frame)),
-                )
+                let (answer, offset) = self.take(frame);
+                self.line("frame", answer, offset);
             }
             Record::Ask(n) => {
                 let station = self.station.as_ref();
-                (
-                    "ask",
-                    station.map_or(NO_STATION, |station| station.ask(u32::from(n))),
-                )
+                let answer = station.map_or(NO_STATION, |station| station.ask(u32::from(n)));
+                self.line("ask", answer, None);
             }
-        };
-        self.line(word, answer);
+        }
     }
 
     /// Starts a station in place of any other; a refused start leaves none.
@@ -139,13 +134,31 @@ impl Evening {
         answer
     }
 
-    fn line(&mut self, word: &str, answer: u8) {
+    /// Hands a frame to the station: the answer, and the place of a fault
+    /// where it has one.
+    fn take(&mut self, frame: &[u8]) -> (u8, Option<usize>) {
+        match &mut self.station {
+            None => (NO_STATION, None),
+            Some(station) => match station.take(frame) {
+                Ok(()) => (ACCEPTED, None),
+                Err(refusal) => (refusal.number, refusal.offset),
+            },
+        }
+    }
+
+    /// One line: number, word, answer, and after it the place if there is one
+    /// ("in the list it follows the number").
+    fn line(&mut self, word: &str, answer: u8, offset: Option<usize>) {
         self.lines += 1;
         put_decimal(self.lines, &mut self.list);
         self.list.push(b' ');
         self.list.extend_from_slice(word.as_bytes());
         self.list.push(b' ');
         put_decimal(u64::from(answer), &mut self.list);
+        if let Some(offset) = offset {
+            self.list.push(b' ');
+            put_decimal(offset as u64, &mut self.list);
+        }
         self.list.push(b'\n');
     }
 
@@ -226,7 +239,7 @@ fn put_decimal(number: u64, list: &mut Vec<u8>) {
 #[cfg(test)]
 mod tests {
     use super::*;
-    use crate::sample::{action, block, notice, quiet, record, seal, start, Dice, AP, OWN};
+    use crate::sample::{action, block, notice, quiet, record, seal, start, Dice, ALL, AP, OWN};
 
     fn text(file: &[u8]) -> String {
         String::from_utf8(list(file)).unwrap()
@@ -351,6 +364,72 @@ mod tests {
             "1 advance 19\n2 frame 19\n3 ask 19\n4 start 0\n5 advance 0\n6 frame 1\n7 ask 5\n\
              8 start 15\n9 ask 19\n10 start 0\n11 ask 0\n12 start 15\n13 ask 19\n14 start 0\n\
              15 ask 0\nblocks 1 damaged 0\n"
+        );
+    }
+
+    #[test]
+    fn places_follow_the_number() {
+        let frame = |body: &[u8]| record(2, &action(OWN, body));
+        let beacon = |elements: &[u8]| record(2, &notice(8, OWN, 100, elements));
+        let nine = quiet(1, 0, 1, 0).repeat(9);
+        let first = block(&[
+            started(),
+            beacon(&[32, 1, 3, 0, 0, 37, 2, 1, 44]),
+            frame(&[1]),
+            frame(&[0, 5]),
+            frame(&[0, 4, 37]),
+            frame(&[0, 4]),
+            frame(&[0, 0, 0]),
+            frame(&[0, 1, 0, 39, 3, 0, 3, 9]),
+            frame(&[0, 2, 7, 35, 0]),
+            frame(&[0, 2, 7, 34, 0, 0]),
+        ]);
+        // Without a place the line is as it was: 1, 3, 4, 0, and an ask.
+        let second = block(&[
+            record(2, &notice(5, ALL, 99, &[])),
+            beacon(&[32, 1, 3, 32, 1, 3]),
+            frame(&[0, 0, 5, 38, 3, 1, 2, 0, 38, 3, 1, 2, 0]),
+            beacon(&nine),
+            record(2, &[]),
+            frame(&[0]),
+            record(2, &[0; 24]),
+            record(2, &action(AP, &[1])),
+            frame(&[0, 2, 7, 34, 0]),
+            ask(1),
+            record(0, &[]),
+        ]);
+        // No station, no place.
+        let third = block(&[frame(&[1]), frame(&[0, 2, 7, 34, 0])]);
+        assert_eq!(
+            text(&[first, second, third].concat()),
+            "1 start 0\n2 frame 8 41\n3 frame 5 24\n4 frame 5 25\n5 frame 6 26\n\
+             6 frame 7 26\n7 frame 9 26\n8 frame 9 27\n9 frame 21 27\n10 frame 22 29\n\
+             11 frame 12 32\n12 frame 10 39\n13 frame 10 32\n14 frame 11 100\n\
+             15 frame 1\n16 frame 1\n17 frame 3\n18 frame 4\n19 frame 0\n20 ask 0\n\
+             21 record 20\n22 frame 19\n23 frame 19\nblocks 3 damaged 0\n"
+        );
+    }
+
+    #[test]
+    fn the_last_place_in_a_block() {
+        // 36 + 257 + 211 = 504 octets, and with an ID the 505 of a block.
+        let mut elements = vec![0, 255];
+        elements.resize(257, 0);
+        elements.extend_from_slice(&[0, 209]);
+        elements.resize(257 + 211, 0);
+        let whole = notice(8, OWN, 100, &elements);
+        elements.push(40);
+        let broken = notice(8, OWN, 100, &elements);
+        assert_eq!(broken.len(), 505);
+        let file = [
+            block(&[started()]),
+            block(&[record(2, &whole)]),
+            block(&[record(2, &broken)]),
+        ]
+        .concat();
+        assert_eq!(
+            text(&file),
+            "1 start 0\n2 frame 0\n3 frame 6 504\nblocks 3 damaged 0\n"
         );
     }
 

@@ -2,7 +2,9 @@
 //! an element is cut from the octets before it is read. The two measurement
 //! elements are in `measurement`.
 
-use crate::answer::{ELEMENT_CUT, ELEMENT_LENGTH, ELEMENT_PLACE, IMPOSSIBLE, VALUE};
+use crate::answer::{
+    Refusal, ANOTHER_ELEMENT, ELEMENT_ABSENT, ELEMENT_CUT, ELEMENT_LENGTH, IMPOSSIBLE, VALUE,
+};
 use crate::octets::{lay, u16_at};
 use crate::station::Station;
 
@@ -48,44 +50,59 @@ pub struct Quiet {
     pub offset: u16,
 }
 
-/// An element cut from the front of some octets.
+/// An element cut from a frame.
 pub(crate) struct Cut<'a> {
+    /// Where its ID octet stands.
+    pub(crate) at: usize,
     pub(crate) id: u8,
     pub(crate) contents: &'a [u8],
-    pub(crate) rest: &'a [u8],
+    /// Where what follows the element begins.
+    pub(crate) end: usize,
 }
 
-/// Cuts the next element of a beacon or probe response, whatever its ID.
-pub(crate) fn cut_any(octets: &[u8]) -> Result<Cut<'_>, u8> {
-    if octets.len() < HEAD {
-        return Err(ELEMENT_CUT);
+impl Cut<'_> {
+    /// A fault of this element: it is told at "the element's ID octet" (02,
+    /// One).
+    pub(crate) fn refused(&self, number: u8) -> Refusal {
+        Refusal::at(number, self.at)
     }
-    let length = usize::from(octets[1]);
-    let after_head = &octets[HEAD..];
-    if after_head.len() < length {
-        return Err(ELEMENT_CUT);
+}
+
+/// Cuts the element of a beacon or probe response that begins at `at`,
+/// whatever its ID. `at` is not past the end of the octets.
+pub(crate) fn cut_any(octets: &[u8], at: usize) -> Result<Cut<'_>, Refusal> {
+    let contents = at + HEAD;
+    if octets.len() < contents {
+        return Err(Refusal::at(ELEMENT_CUT, at));
     }
-    let (contents, rest) = after_head.split_at(length);
+    let length = usize::from(octets[at + 1]);
+    let end = contents + length;
+    if octets.len() < end {
+        return Err(Refusal::at(ELEMENT_CUT, at));
+    }
     Ok(Cut {
-        id: octets[0],
-        contents,
-        rest,
+        at,
+        id: octets[at],
+        contents: &octets[contents..end],
+        end,
     })
 }
 
-/// Cuts an element that must be there and have this ID, in an action frame:
-/// "absent (7), header cut (6), wrong element (7), contents cut (6)".
-pub(crate) fn cut_required(octets: &[u8], id: u8) -> Result<Cut<'_>, u8> {
-    if octets.is_empty() {
-        return Err(ELEMENT_PLACE);
+/// Cuts an element that must begin at `at` and have this ID, in an action
+/// frame: "absent (7), header cut (6), wrong element" (21), "contents cut (6)".
+/// `at` is not past the end of the octets.
+pub(crate) fn cut_required(octets: &[u8], at: usize, id: u8) -> Result<Cut<'_>, Refusal> {
+    if octets.len() == at {
+        // "Absent gives the frame's length" (02, One).
+        return Err(Refusal::at(ELEMENT_ABSENT, octets.len()));
     }
-    if octets.len() < HEAD {
-        return Err(ELEMENT_CUT);
+    if octets.len() < at + HEAD {
+        return Err(Refusal::at(ELEMENT_CUT, at));
     }
-    if octets[0] != id {
-        return Err(ELEMENT_PLACE);
+    if octets[at] != id {
+        return Err(Refusal::at(ANOTHER_ELEMENT, at));
     }
-    cut_any(octets)
+    cut_any(octets, at)
 }
 
 /// An element in octets. No element written here has over 22 contents octets.
@@ -240,7 +257,7 @@ mod tests {
 
     /// Reads what a writer put into `out`, as contents of the element `id`.
     fn contents_of(out: &[u8], id: u8) -> &[u8] {
-        let cut = cut_any(out).unwrap();
+        let cut = cut_any(out, 0).unwrap();
         assert_eq!(cut.id, id);
         cut.contents
     }

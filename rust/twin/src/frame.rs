@@ -1,10 +1,10 @@
 //! A whole frame: "a frame that is read is one of seven kinds, each with its
 //! own fields".
 
-use crate::answer::IMPOSSIBLE;
+use crate::answer::{Refusal, IMPOSSIBLE};
 use crate::body::{read_action_body, read_notice};
 use crate::element::{Quiet, Switch};
-use crate::header::{read_header, Subtype};
+use crate::header::{read_header, Subtype, HEADER};
 use crate::measurement::{Report, Request};
 use crate::Address;
 
@@ -109,13 +109,19 @@ impl Frame {
 }
 
 /// Reads a frame sent by the AP, for the station `own` under beacon interval
-/// `interval`; "1 (header), 2, 3, 4, then the body from left to right".
-pub fn read_frame(frame: &[u8], own: Address, ap: Address, interval: u16) -> Result<Received, u8> {
-    let (header, body) = read_header(frame, own, ap)?;
+/// `interval`; "1 (header), 2, 3, 4, then the body from left to right". A
+/// refusal of the header has no place.
+pub fn read_frame(
+    frame: &[u8],
+    own: Address,
+    ap: Address,
+    interval: u16,
+) -> Result<Received, Refusal> {
+    let header = read_header(frame, own, ap).map_err(Refusal::nowhere)?;
     let frame = match header.subtype {
-        Subtype::Beacon => Frame::Beacon(read_notice(body, interval)?),
-        Subtype::ProbeResponse => Frame::ProbeResponse(read_notice(body, interval)?),
-        Subtype::Action => read_action_body(body)?,
+        Subtype::Beacon => Frame::Beacon(read_notice(frame, interval)?),
+        Subtype::ProbeResponse => Frame::ProbeResponse(read_notice(frame, interval)?),
+        Subtype::Action => read_action_body(frame, HEADER)?,
     };
     Ok(Received {
         broadcast: header.broadcast,
@@ -127,14 +133,22 @@ pub fn read_frame(frame: &[u8], own: Address, ap: Address, interval: u16) -> Res
 mod tests {
     use super::*;
     use crate::measurement::{Asks, Says};
-    use crate::sample::{action, notice, quiet, ALL, AP, OWN};
+    use crate::sample::{action, measure, notice, quiet, ALL, AP, OWN};
 
-    fn read(frame: &[u8]) -> Result<Received, u8> {
+    fn read(frame: &[u8]) -> Result<Received, Refusal> {
         read_frame(frame, OWN, AP, 100)
     }
 
+    /// The number of a refusal and its place; 0 without one if accepted.
+    fn fault(frame: &[u8]) -> (u8, Option<usize>) {
+        match read(frame) {
+            Ok(_) => (0, None),
+            Err(refusal) => (refusal.number, refusal.offset),
+        }
+    }
+
     fn refusal(frame: &[u8]) -> u8 {
-        read(frame).err().unwrap_or(0)
+        fault(frame).0
     }
 
     /// The refusal of a beacon with these elements; a probe response agrees.
@@ -317,11 +331,11 @@ mod tests {
         let frame = notice(8, OWN, 0, &[]);
         assert!(read_frame(&frame, OWN, AP, 0).is_ok());
         let frame = notice(8, OWN, 0, &quiet(1, 0, 0, 0));
-        assert_eq!(read_frame(&frame, OWN, AP, 0), Err(9));
+        assert_eq!(read_frame(&frame, OWN, AP, 0), Err(Refusal::at(9, 36)));
         let frame = notice(8, OWN, 65_535, &quiet(1, 0, 0, 65_534));
         assert!(read_frame(&frame, OWN, AP, 65_535).is_ok());
         let frame = notice(8, OWN, 65_535, &quiet(1, 0, 0, 65_535));
-        assert_eq!(read_frame(&frame, OWN, AP, 65_535), Err(9));
+        assert_eq!(read_frame(&frame, OWN, AP, 65_535), Err(Refusal::at(9, 36)));
     }
 
     #[test]
@@ -354,12 +368,12 @@ mod tests {
         );
         assert_eq!(of_body(&[0, 2, 7, 34]), 6);
         assert_eq!(of_body(&[0, 2, 7, 35]), 6);
-        assert_eq!(of_body(&[0, 2, 7, 35, 9]), 7);
+        assert_eq!(of_body(&[0, 2, 7, 35, 9]), 21);
         assert_eq!(of_body(&[0, 2, 7, 34, 1]), 6);
         assert_eq!(of_body(&[0, 2, 7, 34, 1, 0]), 8);
-        assert_eq!(of_body(&[0, 2, 7, 34, 0, 0]), 7);
+        assert_eq!(of_body(&[0, 2, 7, 34, 0, 0]), 22);
         // Another element before the right one is not skipped.
-        assert_eq!(of_body(&[0, 2, 7, 0, 0, 34, 0]), 7);
+        assert_eq!(of_body(&[0, 2, 7, 0, 0, 34, 0]), 21);
         assert_eq!(
             read(&action(ALL, &[0, 3, 0, 35, 2, 0x80, 0x7F])),
             Ok(Received {
@@ -373,7 +387,7 @@ mod tests {
         );
         assert_eq!(of_body(&[0, 3, 0, 35, 2, 0]), 6);
         assert_eq!(of_body(&[0, 3, 0, 35, 1, 0]), 8);
-        assert_eq!(of_body(&[0, 3, 0, 35, 2, 0, 0, 35]), 7);
+        assert_eq!(of_body(&[0, 3, 0, 35, 2, 0, 0, 35]), 22);
     }
 
     #[test]
@@ -390,10 +404,10 @@ mod tests {
         assert_eq!(of_body(&[0, 4, 37, 3, 2, 200, 0]), 9);
         // The value comes before the left-over octet.
         assert_eq!(of_body(&[0, 4, 37, 3, 2, 200, 0, 0]), 9);
-        assert_eq!(of_body(&[0, 4, 37, 3, 1, 200, 0, 0]), 7);
+        assert_eq!(of_body(&[0, 4, 37, 3, 1, 200, 0, 0]), 22);
         assert_eq!(of_body(&[0, 4, 37, 2, 1, 200]), 8);
         assert_eq!(of_body(&[0, 4, 37, 3, 1, 200]), 6);
-        assert_eq!(of_body(&[0, 4, 38, 3, 1, 200]), 7);
+        assert_eq!(of_body(&[0, 4, 38, 3, 1, 200]), 21);
     }
 
     #[test]
@@ -428,7 +442,7 @@ mod tests {
         // Request and Report are reserved with a type over 2.
         let reserved = [0, 0, 5, 38, 3, 1, 2 | 4 | 8, 3];
         assert_eq!(
-            read(&action(OWN, &reserved)).and_then(|received| received.frame.request(0)),
+            read(&action(OWN, &reserved)).unwrap().frame.request(0),
             Ok(Request {
                 token: 1,
                 kind: 3,
@@ -446,7 +460,7 @@ mod tests {
         };
         assert_eq!(with(&[38]), 6);
         assert_eq!(with(&[39]), 6);
-        assert_eq!(with(&[39, 0]), 7);
+        assert_eq!(with(&[39, 0]), 21);
         assert_eq!(with(&[38, 3]), 6);
         assert_eq!(with(&[38, 2, 3, 2]), 8);
         assert_eq!(with(&[38, 3, 0, 2, 0]), 9);
@@ -501,7 +515,7 @@ mod tests {
         );
         assert_eq!(of_body(&[0, 1, 0, 39, 3, 0, 3, 9]), 9);
         assert_eq!(of_body(&[0, 1, 0, 39, 2, 0, 3]), 8);
-        assert_eq!(of_body(&[0, 1, 0, 38, 3, 1, 2, 0]), 7);
+        assert_eq!(of_body(&[0, 1, 0, 38, 3, 1, 2, 0]), 21);
     }
 
     #[test]
@@ -514,6 +528,452 @@ mod tests {
         frame.resize(2337, 0);
         assert_eq!(refusal(&frame), 2);
         assert_eq!(refusal(&frame[..23]), 1);
+    }
+
+    const ACCEPTED: (u8, Option<usize>) = (0, None);
+
+    /// A refusal with its place.
+    fn at(number: u8, offset: usize) -> (u8, Option<usize>) {
+        (number, Some(offset))
+    }
+
+    /// Each body with the fault it has in an Action frame.
+    fn check_bodies(cases: &[(&[u8], (u8, Option<usize>))]) {
+        for (body, expected) in cases {
+            assert_eq!(fault(&action(OWN, body)), *expected, "{:?}", body);
+            assert_eq!(fault(&action(ALL, body)), *expected, "{:?}", body);
+        }
+    }
+
+    /// Each run of elements with the fault it has in a beacon and in a probe
+    /// response.
+    fn check_elements(cases: &[(&[u8], (u8, Option<usize>))]) {
+        for (elements, expected) in cases {
+            let beacon = notice(8, ALL, 100, elements);
+            let response = notice(5, OWN, 100, elements);
+            assert_eq!(fault(&beacon), *expected, "{:?}", elements);
+            assert_eq!(fault(&response), *expected, "{:?}", elements);
+        }
+    }
+
+    #[test]
+    fn no_place_of_1_to_4() {
+        let frame = action(OWN, &[1]);
+        for length in 0..24 {
+            assert_eq!(fault(&frame[..length]), (1, None));
+        }
+        let mut long = frame.clone();
+        long.resize(2337, 0);
+        assert_eq!(fault(&long), (2, None));
+        let mut other = frame.clone();
+        other[1] = 1;
+        assert_eq!(fault(&other), (3, None));
+        let mut other = frame;
+        other[16] ^= 2;
+        assert_eq!(fault(&other), (4, None));
+        // A fixed field of the body is missing: 1 as well.
+        let missing: [&[u8]; 6] = [&[], &[0], &[0, 0], &[0, 1], &[0, 2], &[0, 3]];
+        for body in missing {
+            assert_eq!(fault(&action(OWN, body)), (1, None));
+        }
+        for subtype in [5, 8] {
+            let whole = notice(subtype, OWN, 99, &[]);
+            for length in 24..36 {
+                assert_eq!(fault(&whole[..length]), (1, None));
+            }
+        }
+    }
+
+    #[test]
+    fn the_place_of_5() {
+        for other in 1..=255u8 {
+            check_bodies(&[
+                (&[other], at(5, 24)),
+                (&[other, 5, 0, 0, 0], at(5, 24)),
+                (&[other, 2, 7, 34, 0], at(5, 24)),
+            ]);
+        }
+        for other in 5..=255u8 {
+            check_bodies(&[(&[0, other], at(5, 25)), (&[0, other, 0, 0], at(5, 25))]);
+        }
+        check_bodies(&[
+            (&[0], (1, None)),
+            (&[0, 3], (1, None)),
+            (&[0, 4], at(7, 26)),
+        ]);
+    }
+
+    #[test]
+    fn the_place_of_6() {
+        // Half a header, half contents, and whole; of each action.
+        check_bodies(&[
+            (&[0, 2, 7, 34], at(6, 27)),
+            (&[0, 2, 7, 34, 1], at(6, 27)),
+            (&[0, 2, 7, 34, 0], ACCEPTED),
+            (&[0, 3, 7, 35], at(6, 27)),
+            (&[0, 3, 7, 35, 2, 0], at(6, 27)),
+            (&[0, 3, 7, 35, 2, 0, 0], ACCEPTED),
+            (&[0, 4, 37], at(6, 26)),
+            (&[0, 4, 37, 3], at(6, 26)),
+            (&[0, 4, 37, 3, 0, 36], at(6, 26)),
+            (&[0, 4, 37, 3, 0, 36, 0], ACCEPTED),
+            (&[0, 0, 5, 38], at(6, 27)),
+            (&[0, 0, 5, 38, 3, 1, 2], at(6, 27)),
+            (&[0, 0, 5, 38, 3, 1, 2, 0], ACCEPTED),
+            (&[0, 1, 0, 39], at(6, 27)),
+            (&[0, 1, 0, 39, 3, 0, 1], at(6, 27)),
+            (&[0, 1, 0, 39, 3, 0, 1, 9], ACCEPTED),
+        ]);
+        // Half a header is 6 whatever its ID.
+        check_bodies(&[
+            (&[0, 2, 7, 35], at(6, 27)),
+            (&[0, 4, 0], at(6, 26)),
+            (&[0, 0, 5, 39], at(6, 27)),
+        ]);
+        // A further element.
+        check_bodies(&[
+            (&[0, 0, 5, 38, 3, 1, 2, 0, 38], at(6, 32)),
+            (&[0, 0, 5, 38, 3, 1, 2, 0, 39], at(6, 32)),
+            (&[0, 0, 5, 38, 3, 1, 2, 0, 38, 3], at(6, 32)),
+            (&[0, 0, 5, 38, 3, 1, 2, 0, 38, 3, 2, 2], at(6, 32)),
+            (&[0, 0, 5, 38, 3, 1, 2, 0, 38, 3, 2, 2, 0], ACCEPTED),
+            (&[0, 1, 0, 39, 3, 0, 1, 9, 39], at(6, 32)),
+            (&[0, 1, 0, 39, 3, 0, 1, 9, 39, 3, 0, 1], at(6, 32)),
+            (&[0, 1, 0, 39, 3, 0, 1, 9, 39, 3, 0, 1, 9], ACCEPTED),
+            (&[0, 1, 0, 39, 3, 0, 1, 9, 39, 3, 0, 1, 9, 0], at(6, 37)),
+        ]);
+        check_elements(&[
+            (&[], ACCEPTED),
+            (&[0], at(6, 36)),
+            (&[0, 0], ACCEPTED),
+            (&[0, 1], at(6, 36)),
+            (&[0, 1, 7], ACCEPTED),
+            (&[0, 1, 7, 40], at(6, 39)),
+            (&[0, 1, 7, 40, 6], at(6, 39)),
+            (&[0, 1, 7, 40, 6, 1, 0, 0, 0, 0], at(6, 39)),
+            (&[0, 1, 7, 40, 6, 1, 0, 0, 0, 0, 0], ACCEPTED),
+            (&[32, 1], at(6, 36)),
+            (&[32, 1, 3], ACCEPTED),
+        ]);
+    }
+
+    #[test]
+    fn the_place_of_7_is_the_length() {
+        check_bodies(&[
+            (&[0, 0, 1], at(7, 27)),
+            (&[0, 1, 0], at(7, 27)),
+            (&[0, 2, 1], at(7, 27)),
+            (&[0, 3, 0], at(7, 27)),
+            (&[0, 4], at(7, 26)),
+            // One octet less, and one more.
+            (&[0, 0], (1, None)),
+            (&[0, 0, 1, 38], at(6, 27)),
+            (&[0, 4, 37], at(6, 26)),
+        ]);
+        assert_eq!(action(OWN, &[0, 4]).len(), 26);
+        // After an element, nothing is absent.
+        check_bodies(&[
+            (&[0, 0, 1, 38, 3, 1, 2, 0], ACCEPTED),
+            (&[0, 1, 0, 39, 3, 0, 1, 9], ACCEPTED),
+        ]);
+    }
+
+    #[test]
+    fn the_place_of_8() {
+        check_bodies(&[
+            (&[0, 2, 7, 34, 0], ACCEPTED),
+            (&[0, 2, 7, 34, 1, 0], at(8, 27)),
+            (&[0, 3, 7, 35, 1, 0], at(8, 27)),
+            (&[0, 3, 7, 35, 2, 0, 0], ACCEPTED),
+            (&[0, 3, 7, 35, 3, 0, 0, 0], at(8, 27)),
+            (&[0, 4, 37, 2, 0, 36], at(8, 26)),
+            (&[0, 4, 37, 3, 0, 36, 0], ACCEPTED),
+            (&[0, 4, 37, 4, 0, 36, 0, 0], at(8, 26)),
+            (&[0, 0, 5, 38, 2, 1, 2], at(8, 27)),
+            (&[0, 0, 5, 38, 3, 1, 2, 0], ACCEPTED),
+            (&[0, 0, 5, 38, 4, 1, 2, 0, 0], at(8, 27)),
+            (&[0, 0, 5, 38, 3, 1, 2, 0, 38, 0], at(8, 32)),
+            (&[0, 0, 5, 38, 3, 1, 2, 0, 38, 4, 2, 2, 0, 0], at(8, 32)),
+            (&[0, 1, 0, 39, 2, 0, 1], at(8, 27)),
+            (&[0, 1, 0, 39, 4, 0, 1, 9, 0], at(8, 27)),
+            (&[0, 1, 0, 39, 3, 0, 1, 9, 39, 2, 0, 1], at(8, 32)),
+        ]);
+        check_elements(&[
+            (&[32, 0], at(8, 36)),
+            (&[32, 1, 3], ACCEPTED),
+            (&[32, 2, 3, 3], at(8, 36)),
+            (&[0, 0, 35, 1, 0], at(8, 38)),
+            (&[0, 0, 35, 3, 0, 0, 0], at(8, 38)),
+            (&[32, 1, 3, 0, 0, 37, 2, 1, 44], at(8, 41)),
+            (&[32, 1, 3, 0, 0, 37, 3, 1, 44, 1], ACCEPTED),
+            (&[32, 1, 3, 0, 0, 37, 4, 1, 44, 1, 1], at(8, 41)),
+            (&[0, 0, 40, 5, 1, 0, 0, 0, 0], at(8, 38)),
+            (&[0, 0, 40, 7, 1, 0, 0, 0, 0, 0, 0], at(8, 38)),
+        ]);
+    }
+
+    #[test]
+    fn the_place_of_9() {
+        // Of a dialog token it is the token, whatever follows.
+        check_bodies(&[
+            (&[0, 0, 0], at(9, 26)),
+            (&[0, 0, 1], at(7, 27)),
+            (&[0, 0, 0, 38, 3, 0, 2, 0], at(9, 26)),
+            (&[0, 2, 0], at(9, 26)),
+            (&[0, 2, 0, 35, 0], at(9, 26)),
+            (&[0, 2, 0, 34, 0, 0], at(9, 26)),
+            (&[0, 2, 1, 34, 0], ACCEPTED),
+            (&[0, 1, 0, 39, 3, 0, 1, 9], ACCEPTED),
+            (&[0, 3, 0, 35, 2, 0, 0], ACCEPTED),
+        ]);
+        // Of an element it is the ID octet, wherever the value stands.
+        check_bodies(&[
+            (&[0, 4, 37, 3, 1, 200, 0], ACCEPTED),
+            (&[0, 4, 37, 3, 2, 200, 0], at(9, 26)),
+            (&[0, 4, 37, 3, 1, 201, 0], at(9, 26)),
+            (&[0, 4, 37, 3, 1, 201, 0, 0], at(9, 26)),
+            (&[0, 0, 5, 38, 3, 0, 2, 0], at(9, 27)),
+            (&[0, 0, 5, 38, 3, 1, 2, 0, 38, 3, 0, 2, 0], at(9, 32)),
+            (&[0, 1, 0, 39, 3, 0, 3, 9], at(9, 27)),
+            (&[0, 1, 0, 39, 3, 0, 4, 9], ACCEPTED),
+            (&[0, 1, 0, 39, 3, 0, 4, 9, 39, 3, 0, 5, 9], at(9, 32)),
+        ]);
+        let measured = |channel| {
+            let first = [0, 0, 5, 38, 3, 1, 2, 0];
+            [&first[..], &measure(2, 0, channel, 0, 1)].concat()
+        };
+        check_bodies(&[(&measured(200), ACCEPTED), (&measured(201), at(9, 32))]);
+        check_elements(&[
+            (&[0, 0, 40, 6, 1, 0, 1, 0, 99, 0], ACCEPTED),
+            (&[0, 0, 40, 6, 1, 0, 1, 0, 100, 0], at(9, 38)),
+            (&[0, 0, 40, 6, 0, 0, 1, 0, 99, 0], at(9, 38)),
+            (&[37, 3, 1, 200, 1], ACCEPTED),
+            (&[37, 3, 1, 201, 1], at(9, 36)),
+            (&[37, 3, 2, 200, 1], at(9, 36)),
+        ]);
+    }
+
+    #[test]
+    fn the_place_of_10_is_the_repeat() {
+        let two = [0, 0, 5, 38, 3, 1, 2, 0, 38, 3, 2, 2, 0];
+        for (token, expected) in [(1, at(10, 37)), (2, at(10, 37)), (3, ACCEPTED)] {
+            let three = [&two[..], &[38, 3, token, 2, 0]].concat();
+            check_bodies(&[(&three, expected)]);
+        }
+        check_bodies(&[
+            (&[0, 0, 5, 38, 3, 1, 2, 0, 38, 3, 1, 2, 0], at(10, 32)),
+            (&[0, 0, 5, 38, 3, 1, 2, 0, 38, 3, 1, 2, 0, 0], at(10, 32)),
+        ]);
+        check_elements(&[
+            (&[32, 1, 3, 32, 1, 3], at(10, 39)),
+            (&[32, 1, 3, 0, 0, 32, 1, 3], at(10, 41)),
+            (&[35, 2, 0, 0, 35, 2, 0, 0], at(10, 40)),
+            (&[37, 3, 0, 36, 1, 37, 3, 0, 36, 1], at(10, 41)),
+            (&[37, 3, 0, 36, 1, 37, 3, 0, 36, 1, 0], at(10, 41)),
+            (&[32, 1, 3, 35, 2, 0, 0, 37, 3, 0, 36, 1], ACCEPTED),
+        ]);
+    }
+
+    #[test]
+    fn the_place_of_11_is_the_ninth() {
+        let one = quiet(1, 0, 1, 0);
+        let eight = one.repeat(8);
+        let nine = one.repeat(9);
+        let ten = one.repeat(10);
+        let later = [&eight[..], &[0, 0], &one].concat();
+        check_elements(&[
+            (&eight, ACCEPTED),
+            (&nine, at(11, 36 + 64)),
+            (&ten, at(11, 36 + 64)),
+            (&later, at(11, 36 + 66)),
+            // A wrong ninth, told at the same place.
+            (&[&eight[..], &[40, 0]].concat(), at(8, 100)),
+            (&[&eight[..], &[40]].concat(), at(6, 100)),
+        ]);
+    }
+
+    #[test]
+    fn the_place_of_12_is_the_interval() {
+        for subtype in [5, 8] {
+            assert_eq!(fault(&notice(subtype, OWN, 100, &[])), ACCEPTED);
+            // Of the high octet alone it is the field's first octet too.
+            for interval in [0, 99, 101, 100 + 256, 65_535] {
+                for elements in [&[][..], &[32], &[32, 0]] {
+                    let frame = notice(subtype, OWN, interval, elements);
+                    assert_eq!(fault(&frame), at(12, 32));
+                }
+            }
+        }
+    }
+
+    #[test]
+    fn the_place_of_21() {
+        for id in 0..=255u8 {
+            // An ID is judged before its contents are found cut.
+            let first = |right| if id == right { at(6, 27) } else { at(21, 27) };
+            let further = |right| if id == right { at(6, 32) } else { at(21, 32) };
+            check_bodies(&[
+                (&[0, 0, 5, id, 9], first(38)),
+                (&[0, 1, 5, id, 9], first(39)),
+                (&[0, 2, 5, id, 9], first(34)),
+                (&[0, 3, 5, id, 9], first(35)),
+                (
+                    &[0, 4, id, 9],
+                    if id == 37 { at(6, 26) } else { at(21, 26) },
+                ),
+                (&[0, 0, 5, 38, 3, 1, 2, 0, id, 9], further(38)),
+                (&[0, 1, 5, 39, 3, 1, 1, 0, id, 9], further(39)),
+            ]);
+        }
+        // Another element is not skipped, and whole it is no better.
+        check_bodies(&[
+            (&[0, 2, 7, 0, 0, 34, 0], at(21, 27)),
+            (&[0, 2, 7, 35, 0], at(21, 27)),
+            (&[0, 0, 5, 38, 3, 1, 2, 0, 39, 0], at(21, 32)),
+        ]);
+    }
+
+    #[test]
+    fn the_place_of_22_is_the_first_left_over() {
+        for octet in 0..=255u8 {
+            check_bodies(&[
+                (&[0, 2, 7, 34, 0, octet], at(22, 29)),
+                (&[0, 2, 7, 34, 0, octet, 0], at(22, 29)),
+                (&[0, 3, 0, 35, 2, 0, 0, octet], at(22, 31)),
+                (&[0, 4, 37, 3, 1, 200, 0, octet], at(22, 31)),
+            ]);
+        }
+        check_bodies(&[
+            (&[0, 2, 7, 34, 0], ACCEPTED),
+            (&[0, 3, 0, 35, 2, 0, 0], ACCEPTED),
+            (&[0, 4, 37, 3, 1, 200, 0], ACCEPTED),
+            (&[0, 4, 37, 3, 1, 200, 0, 37, 3, 1, 200, 0], at(22, 31)),
+        ]);
+        // As much left over as a frame can have, and one octet more.
+        let mut frame = action(OWN, &[0, 2, 7, 34, 0]);
+        frame.resize(2336, 34);
+        assert_eq!(fault(&frame), at(22, 29));
+        frame.push(34);
+        assert_eq!(fault(&frame), (2, None));
+    }
+
+    #[test]
+    fn places_at_the_end_of_the_longest_frame() {
+        // 3 + 460 * 5 + 7 = 2,310 octets of body, 2,334 of frame.
+        let mut body = vec![0, 1, 0];
+        body.extend_from_slice(&[39, 3, 0, 1, 9].repeat(460));
+        body.extend_from_slice(&[39, 5, 0, 0, 3, 1, 1]);
+        let reports = action(OWN, &body);
+        assert_eq!(reports.len(), 2334);
+        assert_eq!(fault(&reports), ACCEPTED);
+        for (more, expected) in [
+            (&[39][..], at(6, 2334)),
+            (&[39, 0], at(8, 2334)),
+            (&[39, 1], at(6, 2334)),
+            (&[38, 0], at(21, 2334)),
+            (&[39, 0, 0], (2, None)),
+        ] {
+            assert_eq!(fault(&[&reports[..], more].concat()), expected);
+        }
+        // With an element of 8 octets for the one of 7, an ID is all that fits.
+        body.truncate(2303);
+        body.extend_from_slice(&[39, 6, 0, 0, 3, 1, 1, 1, 39]);
+        let mut reports = action(OWN, &body);
+        assert_eq!(reports.len(), 2336);
+        assert_eq!(fault(&reports), at(6, 2335));
+        assert_eq!(fault(&reports[..2335]), ACCEPTED);
+        reports.push(3);
+        assert_eq!(fault(&reports), (2, None));
+    }
+
+    #[test]
+    fn places_at_the_end_of_the_longest_notice() {
+        // 8 * 257 + 243 = 2,299 octets of elements, and an ID.
+        let skipped = |length: usize| [vec![0, length as u8], vec![0; length]].concat();
+        let mut elements = skipped(255).repeat(8);
+        elements.append(&mut skipped(241));
+        check_elements(&[(&elements, ACCEPTED)]);
+        elements.push(32);
+        check_elements(&[(&elements, at(6, 2335))]);
+        elements.push(0);
+        check_elements(&[(&elements, (2, None))]);
+        // 3 + 8 * 257 + 238 = 2,297 octets, and three more.
+        let mut elements = vec![32, 1, 3];
+        elements.append(&mut skipped(255).repeat(8));
+        elements.append(&mut skipped(236));
+        for (last, expected) in [
+            ([32, 1, 3], at(10, 2333)),
+            ([32, 2, 3], at(6, 2333)),
+            ([35, 1, 3], at(8, 2333)),
+            ([33, 1, 3], ACCEPTED),
+        ] {
+            check_elements(&[(&[&elements[..], &last].concat(), expected)]);
+        }
+    }
+
+    /// What holds of the place of any refusal.
+    fn check_place(frame: &[u8]) {
+        let (number, offset) = fault(frame);
+        let placed = (5..=12).contains(&number) || number == 21 || number == 22;
+        assert_eq!(offset.is_some(), placed, "{:?}", frame);
+        let place = match offset {
+            None => return,
+            Some(place) => place,
+        };
+        assert!(24 <= place && place <= frame.len());
+        assert_eq!(place == frame.len(), number == 7);
+        if number == 7 {
+            return;
+        }
+        // What stands before the place is whole, or lacks just what is there.
+        let before = fault(&frame[..place]);
+        // The octet at the place is the first of an element or left over.
+        let alone = fault(&frame[..place + 1]);
+        match number {
+            // A fixed field: category, action or interval.
+            5 | 12 => assert_eq!(before, (1, None)),
+            // The dialog token of a request; action 4 has an element there.
+            9 if place == 26 && frame[25] != 4 => assert_eq!(before, (1, None)),
+            22 => {
+                assert_eq!(before, ACCEPTED);
+                assert_eq!(alone, at(22, place));
+            }
+            _ => {
+                assert!(before == ACCEPTED || before == at(7, place));
+                assert_eq!(alone, at(6, place));
+            }
+        }
+    }
+
+    #[test]
+    fn what_stands_before_a_place_is_whole() {
+        // Every short run over a small alphabet, where each thing may stand.
+        let alphabet = [0u8, 1, 2, 3, 34, 37, 38, 39];
+        let fronts: [&[u8]; 7] = [
+            &[],
+            &[0, 0, 5],
+            &[0, 0, 5, 38, 3, 1, 2, 0],
+            &[0, 1, 0],
+            &[0, 1, 0, 39, 3, 0, 1, 9],
+            &[0, 3, 0],
+            &[0, 4],
+        ];
+        for number in 0..8usize.pow(5) {
+            let run: Vec<u8> = (0..5)
+                .map(|place| alphabet[number / 8usize.pow(place) % 8])
+                .collect();
+            for front in fronts {
+                check_place(&action(OWN, &[front, &run].concat()));
+            }
+            check_place(&notice(8, OWN, 100, &run));
+            check_place(&notice(
+                8,
+                OWN,
+                100,
+                &[&[37, 3, 1, 1, 1][..], &run].concat(),
+            ));
+            check_place(&notice(5, OWN, 99, &run));
+        }
     }
 
     #[test]

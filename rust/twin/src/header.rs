@@ -39,8 +39,9 @@ pub(crate) struct Header {
     pub(crate) broadcast: bool,
 }
 
-/// The checks 1 to 4, in this order; gives the header and the body.
-pub(crate) fn read_header(frame: &[u8], own: Address, ap: Address) -> Result<(Header, &[u8]), u8> {
+/// The checks 1 to 4, in this order. The body of a frame that passes them
+/// begins at `HEADER`.
+pub(crate) fn read_header(frame: &[u8], own: Address, ap: Address) -> Result<Header, u8> {
     if frame.len() < HEADER {
         return Err(FRAME_SHORT);
     }
@@ -49,7 +50,7 @@ pub(crate) fn read_header(frame: &[u8], own: Address, ap: Address) -> Result<(He
     }
     let subtype = read_control(frame)?;
     let broadcast = read_addresses(frame, own, ap)?;
-    Ok((Header { subtype, broadcast }, &frame[HEADER..]))
+    Ok(Header { subtype, broadcast })
 }
 
 /// Check 3, on a frame of at least `HEADER` octets.
@@ -171,7 +172,7 @@ mod tests {
         almost[0] = 0xFE;
         assert_eq!(refusal(&header(8, almost)), 4);
         let to_all = header(8, [0xFF; 6]);
-        assert!(read_header(&to_all, OWN, AP).unwrap().0.broadcast);
-        assert!(!read_header(&header(8, OWN), OWN, AP).unwrap().0.broadcast);
+        assert!(read_header(&to_all, OWN, AP).unwrap().broadcast);
+        assert!(!read_header(&header(8, OWN), OWN, AP).unwrap().broadcast);
     }
 }

@@ -1,10 +1,11 @@
 //! A second, independent reading of document 01 ("Scope of the build and its
-//! rules") over IEEE Std 802.11h-2003: elements, action frames, replies, one
-//! non-AP station, and the evening list of a capture.
+//! rules") and of request One in document 02, over IEEE Std 802.11h-2003:
+//! elements, action frames, replies, one non-AP station, and the evening list
+//! of a capture.
 //!
-//! Every refusal is a `u8` of the document's table, see [`answer`]. No
-//! function panics, and a refusal leaves lent buffers and the station as they
-//! were.
+//! Every refusal is a `u8` of the document's table, see [`answer`]; that of a
+//! frame says its place too, see [`Refusal`]. No function panics, and a
+//! refusal leaves lent buffers and the station as they were.
 
 #![forbid(unsafe_code)]
 #![warn(missing_docs)]
@@ -28,6 +29,7 @@ mod sample;
 /// A MAC address, in the order of its octets on the air.
 pub type Address = [u8; 6];
 
+pub use answer::Refusal;
 pub use body::{
     append_measurement_report, append_measurement_request, write_channel_switch_body,
     write_measurement_report_body, write_measurement_request_body, write_tpc_report_body,

@@ -1,14 +1,20 @@
 //! Replies to a TPC Request or a Measurement Request (section "Replies";
-//! 802.11h 11.5.4 and 11.6.6).
+//! 802.11h 11.5.4 and 11.6.6), and the error returns of broken action bodies
+//! (02, One; 802.11h 7.3.1.11).
 
-use crate::answer::{IMPOSSIBLE, NO_REPLY};
+use crate::answer::{
+    ACTION, ANOTHER_ELEMENT, FRAME_SHORT, IMPOSSIBLE, LEFT_OVER, NO_REPLY, REPEATED,
+};
 use crate::body::{measurement_report_body_octets, read_action_body, tpc_report_body_octets};
 use crate::fraction::{busy_fraction, rpi_densities, TU};
 use crate::frame::Frame;
-use crate::header::{read_header, reply_header, Subtype};
+use crate::header::{read_header, reply_header, Subtype, HEADER};
 use crate::measurement::{Asks, Report, Request, Says, BASIC, CCA, RPI};
 use crate::octets::lay;
 use crate::Address;
+
+/// The top bit of a category; from 128 on it is set (802.11h 7.3.1.11).
+const CATEGORY_ERROR: u8 = 128;
 
 /// What the caller found for a measurement.
 #[derive(Clone, Copy, Debug, PartialEq, Eq)]
@@ -23,14 +29,24 @@ pub enum Finding {
     Times([u32; 8]),
 }
 
-/// A request to which a reply is due.
+/// What a reply is due to.
 enum Due {
-    Tpc { token: u8 },
-    Measurement { token: u8, requests: Vec<Request> },
+    Tpc {
+        token: u8,
+    },
+    Measurement {
+        token: u8,
+        requests: Vec<Request>,
+    },
+    /// A broken body; this is what is returned of it.
+    Broken(Vec<u8>),
 }
 
 /// Writes the TPC Report frame that answers `frame` to the front of `out`: 31
 /// octets. Refusals: header (1 to 4), 18, 16, 13.
+///
+/// A broken body gives its error return, whatever the power and margin, of
+/// the frame's own length (02, One). Refusals then: 18, 13.
 pub fn reply_to_tpc_request(
     frame: &[u8],
     own: Address,
@@ -45,12 +61,16 @@ pub fn reply_to_tpc_request(
         }
         // A reply is due, but not this one.
         Due::Measurement { .. } => Err(IMPOSSIBLE),
+        Due::Broken(returned) => lay_reply(own, ap, &returned, out),
     }
 }
 
 /// Writes the Measurement Report frame that answers the element `index` of
 /// `frame` to the front of `out`: 32, 44 or 51 octets. Refusals: header (1 to
 /// 4), 18, 16, 13.
+///
+/// A broken body gives its error return, whatever the index and the finding,
+/// of the frame's own length (02, One). Refusals then: 18, 13.
 pub fn reply_to_measurement_request(
     frame: &[u8],
     own: Address,
@@ -64,6 +84,7 @@ pub fn reply_to_measurement_request(
         Due::Measurement { token, requests } => (token, requests),
         // A reply is due, but not this one.
         Due::Tpc { .. } => return Err(IMPOSSIBLE),
+        Due::Broken(returned) => return lay_reply(own, ap, &returned, out),
     };
     let request = requests.get(index).copied().ok_or(IMPOSSIBLE)?;
     let report = Report {
@@ -79,20 +100,41 @@ pub fn reply_to_measurement_request(
     )
 }
 
-/// The request to reply to. "Due only for accepted Action frames whose DA is
-/// the station. Past check 4, all else is 18, a broken body too."
+/// What to reply to. "Due only for accepted Action frames whose DA is the
+/// station. Past check 4, all else is 18", but for the error returns of
+/// Action frames to the station (02, One).
 fn read_due(frame: &[u8], own: Address, ap: Address) -> Result<Due, u8> {
-    let (header, body) = read_header(frame, own, ap)?;
+    let header = read_header(frame, own, ap)?;
     if header.subtype != Subtype::Action || header.broadcast {
         return Err(NO_REPLY);
     }
-    match read_action_body(body) {
+    match read_action_body(frame, HEADER) {
         Ok(Frame::TpcRequest { token }) => Ok(Due::Tpc { token }),
         Ok(Frame::MeasurementRequest { token, requests }) => {
             Ok(Due::Measurement { token, requests })
         }
-        _ => Err(NO_REPLY),
+        Ok(_) => Err(NO_REPLY),
+        Err(refusal) => {
+            let returned = error_return(&frame[HEADER..], refusal.number)?;
+            Ok(Due::Broken(returned))
+        }
     }
+}
+
+/// The body of an error return: "refused with 1, 5 to 10, 21 or 22, category
+/// present and under 128, the reply is its body with the category's top bit
+/// set and nothing else changed; other broken bodies still give 18".
+fn error_return(body: &[u8], number: u8) -> Result<Vec<u8>, u8> {
+    let listed = matches!(
+        number,
+        FRAME_SHORT | ACTION..=REPEATED | ANOTHER_ELEMENT | LEFT_OVER
+    );
+    if !listed || body.is_empty() || body[0] >= CATEGORY_ERROR {
+        return Err(NO_REPLY);
+    }
+    let mut returned = body.to_vec();
+    returned[0] |= CATEGORY_ERROR;
+    Ok(returned)
 }
 
 /// What the report says: Incapable, else Late, else what the caller found.
@@ -161,6 +203,7 @@ fn lay_reply(own: Address, ap: Address, body: &[u8], out: &mut [u8]) -> Result<u
 #[cfg(test)]
 mod tests {
     use super::*;
+    use crate::read_frame;
     use crate::sample::{action, header, measure, notice, ALL, AP, OWN};
 
     const TPC: [u8; 5] = [0, 2, 7, 34, 0];
@@ -246,16 +289,13 @@ mod tests {
 
     #[test]
     fn no_reply_is_due() {
-        let broken: [&[u8]; 9] = [
+        // Without a category, or with one that has its top bit set.
+        let broken: [&[u8]; 5] = [
             &[],
-            &[1],
-            &[0],
-            &[0, 5],
-            &[0, 2],
-            &[0, 2, 0, 34, 0],
-            &[0, 2, 7, 34, 0, 0],
-            &[0, 0, 7],
-            &[0, 4, 37, 3, 0, 36],
+            &[128],
+            &[255],
+            &[128, 2, 7, 34, 0],
+            &[128, 0, 9, 38, 3, 1, 2, 0],
         ];
         let unasked: [&[u8]; 3] = [
             &[0, 3, 7, 35, 2, 0, 0],
@@ -282,6 +322,240 @@ mod tests {
             reply_to_tpc_request(&frame, ALL, AP, 0, 0, &mut []),
             Err(18)
         );
+    }
+
+    /// Bodies that are refused, with the number, and what is returned of them.
+    const BROKEN: [(u8, &[u8], &[u8]); 23] = [
+        (1, &[0], &[0x80]),
+        (1, &[0, 0], &[0x80, 0]),
+        (1, &[0, 2], &[0x80, 2]),
+        (5, &[1], &[0x81]),
+        (5, &[127, 2, 7, 34, 0], &[0xFF, 2, 7, 34, 0]),
+        (5, &[0, 5], &[0x80, 5]),
+        (5, &[0, 255, 9, 9], &[0x80, 255, 9, 9]),
+        (6, &[0, 2, 7, 34], &[0x80, 2, 7, 34]),
+        (6, &[0, 4, 37, 3, 0, 36], &[0x80, 4, 37, 3, 0, 36]),
+        (7, &[0, 4], &[0x80, 4]),
+        (7, &[0, 0, 7], &[0x80, 0, 7]),
+        (7, &[0, 3, 0], &[0x80, 3, 0]),
+        (8, &[0, 2, 7, 34, 1, 0], &[0x80, 2, 7, 34, 1, 0]),
+        (9, &[0, 2, 0, 34, 0], &[0x80, 2, 0, 34, 0]),
+        (9, &[0, 4, 37, 3, 2, 36, 0], &[0x80, 4, 37, 3, 2, 36, 0]),
+        (9, &[0, 1, 0, 39, 3, 0, 3, 9], &[0x80, 1, 0, 39, 3, 0, 3, 9]),
+        (
+            10,
+            &[0, 0, 9, 38, 3, 1, 2, 0, 38, 3, 1, 2, 0],
+            &[0x80, 0, 9, 38, 3, 1, 2, 0, 38, 3, 1, 2, 0],
+        ),
+        (21, &[0, 2, 7, 35, 0], &[0x80, 2, 7, 35, 0]),
+        (21, &[0, 4, 38, 0], &[0x80, 4, 38, 0]),
+        (
+            21,
+            &[0, 0, 9, 38, 3, 1, 2, 0, 39, 0],
+            &[0x80, 0, 9, 38, 3, 1, 2, 0, 39, 0],
+        ),
+        (22, &[0, 2, 7, 34, 0, 0], &[0x80, 2, 7, 34, 0, 0]),
+        (
+            22,
+            &[0, 3, 0, 35, 2, 0, 0, 35],
+            &[0x80, 3, 0, 35, 2, 0, 0, 35],
+        ),
+        (
+            22,
+            &[0, 4, 37, 3, 1, 200, 0, 0],
+            &[0x80, 4, 37, 3, 1, 200, 0, 0],
+        ),
+    ];
+
+    /// The reply calls, with material of which most fits no request at all.
+    const WAYS: usize = 5;
+
+    fn reply_by(way: usize, frame: &[u8], own: Address, out: &mut [u8]) -> Result<usize, u8> {
+        let (clock, index, finding) = match way {
+            0 => return reply_to_tpc_request(frame, own, AP, -3, 20, out),
+            1 => (0, 0, Finding::Refused),
+            2 => (7, 1, Finding::Busy(u32::MAX)),
+            3 => (u32::MAX, usize::MAX, Finding::Map(0xFF)),
+            _ => (u32::MAX, 0, Finding::Times([u32::MAX; 8])),
+        };
+        reply_to_measurement_request(frame, own, AP, clock, index, finding, out)
+    }
+
+    /// What is returned of a frame with a broken body, or the refusal; by all
+    /// reply calls alike.
+    fn returned(frame: &[u8]) -> Result<Vec<u8>, u8> {
+        let mut answers = Vec::new();
+        for way in 0..WAYS {
+            let mut out = vec![0xEE; 2400];
+            let answer = reply_by(way, frame, OWN, &mut out);
+            answers.push(match answer {
+                Ok(length) => {
+                    // Octets past the reply stay, and one octet less is 13.
+                    assert_eq!(length, frame.len());
+                    assert!(out[length..].iter().all(|&octet| octet == 0xEE));
+                    let mut just = vec![0xEE; length];
+                    assert_eq!(reply_by(way, frame, OWN, &mut just), Ok(length));
+                    assert_eq!(just, out[..length]);
+                    let mut short = vec![0xEE; length - 1];
+                    assert_eq!(reply_by(way, frame, OWN, &mut short), Err(13));
+                    assert!(short.iter().all(|&octet| octet == 0xEE));
+                    assert_eq!(reply_by(way, frame, OWN, &mut []), Err(13));
+                    // The header of a reply.
+                    assert_eq!(out[..4], [0xD0, 0, 0, 0]);
+                    assert_eq!(out[4..10], AP);
+                    assert_eq!(out[10..16], OWN);
+                    assert_eq!(out[16..22], AP);
+                    assert_eq!(out[22..24], [0, 0]);
+                    Ok(out[24..length].to_vec())
+                }
+                Err(refusal) => {
+                    assert!(out.iter().all(|&octet| octet == 0xEE));
+                    // No other refusal comes before it.
+                    assert_eq!(reply_by(way, frame, OWN, &mut []), Err(refusal));
+                    Err(refusal)
+                }
+            });
+        }
+        assert!(answers.iter().all(|answer| *answer == answers[0]));
+        answers[0].clone()
+    }
+
+    #[test]
+    fn error_returns_of_each_number() {
+        for (number, body, expected) in BROKEN {
+            let mut frame = action(OWN, body);
+            let refused = read_frame(&frame, OWN, AP, 100).map_err(|refusal| refusal.number);
+            assert_eq!(refused, Err(number), "{:?}", body);
+            assert_eq!(returned(&frame), Ok(expected.to_vec()));
+            // Flags, duration and sequence number are not kept.
+            frame[1] = 0b1011_1000;
+            frame[2] = 0xAA;
+            frame[22] = 0xF0;
+            frame[23] = 0x12;
+            assert_eq!(returned(&frame), Ok(expected.to_vec()));
+        }
+    }
+
+    #[test]
+    fn no_error_return_to_all_ones() {
+        for (_, body, _) in BROKEN {
+            let frame = action(ALL, body);
+            assert_eq!(returned(&frame), Err(18));
+            // Also for a caller who gives all ones as its own address.
+            for way in 0..WAYS {
+                let mut out = [0xEE; 60];
+                assert_eq!(reply_by(way, &frame, ALL, &mut out), Err(18));
+                assert_eq!(out, [0xEE; 60]);
+            }
+        }
+    }
+
+    #[test]
+    fn error_returns_of_each_category() {
+        for category in 0..=255u8 {
+            // The body of one octet: 1 for category 0, else 5.
+            let answer = returned(&action(OWN, &[category]));
+            if category < 128 {
+                assert_eq!(answer, Ok(vec![category + 128]));
+            } else {
+                assert_eq!(answer, Err(18));
+            }
+            let answer = returned(&action(OWN, &[category, 2, 7, 34, 0, 0]));
+            if category < 128 {
+                assert_eq!(answer, Ok(vec![category + 128, 2, 7, 34, 0, 0]));
+            } else {
+                assert_eq!(answer, Err(18));
+            }
+        }
+        // No category, no return.
+        assert_eq!(returned(&action(OWN, &[])), Err(18));
+    }
+
+    #[test]
+    fn error_returns_of_the_longest_body() {
+        let mut body = vec![0, 2, 7, 34, 0];
+        body.resize(2312, 0xA5);
+        for (category, expected) in [(0, 0x80), (1, 0x81), (127, 0xFF)] {
+            body[0] = category;
+            let mut whole = body.clone();
+            whole[0] = expected;
+            assert_eq!(returned(&action(OWN, &body)), Ok(whole));
+        }
+        for category in [128, 255] {
+            body[0] = category;
+            assert_eq!(returned(&action(OWN, &body)), Err(18));
+        }
+        // One octet more is a frame that is too long.
+        body[0] = 0;
+        body.push(0xA5);
+        assert_eq!(returned(&action(OWN, &body)), Err(2));
+    }
+
+    #[test]
+    fn the_header_comes_before_an_error_return() {
+        for (_, body, _) in BROKEN {
+            let frame = action(OWN, body);
+            assert_eq!(returned(&frame[..23]), Err(1));
+            let mut other = frame.clone();
+            other[1] = 0x40;
+            assert_eq!(returned(&other), Err(3));
+            let mut other = frame.clone();
+            other[16] ^= 2;
+            assert_eq!(returned(&other), Err(4));
+            let mut other = frame;
+            other[9] ^= 2;
+            assert_eq!(returned(&other), Err(4));
+        }
+    }
+
+    #[test]
+    fn a_broken_notice_is_not_returned() {
+        let nine = [40, 6, 1, 0, 1, 0, 0, 0].repeat(9);
+        for subtype in [5, 8] {
+            for elements in [
+                &[32][..],
+                &[32, 0],
+                &[37, 3, 2, 36, 0],
+                &[32, 1, 3, 32, 1, 3],
+                &nine,
+            ] {
+                assert_eq!(returned(&notice(subtype, OWN, 100, elements)), Err(18));
+                assert_eq!(returned(&notice(subtype, OWN, 99, elements)), Err(18));
+            }
+            assert_eq!(returned(&notice(subtype, OWN, 100, &[])[..35]), Err(18));
+        }
+    }
+
+    #[test]
+    fn an_error_return_is_not_returned_again() {
+        for (_, body, expected) in BROKEN {
+            let frame = action(OWN, body);
+            let mut out = vec![0; frame.len()];
+            assert_eq!(reply_by(0, &frame, OWN, &mut out), Ok(frame.len()));
+            assert_eq!(out[24..], expected[..]);
+            // The same from the AP to the station.
+            out[4..10].copy_from_slice(&OWN);
+            out[10..16].copy_from_slice(&AP);
+            assert_eq!(returned(&out), Err(18));
+        }
+    }
+
+    #[test]
+    fn a_whole_body_is_not_returned() {
+        // Each stands beside broken bodies: its own reply, 16 or 18.
+        let mut out = [0xEE; 60];
+        assert_eq!(reply_by(0, &action(OWN, &TPC), OWN, &mut out), Ok(31));
+        assert_eq!(out[24..28], [0, 3, 7, 35]);
+        for way in 1..WAYS {
+            assert_eq!(reply_by(way, &action(OWN, &TPC), OWN, &mut []), Err(16));
+        }
+        for body in [
+            &[0, 3, 0, 35, 2, 0, 0][..],
+            &[0, 1, 0, 39, 3, 0, 4, 9],
+            &[0, 4, 37, 3, 1, 200, 0],
+        ] {
+            assert_eq!(returned(&action(OWN, body)), Err(18));
+        }
     }
 
     #[test]

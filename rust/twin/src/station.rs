@@ -7,7 +7,7 @@
 //! which beacon's schedules count, and which units those make quiet.
 
 use crate::answer::{
-    ACCEPTED, ASK_GRANTED, ASK_LENGTH, ASK_QUIET_AHEAD, ASK_QUIET_NOW, ASK_SILENCED,
+    Refusal, ACCEPTED, ASK_GRANTED, ASK_LENGTH, ASK_QUIET_AHEAD, ASK_QUIET_NOW, ASK_SILENCED,
     ASK_SWITCH_AHEAD, CLOCK, START,
 };
 use crate::element::{is_channel, Quiet, Switch};
@@ -93,18 +93,15 @@ impl Station {
         })
     }
 
-    /// Takes a frame: 0, or the refusal of `read_frame` and nothing changed.
-    pub fn take(&mut self, frame: &[u8]) -> u8 {
-        match read_frame(frame, self.own, self.ap, self.interval) {
-            Err(refusal) => refusal,
-            Ok(received) => {
-                if let Some(accepted) = self.said(received.frame) {
-                    self.forget_before(&accepted);
-                    self.history.push(accepted);
-                }
-                ACCEPTED
-            }
+    /// Takes a frame: accepted (0), or the refusal of `read_frame`, with its
+    /// place, and nothing changed.
+    pub fn take(&mut self, frame: &[u8]) -> Result<(), Refusal> {
+        let received = read_frame(frame, self.own, self.ap, self.interval)?;
+        if let Some(accepted) = self.said(received.frame) {
+            self.forget_before(&accepted);
+            self.history.push(accepted);
         }
+        Ok(())
     }
 
     /// Advances the clock by `n` TU. Over 65,535, or past the limit: 14.
@@ -434,7 +431,7 @@ mod tests {
     fn quieted(period: u8) -> Station {
         let mut station = fresh();
         go(&mut station, 50);
-        assert_eq!(station.take(&beacon(&quiet(1, period, 10, 20))), 0);
+        assert_eq!(station.take(&beacon(&quiet(1, period, 10, 20))), Ok(()));
         station
     }
 
@@ -481,12 +478,12 @@ mod tests {
         assert_eq!(station.ask(65_536), 5);
         assert_eq!(station.ask(u32::MAX), 5);
         // 5 comes before 1.
-        assert_eq!(station.take(&announcement(1, 44, 1)), 0);
+        assert_eq!(station.take(&announcement(1, 44, 1)), Ok(()));
         assert_eq!(station.ask(0), 5);
         assert_eq!(station.ask(1), 1);
         // Units past the clock's limit are covered as well.
         station.clock = u32::MAX;
-        assert_eq!(station.take(&announcement(0, 44, 255)), 0);
+        assert_eq!(station.take(&announcement(0, 44, 255)), Ok(()));
         assert_eq!(station.ask(1), 0);
         assert_eq!(station.ask(65_535), 4);
     }
@@ -536,7 +533,7 @@ mod tests {
     fn a_beacon_without_quiet_ends_schedules() {
         let mut station = quieted(2);
         go(&mut station, 110);
-        assert_eq!(station.take(&beacon(&[])), 0);
+        assert_eq!(station.take(&beacon(&[])), Ok(()));
         go(&mut station, 120);
         assert_eq!(station.ask(1), 0);
         assert_eq!(station.ask(65_535), 0);
@@ -544,14 +541,14 @@ mod tests {
         let mut station = quieted(0);
         go(&mut station, 125);
         assert_eq!(station.ask(1), 2);
-        assert_eq!(station.take(&notice(5, OWN, 100, &[])), 0);
+        assert_eq!(station.take(&notice(5, OWN, 100, &[])), Ok(()));
         assert_eq!(station.ask(1), 0);
     }
 
     #[test]
     fn a_switch_before_the_quiet_run() {
         let mut station = quieted(0);
-        assert_eq!(station.take(&announcement(0, 44, 1)), 0);
+        assert_eq!(station.take(&announcement(0, 44, 1)), Ok(()));
         go(&mut station, 90);
         assert_eq!(station.ask(50), 4);
         assert_eq!(station.ask(10), 0);
@@ -565,7 +562,7 @@ mod tests {
     #[test]
     fn a_quiet_run_before_the_switch() {
         let mut station = quieted(0);
-        assert_eq!(station.take(&announcement(0, 44, 2)), 0);
+        assert_eq!(station.take(&announcement(0, 44, 2)), Ok(()));
         go(&mut station, 119);
         assert_eq!(station.ask(1), 0);
         assert_eq!(station.ask(2), 3);
@@ -579,7 +576,7 @@ mod tests {
     fn mode_0_switch_on_both_sides() {
         let mut station = fresh();
         go(&mut station, 50);
-        assert_eq!(station.take(&announcement(0, 44, 1)), 0);
+        assert_eq!(station.take(&announcement(0, 44, 1)), Ok(()));
         go(&mut station, 99);
         assert_eq!(station.ask(1), 0);
         assert_eq!(station.ask(2), 4);
@@ -594,14 +591,14 @@ mod tests {
         // Accepted on a TBTT, count 1 is the next one.
         let mut station = fresh();
         go(&mut station, 100);
-        assert_eq!(station.take(&announcement(1, 44, 1)), 0);
+        assert_eq!(station.take(&announcement(1, 44, 1)), Ok(()));
         go(&mut station, 199);
         assert_eq!((station.ask(1), station.channel()), (1, 36));
         go(&mut station, 200);
         assert_eq!((station.ask(1), station.channel()), (0, 44));
         // One unit before a TBTT, that TBTT is count 1.
         go(&mut station, 299);
-        assert_eq!(station.take(&announcement(1, 48, 1)), 0);
+        assert_eq!(station.take(&announcement(1, 48, 1)), Ok(()));
         assert_eq!(station.ask(1), 1);
         go(&mut station, 300);
         assert_eq!((station.ask(1), station.channel()), (0, 48));
@@ -610,19 +607,19 @@ mod tests {
     #[test]
     fn announcements_replace_each_other() {
         let mut station = fresh();
-        assert_eq!(station.take(&announcement(1, 44, 1)), 0);
+        assert_eq!(station.take(&announcement(1, 44, 1)), Ok(()));
         assert_eq!(station.ask(1), 1);
-        assert_eq!(station.take(&announcement(0, 48, 3)), 0);
+        assert_eq!(station.take(&announcement(0, 48, 3)), Ok(()));
         assert_eq!(station.ask(1), 0);
         go(&mut station, 100);
         assert_eq!(station.channel(), 36);
         go(&mut station, 300);
         assert_eq!(station.channel(), 48);
         // At the moment itself the switch was first.
-        assert_eq!(station.take(&announcement(0, 52, 1)), 0);
+        assert_eq!(station.take(&announcement(0, 52, 1)), Ok(()));
         assert_eq!(station.channel(), 48);
         go(&mut station, 400);
-        assert_eq!(station.take(&announcement(0, 56, 0)), 0);
+        assert_eq!(station.take(&announcement(0, 56, 0)), Ok(()));
         assert_eq!(station.channel(), 56);
         assert_eq!(station.ask(65_535), 0);
     }
@@ -632,20 +629,20 @@ mod tests {
         let mut station = quieted(0);
         go(&mut station, 120);
         assert_eq!(station.ask(1), 2);
-        assert_eq!(station.take(&announcement(1, 44, 0)), 0);
+        assert_eq!(station.take(&announcement(1, 44, 0)), Ok(()));
         assert_eq!((station.ask(65_535), station.channel()), (0, 44));
         // It replaces a pending switch, and a beacon comes after it.
-        assert_eq!(station.take(&announcement(1, 48, 3)), 0);
-        assert_eq!(station.take(&announcement(0, 52, 0)), 0);
+        assert_eq!(station.take(&announcement(1, 48, 3)), Ok(()));
+        assert_eq!(station.take(&announcement(0, 52, 0)), Ok(()));
         assert_eq!(
             station.take(&beacon(&[&quiet(1, 0, 1, 0)[..], &[32, 1, 3]].concat())),
-            0
+            Ok(())
         );
         assert_eq!((station.channel(), station.constraint()), (52, Some(3)));
         assert_eq!((station.ask(80), station.ask(81)), (0, 3));
         // In one frame it comes after Quiet and constraint.
         let elements = [&[37, 3, 0, 56, 0, 32, 1, 9][..], &quiet(1, 0, 1, 0)].concat();
-        assert_eq!(station.take(&beacon(&elements)), 0);
+        assert_eq!(station.take(&beacon(&elements)), Ok(()));
         assert_eq!((station.channel(), station.constraint()), (56, None));
         assert_eq!(station.ask(65_535), 0);
     }
@@ -653,18 +650,18 @@ mod tests {
     #[test]
     fn constraints() {
         let mut station = fresh();
-        assert_eq!(station.take(&beacon(&[32, 1, 3])), 0);
+        assert_eq!(station.take(&beacon(&[32, 1, 3])), Ok(()));
         assert_eq!(station.constraint(), Some(3));
         // A beacon without one leaves it.
-        assert_eq!(station.take(&beacon(&[])), 0);
+        assert_eq!(station.take(&beacon(&[])), Ok(()));
         assert_eq!(station.constraint(), Some(3));
-        assert_eq!(station.take(&beacon(&[32, 1, 0, 37, 3, 0, 44, 1])), 0);
+        assert_eq!(station.take(&beacon(&[32, 1, 0, 37, 3, 0, 44, 1])), Ok(()));
         assert_eq!(station.constraint(), Some(0));
         go(&mut station, 99);
         assert_eq!(station.constraint(), Some(0));
         go(&mut station, 100);
         assert_eq!(station.constraint(), None);
-        assert_eq!(station.take(&beacon(&[32, 1, 7])), 0);
+        assert_eq!(station.take(&beacon(&[32, 1, 7])), Ok(()));
         assert_eq!(station.constraint(), Some(7));
         go(&mut station, 200);
         assert_eq!(station.constraint(), Some(7));
@@ -673,8 +670,8 @@ mod tests {
     #[test]
     fn a_beacon_leaves_a_pending_switch() {
         let mut station = fresh();
-        assert_eq!(station.take(&announcement(1, 44, 1)), 0);
-        assert_eq!(station.take(&beacon(&quiet(1, 0, 10, 0))), 0);
+        assert_eq!(station.take(&announcement(1, 44, 1)), Ok(()));
+        assert_eq!(station.take(&beacon(&quiet(1, 0, 10, 0))), Ok(()));
         assert_eq!(station.ask(1), 1);
         go(&mut station, 100);
         assert_eq!((station.ask(65_535), station.channel()), (0, 44));
@@ -687,7 +684,7 @@ mod tests {
             elements.extend_from_slice(&quiet(1, 0, 1, 10 * u16::from(place)));
         }
         let mut station = fresh();
-        assert_eq!(station.take(&beacon(&elements)), 0);
+        assert_eq!(station.take(&beacon(&elements)), Ok(()));
         for moment in 0..=200u32 {
             let mut then = station.clone();
             go(&mut then, moment);
@@ -697,28 +694,49 @@ mod tests {
         // A ninth is refused and the eight stay.
         elements.extend_from_slice(&quiet(1, 0, 1, 99));
         let before = station.clone();
-        assert_eq!(station.take(&beacon(&elements)), 11);
+        // It stands after the fixed fields and eight elements of 8 octets.
+        let ninth = Refusal {
+            number: 11,
+            offset: Some(36 + 64),
+        };
+        assert_eq!(station.take(&beacon(&elements)), Err(ninth));
         assert_eq!(station, before);
     }
 
     #[test]
     fn refusals_and_other_action_frames_change_nothing() {
         let mut station = quieted(2);
-        assert_eq!(station.take(&announcement(0, 44, 2)), 0);
+        assert_eq!(station.take(&announcement(0, 44, 2)), Ok(()));
         let before = station.clone();
-        for (frame, answer) in [
-            (announcement(0, 48, 0)[..23].to_vec(), 1),
-            (vec![0; 2337], 2),
-            (vec![0; 24], 3),
-            (announcement(2, 48, 0), 9),
-            (announcement(0, 201, 0), 9),
-            (notice(8, OWN, 99, &[]), 12),
-            (action(OWN, &[0, 2, 7, 34, 0]), 0),
-            (action(OWN, &[0, 3, 7, 35, 2, 0, 0]), 0),
-            (action(OWN, &[0, 0, 7, 38, 3, 1, 2, 0]), 0),
-            (action(OWN, &[0, 1, 7, 39, 3, 1, 1, 0]), 0),
+        for (frame, number, offset) in [
+            (announcement(0, 48, 0)[..23].to_vec(), 1, None),
+            (vec![0; 2337], 2, None),
+            (vec![0; 24], 3, None),
+            (action(AP, &[0, 4, 37, 3, 0, 48, 0]), 4, None),
+            (announcement(0, 48, 0)[..25].to_vec(), 1, None),
+            (action(OWN, &[1]), 5, Some(24)),
+            (action(OWN, &[0, 5]), 5, Some(25)),
+            (announcement(0, 48, 0)[..30].to_vec(), 6, Some(26)),
+            (announcement(0, 48, 0)[..26].to_vec(), 7, Some(26)),
+            (action(OWN, &[0, 4, 37, 2, 0, 48]), 8, Some(26)),
+            (announcement(2, 48, 0), 9, Some(26)),
+            (announcement(0, 201, 0), 9, Some(26)),
+            (beacon(&[32, 1, 3, 32, 1, 3]), 10, Some(39)),
+            (notice(8, OWN, 99, &[]), 12, Some(32)),
+            (action(OWN, &[0, 4, 38, 3, 0, 48, 0]), 21, Some(26)),
+            (action(OWN, &[0, 4, 37, 3, 0, 48, 0, 0]), 22, Some(31)),
         ] {
-            assert_eq!(station.take(&frame), answer);
+            let refusal = Refusal { number, offset };
+            assert_eq!(station.take(&frame), Err(refusal));
+            assert_eq!(station, before);
+        }
+        for frame in [
+            action(OWN, &[0, 2, 7, 34, 0]),
+            action(OWN, &[0, 3, 7, 35, 2, 0, 0]),
+            action(OWN, &[0, 0, 7, 38, 3, 1, 2, 0]),
+            action(OWN, &[0, 1, 7, 39, 3, 1, 1, 0]),
+        ] {
+            assert_eq!(station.take(&frame), Ok(()));
             assert_eq!(station, before);
         }
     }
@@ -727,7 +745,7 @@ mod tests {
     fn duration_0_covers_nothing() {
         for period in [0, 1, 255] {
             let mut station = fresh();
-            assert_eq!(station.take(&beacon(&quiet(1, period, 0, 0))), 0);
+            assert_eq!(station.take(&beacon(&quiet(1, period, 0, 0))), Ok(()));
             assert_eq!(station.ask(65_535), 0);
             go(&mut station, 100);
             assert_eq!(station.ask(65_535), 0);
@@ -739,7 +757,7 @@ mod tests {
         // B of 1: the switch count reaches past the limit and stays pending.
         let mut station = Station::start(OWN, AP, 1, 0).unwrap();
         station.clock = u32::MAX - 1;
-        assert_eq!(station.take(&announcement(1, 44, 2)), 0);
+        assert_eq!(station.take(&announcement(1, 44, 2)), Ok(()));
         assert_eq!(station.advance(1), 0);
         assert_eq!((station.ask(1), station.channel()), (1, 0));
         assert_eq!(station.advance(1), 14);
@@ -750,11 +768,11 @@ mod tests {
             1,
             &[&quiet(255, 255, 65_535, 0)[..], &[37, 3, 0, 9, 255]].concat(),
         );
-        assert_eq!(station.take(&frame), 0);
+        assert_eq!(station.take(&frame), Ok(()));
         assert_eq!((station.ask(255), station.ask(256)), (0, 4));
         // One that started at 1 still runs with its period at the limit.
         let mut station = Station::start(OWN, AP, 1, 0).unwrap();
-        assert_eq!(station.take(&notice(8, OWN, 1, &quiet(1, 5, 2, 0))), 0);
+        assert_eq!(station.take(&notice(8, OWN, 1, &quiet(1, 5, 2, 0))), Ok(()));
         station.clock = u32::MAX; // 4,294,967,295 is 0 modulo 5
         assert_eq!((station.ask(1), station.ask(2)), (0, 3));
         station.clock = u32::MAX - 4;
@@ -955,7 +973,7 @@ mod tests {
                 match dice.roll(3) {
                     0 => {
                         let frame = some_frame(&mut dice, interval);
-                        if station.take(&frame) == 0 {
+                        if station.take(&frame).is_ok() {
                             let read = read_frame(&frame, OWN, AP, interval).unwrap().frame;
                             match &read {
                                 Frame::ChannelSwitch(switch) => bullets.announced(*switch),

@@ -7,8 +7,11 @@ use Prim.Native.Nat.{ℕ, _-_}
 use native.Mathlib.Omega.{arith}
 use borrow.Author.Needs.{needs}
 use denote.Ref.{now}
-use lib.ListN.{length, take, drop}
-use Rattle.walk.specs.Elements.{elementsIn}
+use lib.ListN.{length, take, drop, length-drop}
+use lib.Seq.{length-take-le}
+use Rattle.answer.specs.Checks.{refused}
+use Rattle.answer.specs.declared.Fault.{Fault}
+use Rattle.walk.specs.Elements.{elementsIn, pastElement}
 use Rattle.walk.specs.CodeTerms.Found.{follow, Within}
 use Rattle.walk.specs.declared.Found.{Found}
 use Rattle.beacon.specs.Allowed.{Allowed}
@@ -33,13 +36,14 @@ abbrev μ-loop : tie.MeasureT-loop
 
 returns : tie.Need-returns Inv-loop μ-loop
 returns c =
-    let a = c .before .before .before .args in
-    c .refused .ensures ∙ ap laid (short-body (a .interval) (now (a .body)) (c .before .if1 .taken))
+    let k = c .before .before in
+    let a = k .before .before .args in
+    c .refused .ensures ∙ ap (λ (x : Fault). laid (refused x)) (c .before .nowhere .ensures) ∙ ap laid (short-body (a .interval) (now (a .body)) (k .if1 .taken))
 
 returns-2 : tie.Need-returns-2 Inv-loop μ-loop
 returns-2 c =
     let a = c .before .before .before .before .before .args in
-    c .refused2 .ensures
+    c .refused-at .ensures
     ∙ ap laid (other-interval (a .interval) (now (a .body)) _ (c .before .before .before .if1 .left) (c .before .before .number16 .ensures) (c .before .if2 .taken))
 
 loop-holds : tie.Need-loop-holds Inv-loop μ-loop
@@ -73,12 +77,12 @@ returns-3 c = let k = c .before .before in at-end _ _ _ _ _ _ (k .before .loop .
 returns-4 : tie.Need-returns-4 Inv-loop μ-loop
 returns-4 c =
     let k = c .before .before .before in
-    c .refused3 .ensures ∙ ap laid (at-cut-header _ _ _ _ _ _ (k .before .loop .inv) (stands k _ (c .before .enum-told2 .given .1)))
+    c .refused-at2 .ensures ∙ ap laid (at-cut-header _ _ _ _ _ _ (k .before .loop .inv) (stands k _ (c .before .enum-told2 .given .1)))
 
 returns-5 : tie.Need-returns-5 Inv-loop μ-loop
 returns-5 c =
     let k = c .before .before .before in
-    c .refused4 .ensures ∙ ap laid (at-cut-contents _ _ _ _ _ _ (k .before .loop .inv) _ (stands k _ (c .before .enum-told3 .given .1)))
+    c .refused-at3 .ensures ∙ ap laid (at-cut-contents _ _ _ _ _ _ (k .before .loop .inv) _ (stands k _ (c .before .enum-told3 .given .1)))
 
 -- ---- a whole element
 
@@ -118,10 +122,19 @@ after c = c .before .before .before .id .given .0 .1 .1 .0
 goes-on : (c : tie.After-add-element Inv-loop μ-loop) → elementsIn (drop (place c .before .loop .at) (bodyIn (place c))) ≡ follow (bodyIn (place c)) (found (c .before .before))
 goes-on c = stands (place c) (found (c .before .before)) (c .before .before .before .id .given .1)
 
+-- and where those after it begin
+past : (c : tie.After-add-element Inv-loop μ-loop)
+    → let e = c .before .before .before .id .given .0 in
+    pastElement (place c .before .loop .at) (take (e .1 .1 .0 - e .1 .0) (drop (e .1 .0) (bodyIn (place c)))) ≡ after c
+past c =
+    let w = inside (c .before .before) in
+    let e = c .before .before .before .id .given .0 in
+    omega (arith, w, length-take-le (e .1 .1 .0 - e .1 .0) (drop (e .1 .0) (bodyIn (place c))) (simp length-drop (omega (arith, w))))
+
 -- what was added is what the definition adds
 comes : (c : tie.After-add-element Inv-loop μ-loop) (x : Added) → c .add-element .result ≡ x
     → let e = c .before .before .before .id .given .0 in
-    Comes _ _ _ _ _ _ (walked c) (e .0) (take (e .1 .1 .0 - e .1 .0) (drop (e .1 .0) (bodyIn (place c)))) (after c) (goes-on c) x
+    Comes _ _ _ _ _ _ (walked c) (e .0) (take (e .1 .1 .0 - e .1 .0) (drop (e .1 .0) (bodyIn (place c)))) (after c) (goes-on c) (past c) x
 comes c x e =
     let w = walked c in
     ap (addedTold (place c .before .loop .notice) (w .quiets)) (sym e) ∙ c .add-element .ensures (w .quiets) (w .kept-count)
@@ -129,12 +142,12 @@ comes c x e =
 returns-6 : tie.Need-returns-6 Inv-loop μ-loop
 returns-6 c =
     let s = c .before .before .before .before in
-    c .refused5 .ensures ∙ ap laid (at-refused _ _ _ _ _ _ (walked s) _ _ (after s) (goes-on s) _ (comes s _ (c .before .before .refusal .given .1)))
+    c .refused-at4 .ensures ∙ ap laid (at-refused _ _ _ _ _ _ (walked s) _ _ (after s) (goes-on s) (past s) _ (comes s _ (c .before .before .refusal .given .1)))
 
 array-set-from-quiets : tie.Need-array-set-from-quiets Inv-loop μ-loop
 array-set-from-quiets c =
     let s = c .before .before .before in
-    omega (arith, slot-free _ _ _ _ _ _ (walked s) _ _ (after s) (goes-on s) _ (comes s _ (c .before .quiet .given .1)))
+    omega (arith, slot-free _ _ _ _ _ _ (walked s) _ _ (after s) (goes-on s) (past s) _ (comes s _ (c .before .quiet .given .1)))
 
 loop-less : tie.Need-loop-less Inv-loop μ-loop
 loop-less c = let w = inside (c .before .before .before .before .before) in omega arith
@@ -142,7 +155,7 @@ loop-less c = let w = inside (c .before .before .before .before .before) in omeg
 loop-again : tie.Need-loop-again Inv-loop μ-loop
 loop-again c =
     let s = c .before .before .before in
-    at-notice _ _ _ _ _ _ (walked s) _ _ (after s) (goes-on s) _ (comes s _ (c .before .next .given .1))
+    at-notice _ _ _ _ _ _ (walked s) _ _ (after s) (goes-on s) (past s) _ (comes s _ (c .before .next .given .1))
 
 loop-less-2 : tie.Need-loop-less-2 Inv-loop μ-loop
 loop-less-2 c = let w = inside (c .before .before .before .before .before) in omega arith
@@ -150,7 +163,7 @@ loop-less-2 c = let w = inside (c .before .before .before .before .before) in om
 loop-again-2 : tie.Need-loop-again-2 Inv-loop μ-loop
 loop-again-2 c =
     let s = c .before .before .before in
-    at-quiet _ _ _ _ _ _ (walked s) _ _ (after s) (goes-on s) _ (comes s _ (c .before .quiet .given .1))
+    at-quiet _ _ _ _ _ _ (walked s) _ _ (after s) (goes-on s) (past s) _ (comes s _ (c .before .quiet .given .1))
 
 pub read-spec : {M : Type 1} → statement M
 read-spec =
@@ -158,6 +171,7 @@ read-spec =
     (tie.spec
     Inv-loop
     μ-loop
+    (λ c κs. search needs)
     (λ c κs. search needs)
     returns
     (λ c κs. search needs)
@@ -185,9 +199,9 @@ read-spec =
     returns-6
     (λ c. search needs)
     (λ c. search needs)
-    (λ c. let f = array-set-from-quiets c in omega arith)
+    (λ c. search needs)
     array-set-from-quiets
-    (λ c. let f = array-set-from-quiets c in omega arith)
+    (λ c. search needs)
     loop-less
     loop-again
     loop-less-2

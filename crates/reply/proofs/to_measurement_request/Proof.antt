@@ -1,4 +1,4 @@
--- `to_measurement_request` meets its contract: nothing is due, another request, no report, or the report.
+-- `to_measurement_request` meets its contract: nothing is due, a broken body, another request, no report, or the report.
 -- Assumes nothing.
 use mathlib.Core.List.{List}
 use mathlib.Core.Path.{_≡_, sym, ap, _∙_}
@@ -9,77 +9,99 @@ use Rattle.measurement_element.specs.MeasurementReport.{reportMay, reportLaid}
 use Rattle.measurement_element.specs.MeasurementRequest.{requestTold}
 use Rattle.measurement_element.specs.declared.measurement_report.Report.{Report}
 use Rattle.measurement_element.specs.declared.measurement_request.Request.{Request}
-use Rattle.frame.specs.Actions.{Body, requests}
+use Prim.Native.Nat.{ℕ}
+use Rattle.frame.specs.Actions.{requests}
 use Rattle.measurement_body.specs.Lists.{nth}
-use Rattle.reply.specs.Due.{dueMeans}
-use Rattle.reply.specs.Replies.{measurementAnswer, measurementReply}
+use Rattle.reply.specs.CodeTerms.Asked.{dueOf}
+use Rattle.reply.specs.Due.{Owed, asks, breaks, dueMeans}
+use Rattle.reply.specs.Replies.{owed, measurementAnswer, measurementReply}
+use Rattle.reply.specs.declared.due.Due.{Due}
 use Rattle.measured_report.specs.Reports.{reportFor}
-use Rattle.reply.proofs.Answering.{tpc-due, measurement-due, no-measurement, replied-refused, replied-judged, no-report, a-report}
+use Rattle.reply.proofs.Answering.{tpc-due, measurement-due, broken-due, no-measurement, replied-refused, replied-written, replied-judged, no-report, a-report}
+use Rattle.reply.proofs.Owing.{may-return, answered-back}
 use Rattle.reply.proofs.to_measurement_request.Statement.{statement}
 use Rattle.reply.proofs.to_measurement_request.Tie as tie
 
--- the place after it is seen what is due, and where the call begins
-abbrev seen : tie.After-known-told2 → tie.After-request-of
-seen c = c .before .before .before
+-- what is due, by the case that was met
+module _ (c : tie.After-due-to) where
+  abbrev meant : Outcome Owed
+  meant = let a = c .before .before .before .args in dueMeans (a .own) (a .ap) (now (a .frame))
 
-abbrev entry : tie.After-request-of → tie.Start
-entry k = k .before .before .before
+  met : {x : Due} → c .due-to .result ≡ x → x ≡ dueOf (c .before .before .before .args .index) meant
+  met e = sym e ∙ c .due-to .ensures
+
+  -- and what is answered then
+  answer : {o : Outcome Owed} → meant ≡ o
+      → let a = c .before .before .before .args in
+      andThen o (owed (a .own) (a .ap) (measurementAnswer (a .own) (a .ap) (a .clock) (a .index) (a .readings))) ≡ measurementReply (a .own) (a .ap) (a .clock) (a .index) (a .readings) (now (a .frame))
+  unfolding measurementReply
+  answer e =
+      let a = c .before .before .before .args in
+      ap (λ (o : Outcome Owed). andThen o (owed (a .own) (a .ap) (measurementAnswer (a .own) (a .ap) (a .clock) (a .index) (a .readings)))) (sym e)
+
+-- a body that is owed back
+back : (c : tie.After-body) → (body : List ℕ) × (meant (c .before .before .before) ≡ accepted (breaks body))
+back c =
+    let k = c .before .before .before in
+    broken-due (k .before .before .before .args .index) (meant k) (met k (c .before .enum-told .given .1))
+
+put-return-requires : tie.Need-put-return-requires
+put-return-requires c κs =
+    let a = c .before .before .before .before .before .before .before .args in
+    may-return (a .own) (a .ap) (now (a .frame)) (back (c .before) .1) (c .before .body .ensures)
 
 -- the request that is due, and its element at the index
 asked : (c : tie.After-known-told2)
-    → let a = entry (seen c) .args in
+    → let k = c .before .before .before in
     let t = c .before .token .given .0 in
-    (rs : List Request) × (dueMeans (a .own) (a .ap) (now (a .frame)) ≡ accepted (requests (t .0) rs)) × (requestTold (t .1 .0) ≡ nth (a .index) rs)
+    (rs : List Request) × (meant k ≡ accepted (asks (requests (t .0) rs))) × (requestTold (t .1 .0) ≡ nth (k .before .before .before .args .index) rs)
 asked c =
-    let a = entry (seen c) .args in
-    measurement-due (a .index) (dueMeans (a .own) (a .ap) (now (a .frame))) _ _ (sym (c .before .token .given .1) ∙ seen c .request-of .ensures)
+    let k = c .before .before .before in
+    measurement-due (k .before .before .before .args .index) (meant k) _ _ (met k (c .before .token .given .1))
 
 -- what is owed for the element
 abbrev owedFor : tie.After-known-told2 → Outcome Report
-owedFor c = let a = entry (seen c) .args in andThen (nth (a .index) (asked c .0)) (reportFor (a .clock) (a .readings))
+owedFor c = let a = c .before .before .before .before .before .before .args in andThen (nth (a .index) (asked c .0)) (reportFor (a .clock) (a .readings))
 
-owed : (c : tie.After-report-on) → c .report-on .result ≡ reportLaid (owedFor (c .before))
-owed c =
-    let a = entry (seen (c .before)) .args in
+report-is : (c : tie.After-report-on) → c .report-on .result ≡ reportLaid (owedFor (c .before))
+report-is c =
+    let a = c .before .before .before .before .before .before .before .args in
     c .report-on .ensures ∙ ap (λ (o : Outcome Request). reportLaid (andThen o (reportFor (a .clock) (a .readings)))) (asked (c .before) .2)
 
 returns : tie.Need-returns
 unfolding measurementReply
 returns c =
     let k = c .before .before .before in
-    let a = entry k .args in
-    replied-refused
-    (no-measurement (a .own) (a .ap) _ (a .clock) (a .index) (a .readings) (dueMeans (a .own) (a .ap) (now (a .frame)))
-    (sym (c .before .refusal .given .1) ∙ k .request-of .ensures))
+    let a = k .before .before .before .args in
+    replied-refused (no-measurement (a .own) (a .ap) _ (a .clock) (a .index) (a .readings) (meant k) (met k (c .before .refusal .given .1)))
 
 returns-2 : tie.Need-returns-2
 unfolding measurementReply
 returns-2 c =
-    let k = c .before .before in
-    let a = entry k .args in
-    let due = tpc-due (a .index) (dueMeans (a .own) (a .ap) (now (a .frame))) _ (sym (c .enum-told .given .1) ∙ k .request-of .ensures) in
-    replied-refused (sym (ap (λ (o : Outcome Body). andThen o (measurementAnswer (a .own) (a .ap) (a .clock) (a .index) (a .readings))) due))
+    let d = c .before .before .before .before in
+    let a = d .before .before .before .before .before .before .args in
+    replied-written
+    (answered-back (a .own) (a .ap) (now (a .frame)) (back d .1) (measurementAnswer (a .own) (a .ap) (a .clock) (a .index) (a .readings)) (d .body .ensures))
+    (c .before .before .put-return .ensures)
 
 returns-3 : tie.Need-returns-3
-unfolding measurementReply
 returns-3 c =
-    let i = c .before .before .before .before in
-    let k = i .before in
-    let a = entry (seen k) .args in
-    let none = no-report (owedFor k) _ (owed i) _ (c .before .answer .given .1) in
-    replied-refused (sym (ap (λ (o : Outcome Body). andThen o (measurementAnswer (a .own) (a .ap) (a .clock) (a .index) (a .readings))) (asked k .1) ∙ rw none))
+    let k = c .before .before in
+    replied-refused (answer k (tpc-due (k .before .before .before .args .index) (meant k) _ (met k (c .enum-told2 .given .1))))
 
 returns-4 : tie.Need-returns-4
-unfolding measurementReply
 returns-4 c =
-    let e = c .before .before .before .before in
-    let i = e .before .before .before in
+    let i = c .before .before .before .before in
     let k = i .before in
-    let a = entry (seen k) .args in
-    let some = a-report (owedFor k) _ (owed i) (e .enum-told2 .given .1) in
-    replied-judged (reportMay (i .report-on .result .report))
-    (sym (ap (λ (o : Outcome Body). andThen o (measurementAnswer (a .own) (a .ap) (a .clock) (a .index) (a .readings))) (asked k .1) ∙ rw some))
-    (c .before .before .put-report .ensures)
+    let none = no-report (owedFor k) _ (report-is i) _ (c .before .answer .given .1) in
+    replied-refused (sym (rw none) ∙ answer (k .before .before .before) (asked k .1))
+
+returns-5 : tie.Need-returns-5
+returns-5 c =
+    let i = c .before .before .before .before .before .before .before in
+    let k = i .before in
+    let some = a-report (owedFor k) _ (report-is i) (c .before .before .before .before .enum-told3 .given .1) in
+    replied-judged (reportMay (i .report-on .result .report)) (sym (rw some) ∙ answer (k .before .before .before) (asked k .1)) (c .before .before .put-report .ensures)
 
 pub to-measurement-request-spec : {M : Type 1} → statement M
 to-measurement-request-spec =
@@ -88,13 +110,18 @@ to-measurement-request-spec =
     (λ c κs. search needs)
     (λ c. search needs)
     (λ c. search needs)
+    (λ c κs. search needs)
+    put-return-requires
+    (λ c. search needs)
     (λ c. search needs)
     (λ c κs. search needs)
     (λ c. search needs)
     (λ c. search needs)
     (λ c κs. search needs)
     returns
+    (λ c. search needs)
     returns-2
     returns-3
+    returns-4
     (λ c. search needs)
-    returns-4)
+    returns-5)

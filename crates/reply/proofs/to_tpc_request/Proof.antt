@@ -1,38 +1,69 @@
--- `to_tpc_request` meets its contract: nothing is due, another request, or the report.
+-- `to_tpc_request` meets its contract: nothing is due, a broken body, another request, or the report.
 -- Assumes nothing.
-use mathlib.Core.Path.{sym, ap, _∙_}
+use mathlib.Core.List.{List}
+use mathlib.Core.Path.{_≡_, sym, ap, _∙_}
+use Prim.Native.Nat.{ℕ}
 use borrow.Author.Needs.{needs}
 use denote.Ref.{now}
-use Rattle.answer.specs.Checks.{Outcome, andThen}
-use Rattle.frame.specs.Actions.{Body}
-use Rattle.reply.specs.Due.{dueMeans}
-use Rattle.reply.specs.Replies.{tpcAnswer, tpcReply}
-use Rattle.reply.proofs.Answering.{tpc-due, measurement-due, no-tpc, replied-refused, replied-written}
+use Rattle.answer.specs.Checks.{Outcome, accepted, andThen}
+use Rattle.reply.specs.CodeTerms.Asked.{dueOf}
+use Rattle.reply.specs.Due.{Owed, breaks, dueMeans}
+use Rattle.reply.specs.Replies.{owed, tpcAnswer, tpcReply}
+use Rattle.reply.specs.declared.due.Due.{Due}
+use Rattle.reply.proofs.Answering.{tpc-due, measurement-due, broken-due, no-tpc, replied-refused, replied-written}
+use Rattle.reply.proofs.Owing.{may-return, answered-back}
 use Rattle.reply.proofs.to_tpc_request.Statement.{statement}
 use Rattle.reply.proofs.to_tpc_request.Tie as tie
+
+-- what is due, by the case that was met
+module _ (c : tie.After-due-to) where
+  abbrev meant : Outcome Owed
+  meant = let a = c .before .before .before .args in dueMeans (a .own) (a .ap) (now (a .frame))
+
+  met : {x : Due} → c .due-to .result ≡ x → x ≡ dueOf 0 meant
+  met e = sym e ∙ c .due-to .ensures
+
+  -- and what is answered then
+  answer : {o : Outcome Owed} → meant ≡ o
+      → let a = c .before .before .before .args in
+      andThen o (owed (a .own) (a .ap) (tpcAnswer (a .own) (a .ap) (a .report))) ≡ tpcReply (a .own) (a .ap) (a .report) (now (a .frame))
+  unfolding tpcReply
+  answer e = let a = c .before .before .before .args in ap (λ (o : Outcome Owed). andThen o (owed (a .own) (a .ap) (tpcAnswer (a .own) (a .ap) (a .report)))) (sym e)
+
+-- a body that is owed back
+back : (c : tie.After-body) → (body : List ℕ) × (meant (c .before .before .before) ≡ accepted (breaks body))
+back c = let k = c .before .before .before in broken-due 0 (meant k) (met k (c .before .enum-told .given .1))
+
+put-return-requires : tie.Need-put-return-requires
+put-return-requires c κs =
+    let a = c .before .before .before .before .before .before .before .args in
+    may-return (a .own) (a .ap) (now (a .frame)) (back (c .before) .1) (c .before .body .ensures)
 
 returns : tie.Need-returns
 unfolding tpcReply
 returns c =
     let k = c .before .before .before in
     let a = k .before .before .before .args in
-    replied-refused (no-tpc (a .own) (a .ap) _ (a .report) (dueMeans (a .own) (a .ap) (now (a .frame))) (sym (c .before .refusal .given .1) ∙ k .request-of .ensures))
+    replied-refused (no-tpc (a .own) (a .ap) _ (a .report) (meant k) (met k (c .before .refusal .given .1)))
 
 returns-2 : tie.Need-returns-2
 unfolding tpcReply
 returns-2 c =
-    let a = c .before .before .before .before .before .args in
-    let due = measurement-due 0 (dueMeans (a .own) (a .ap) (now (a .frame))) _ _ (sym (c .enum-told .given .1) ∙ c .before .before .request-of .ensures) in
-    replied-refused (sym (ap (λ (o : Outcome Body). andThen o (tpcAnswer (a .own) (a .ap) (a .report))) (due .1)))
+    let d = c .before .before .before .before in
+    let a = d .before .before .before .before .before .before .args in
+    replied-written (answered-back (a .own) (a .ap) (now (a .frame)) (back d .1) (tpcAnswer (a .own) (a .ap) (a .report)) (d .body .ensures)) (c .before .before .put-return .ensures)
 
 returns-3 : tie.Need-returns-3
-unfolding tpcReply
 returns-3 c =
-    let t = c .before .before .before .before .before in
-    let k = t .before .before in
-    let a = k .before .before .before .args in
-    let due = tpc-due 0 (dueMeans (a .own) (a .ap) (now (a .frame))) _ (sym (t .token .given .1) ∙ k .request-of .ensures) in
-    replied-written (sym (ap (λ (o : Outcome Body). andThen o (tpcAnswer (a .own) (a .ap) (a .report))) due)) (c .before .before .put-tpc-report .ensures)
+    let k = c .before .before in
+    let due = measurement-due 0 (meant k) _ _ (met k (c .enum-told2 .given .1)) in
+    replied-refused (answer k (due .1))
+
+returns-4 : tie.Need-returns-4
+returns-4 c =
+    let t = c .before .before .before .before in
+    let k = t .before .before .before in
+    replied-written (answer k (tpc-due 0 (meant k) _ (met k (t .before .token .given .1)))) (c .before .before .put-tpc-report .ensures)
 
 pub to-tpc-request-spec : {M : Type 1} → statement M
 to-tpc-request-spec =
@@ -41,9 +72,14 @@ to-tpc-request-spec =
     (λ c κs. search needs)
     (λ c. search needs)
     (λ c. search needs)
+    (λ c κs. search needs)
+    put-return-requires
+    (λ c. search needs)
     (λ c. search needs)
     (λ c κs. search needs)
     returns
-    returns-2
     (λ c. search needs)
-    returns-3)
+    returns-2
+    returns-3
+    (λ c. search needs)
+    returns-4)

@@ -7,6 +7,7 @@ use borrow.Author.Needs.{needs}
 use denote.Ref.{now}
 use lib.ListN.{getD}
 use Rattle.answer.specs.Checks.{Outcome, accepted, andThen}
+use Rattle.answer.specs.Faults.{Placed}
 use Rattle.beacon.specs.Beacons.{quietLimit}
 use Rattle.beacon.specs.Laid.{noQuiet}
 use Rattle.element.specs.Quiet.{quietContents}
@@ -17,12 +18,13 @@ use Rattle.frame.specs.declared.Received.{Received}
 use Rattle.boundary.specs.Codes.{addressOf}
 use Rattle.boundary.specs.ElementFields.{quietOf}
 use Rattle.boundary.proofs.Coded.{given-refused, given-put}
-use Rattle.boundary.proofs.QuietsByIndex.{refused-quiet, no-quiet, one-quiet, slots-in-use}
+use Rattle.boundary.proofs.QuietsByIndex.{no-quiet, one-quiet, slots-in-use}
+use Rattle.boundary.proofs.Unlaid.{frame-refused}
 use Rattle.boundary.proofs.reading.oneiralth_read_quiet.Statement.{statement}
 use Rattle.boundary.proofs.reading.oneiralth_read_quiet.Tie as tie
 
 -- what the frame means, of the addresses that the numbers stand for
-abbrev outcome : tie.After-read → Outcome Sent
+abbrev outcome : tie.After-read → Placed Sent
 outcome c = let a = c .before .before .before .before .before .args in frameMeans (addressOf (a .own)) (addressOf (a .ap)) (a .interval) (now (a .frame))
 
 means : (c : tie.After-read) → c .read .result ≡ frameLaid (outcome c)
@@ -62,7 +64,7 @@ returns-2 c =
     let k = c .before .before .before .before .before in
     let i = k .before .before .before .before .before .args .index in
     given-refused (fields (quietOf i (outcome k))) _ _ _
-    (ap fields (refused-quiet i (outcome k) _ (sym (ap (λ (r : Received). r .reading) (means k)) ∙ c .before .before .reading .given .1))) (c .refused .ensures)
+    (ap (λ (o : Placed Sent). fields (quietOf i o)) (frame-refused (outcome k) _ (sym (ap (λ (r : Received). r .reading) (means k)) ∙ c .before .before .reading .given .1))) (c .refused .ensures)
 
 returns-3 : tie.Need-returns-3
 returns-3 c =

@@ -22,7 +22,7 @@ returns c =
     let a = s .args in
     let next = c .following .ensures in (
       ap (λ (x : Lister). line x Word.Advance (Response.Call (k .advance .result .answer))) next
-          ∙ ap (stepped (a .lister) Word.Advance) (k .advance .ensures .0) ∙ an-advance (a .lister) (s .pre .1) (a .units),
+          ∙ ap (stepped (a .lister)) (k .advance .ensures .0) ∙ an-advance (a .lister) (s .pre .1) (a .units),
       subst (Follows (a .lister)) (sym next) (sound-following (a .lister) (k .advance .result .station) (k .advance .ensures .1)),
     )
 

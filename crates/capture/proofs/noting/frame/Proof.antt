@@ -5,7 +5,7 @@ use borrow.Author.Needs.{needs}
 use denote.Ref.{now}
 use Rattle.line.specs.declared.words.Word.{Word}
 use Rattle.capture.specs.CodeTerms.Following.{Follows}
-use Rattle.capture.specs.Lists.{line, stepped}
+use Rattle.capture.specs.Lists.{line, taken}
 use Rattle.capture.specs.declared.lister.Lister.{Lister}
 use Rattle.capture.specs.declared.response.Response.{Response}
 use Rattle.capture.proofs.Answering.{a-frame}
@@ -22,8 +22,8 @@ returns c =
     let s = k .before .before .before in
     let a = s .args in
     let next = c .following .ensures in (
-      ap (λ (x : Lister). line x Word.Frame (Response.Call (k .take .result .answer))) next
-          ∙ ap (stepped (a .lister) Word.Frame) (k .take .ensures .0) ∙ a-frame (a .lister) (s .pre .1) (now (a .contents)),
+      ap (λ (x : Lister). line x Word.Frame (Response.Frame (k .take .result .verdict))) next
+          ∙ ap (taken (a .lister)) (k .take .ensures .0) ∙ a-frame (a .lister) (s .pre .1) (now (a .contents)),
       subst (Follows (a .lister)) (sym next) (sound-following (a .lister) (k .take .result .station) (k .take .ensures .1)),
     )
 

@@ -19,15 +19,12 @@ use borrow.Author.Needs.{needs}
 use Rattle.frame.proofs.bodies.read_at.Statement.{statement}
 use Rattle.frame.proofs.bodies.read_at.Tie as tie
 
-abbrev entry : tie.After-open → tie.Start
-entry c = c .before .before
-
 -- what follows the opening that was found
 after : (c : tie.After-open) {x : Opening} → c .«open» .result ≡ x
-    → let a = entry c .args in
-    located (a .index) (a .body .now) (andThen (openingTold x) (afterOpening (a .body .now))) ≡ located (a .index) (a .body .now) (actionMeans (a .body .now))
+    → located (c .before .before .args .index) (c .before .before .args .body .now) (andThen (openingTold x) (afterOpening (c .before .before .args .body .now)))
+    ≡ located (c .before .before .args .index) (c .before .before .args .body .now) (actionMeans (c .before .before .args .body .now))
 after c e =
-    let a = entry c .args in
+    let a = c .before .before .args in
     ap (located (a .index) (a .body .now)) (opened (a .body .now) _ (ap openingTold (sym e) ∙ c .«open» .ensures))
 
 -- by an action's number
@@ -35,47 +32,42 @@ numbered : (i : ℕ) (body : List ℕ) (token : ℕ) {m n : ℕ} → m ≡ n →
 numbered i body token e = ap (λ (a : ℕ). located i body (afterOpening body (with a token))) (sym e)
 
 returns : tie.Need-returns
-returns c = c .unplaced .ensures ∙ after (c .before .before .before .before) (c .before .before .refusal .given .1)
+returns c = c .unplaced .ensures ∙ after (c .before .before .before .before) (c .before .before .fault .given .1)
 
 returns-2 : tie.Need-returns-2
 returns-2 c =
-    let o = c .before .before .before in
-    let a = entry o .args in
+    let a = c .before .before .before .before .before .args in
     c .read-single .ensures
-    ∙ one-element (a .body .now) (a .index) 37 switchMeans (elementsIn (drop switchFixedFields (a .body .now))) 0 Single.ChannelSwitch switch (λ s. refl)
-    ∙ after o (c .before .enum-told .given .1)
+    ∙ one-element (a .body .now) (a .index) switchFixedFields 37 switchMeans (elementsIn (drop switchFixedFields (a .body .now))) 0 Single.ChannelSwitch switch (λ s. refl)
+    ∙ after (c .before .before .before) (c .before .enum-told .given .1)
 
 returns-3 : tie.Need-returns-3
 returns-3 c =
-    let o = c .before .before .before .before .before in
-    let a = entry o .args in
-    c .read-measurements .ensures ∙ numbered (a .index) (a .body .now) _ (c .before .match2 .keys1) ∙ after o (c .before .before .before .action .given .1)
+    let a = c .before .before .before .before .before .before .before .args in
+    c .read-measurements .ensures ∙ numbered (a .index) (a .body .now) _ (c .before .match2 .keys1) ∙ after (c .before .before .before .before .before) (c .before .before .before .action .given .1)
 
 returns-4 : tie.Need-returns-4
 returns-4 c =
-    let o = c .before .before .before .before .before in
-    let a = entry o .args in
-    c .read-measurements2 .ensures ∙ numbered (a .index) (a .body .now) _ (c .before .match2 .keys2) ∙ after o (c .before .before .before .action .given .1)
+    let a = c .before .before .before .before .before .before .before .args in
+    c .read-measurements2 .ensures ∙ numbered (a .index) (a .body .now) _ (c .before .match2 .keys2) ∙ after (c .before .before .before .before .before) (c .before .before .before .action .given .1)
 
 returns-5 : tie.Need-returns-5
 returns-5 c =
-    let o = c .before .before .before .before .before in
-    let a = entry o .args in
+    let a = c .before .before .before .before .before .before .before .args in
     let token = c .before .before .before .action .given .0 .1 .0 in
     c .read-single2 .ensures
-    ∙ one-element (a .body .now) (a .index) 34 tpcRequestMeans (elementsIn (drop fixedFields (a .body .now))) token (λ u. Single.TpcRequest) (λ u. tpcRequest token) (λ u. refl)
-    ∙ numbered (a .index) (a .body .now) token (c .before .match2 .keys3) ∙ after o (c .before .before .before .action .given .1)
+    ∙ one-element (a .body .now) (a .index) fixedFields 34 tpcRequestMeans (elementsIn (drop fixedFields (a .body .now))) token (λ u. Single.TpcRequest) (λ u. tpcRequest token) (λ u. refl)
+    ∙ numbered (a .index) (a .body .now) token (c .before .match2 .keys3) ∙ after (c .before .before .before .before .before) (c .before .before .before .action .given .1)
 
 returns-6 : tie.Need-returns-6
 returns-6 c =
-    let o = c .before .before .before .before .before in
-    let a = entry o .args in
+    let a = c .before .before .before .before .before .before .before .args in
     let token = c .before .before .before .action .given .0 .1 .0 in
     let other = c .before .match2 .rest in
     c .read-single3 .ensures
-    ∙ one-element (a .body .now) (a .index) 35 tpcReportMeans (elementsIn (drop fixedFields (a .body .now))) token Single.TpcReport (tpcReport token) (λ t. refl)
+    ∙ one-element (a .body .now) (a .index) fixedFields 35 tpcReportMeans (elementsIn (drop fixedFields (a .body .now))) token Single.TpcReport (tpcReport token) (λ t. refl)
     ∙ ap (located (a .index) (a .body .now)) (sym (last (a .body .now) (c .before .before .before .action .given .0 .0) token (other .0 .0 .1) (other .0 .1) (other .1)))
-    ∙ after o (c .before .before .before .action .given .1)
+    ∙ after (c .before .before .before .before .before) (c .before .before .before .action .given .1)
 
 pub read-at-spec : {M : Type 1} → statement M
 read-at-spec =

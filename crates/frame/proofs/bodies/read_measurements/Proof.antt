@@ -12,7 +12,7 @@ returns c =
     let a = c .before .before .before .before .before .before .args in
     let s = c .before .before .before .before .survey in
     c .unplaced .ensures
-    ∙ measured-refused (a .body .now) (a .index) (a .token) (a .kind) (survey-refused (sortOf (a .kind)) (a .index) 0 (a .body .now) (s .result) _ (s .ensures) (c .before .before .answer .given .1))
+    ∙ measured-refused (a .body .now) (a .index) (a .token) (a .kind) (survey-refused (sortOf (a .kind)) (a .index) 0 (a .body .now) (s .result) _ (s .ensures) (c .before .before .verdict .given .1))
 
 returns-2 : tie.Need-returns-2
 returns-2 c =

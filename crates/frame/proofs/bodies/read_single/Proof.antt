@@ -1,6 +1,6 @@
 -- `read_single` meets its contract: the one element, as the frame that it makes.
 use mathlib.Core.Path.{sym, ap, _∙_}
-use Rattle.answer.specs.Checks.{Outcome}
+use Rattle.answer.specs.Faults.{Placed}
 use Rattle.single_body.specs.Kinds.{singleTold}
 use Rattle.single_body.specs.declared.kinds.Single.{Single}
 use Rattle.frame.specs.CodeTerms.Located.{unplaced}
@@ -15,14 +15,14 @@ returns : tie.Need-returns
 returns c =
     let r = c .before .before .before .before in
     c .unplaced .ensures
-    ∙ ap (λ (o : Outcome Single). unplaced (singleReading (r .before .before .args .token) o)) (ap singleTold (sym (c .before .before .refusal .given .1)) ∙ r .read .ensures)
+    ∙ ap (λ (o : Placed Single). unplaced (singleReading (r .before .before .args .token) o)) (ap singleTold (sym (c .before .before .fault .given .1)) ∙ r .read .ensures)
 
 returns-2 : tie.Need-returns-2
 returns-2 c =
     let r = c .before .before .before .before .before in
     c .unplaced2 .ensures
     ∙ ap (λ (f : Frame). unplaced (Reading.Is f)) (c .before .single-frame .ensures)
-    ∙ ap (λ (o : Outcome Single). unplaced (singleReading (r .before .before .args .token) o)) (ap singleTold (sym (c .before .before .before .said .given .1)) ∙ r .read .ensures)
+    ∙ ap (λ (o : Placed Single). unplaced (singleReading (r .before .before .args .token) o)) (ap singleTold (sym (c .before .before .before .said .given .1)) ∙ r .read .ensures)
 
 pub read-single-spec : {M : Type 1} → statement M
 read-single-spec =

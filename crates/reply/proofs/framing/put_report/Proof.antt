@@ -9,11 +9,10 @@ use borrow.Author.Needs.{needs}
 use denote.Ref.{now}
 use lib.ListN.{length, take, replicate, length-take}
 use Rattle.measurement_element.specs.MeasurementReport.{reportMay}
-use Rattle.reply.specs.CodeTerms.Asked.{longestReplyBody}
 use Rattle.reply.specs.Frames.{replyFrame}
 use Rattle.octets.proofs.Overwriting.{written-as}
 use Rattle.octets.proofs.Storing.{not-written}
-use Rattle.reply.proofs.OneReport.{body, short-body, refused-as, unwritten, built}
+use Rattle.reply.proofs.OneReport.{longestReplyBody, body, short-body, refused-as, unwritten, built}
 use Rattle.reply.proofs.framing.put_report.Statement.{statement}
 use Rattle.reply.proofs.framing.put_report.Tie as tie
 

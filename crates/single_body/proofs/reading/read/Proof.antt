@@ -3,6 +3,7 @@ use mathlib.Core.Path.{_≡_, sym, ap, ap₂, _∙_}
 use mathlib.Core.List.{List}
 use Prim.Native.Nat.{ℕ}
 use lib.ListN.{drop}
+use Rattle.answer.specs.Checks.{refused}
 use Rattle.walk.specs.Elements.{elementsIn}
 use Rattle.walk.proofs.Requiring.{Lies, lies, is-not}
 use Rattle.single_body.specs.Kinds.{singleTold, contentsMean, idOf, fieldsBefore}
@@ -27,10 +28,10 @@ abbrev id : tie.After-required-at → ℕ
 id c = c .before .id .result
 
 -- the place and the ID are those of the kind
-by-kind : (c : tie.After-required-at) → single (id c) (contentsMean (kind c)) (elementsIn (drop (at c) (body c)))
-    ≡ single (idOf (kind c)) (contentsMean (kind c)) (elementsIn (drop (fieldsBefore (kind c)) (body c)))
+by-kind : (c : tie.After-required-at) → single (at c) (id c) (contentsMean (kind c)) (elementsIn (drop (at c) (body c)))
+    ≡ single (fieldsBefore (kind c)) (idOf (kind c)) (contentsMean (kind c)) (elementsIn (drop (fieldsBefore (kind c)) (body c)))
 by-kind c =
-    ap₂ (λ (i n : ℕ). single i (contentsMean (kind c)) (elementsIn (drop n (body c)))) (c .before .id .ensures) (c .before .before .fixed-fields .ensures)
+    ap₂ (λ (i n : ℕ). single n i (contentsMean (kind c)) (elementsIn (drop n (body c)))) (c .before .id .ensures) (c .before .before .fixed-fields .ensures)
 
 -- where the contents lie
 module _ (c : tie.After-known-told2) where
@@ -56,17 +57,21 @@ part-read-contents-end c = place c .inside
 
 returns : tie.Need-returns
 returns c =
-    let m = c .before .before .before in
+    let k = c .before in
+    let m = k .before .before .before in
     let p = m .before .before .before .before in
     let r = p .before .before .before in
-    crowded (id r) (contentsMean (kind r)) (place p) (ap singleTold (sym (m .said .given .1)) ∙ m .before .before .read-contents .ensures)
-    (sym (c .before .has-left-over .ensures) ∙ c .if1 .taken)
+    ap refused (c .at2 .ensures)
+    ∙ crowded (at r) (id r) (contentsMean (kind r)) (place p) (ap singleTold (sym (m .said .given .1)) ∙ m .before .before .read-contents .ensures)
+    (sym (k .before .has-left-over .ensures) ∙ k .if1 .taken)
     ∙ by-kind r
 
 returns-2 : tie.Need-returns-2
 returns-2 c =
-    let r = c .before .before .before in
-    not-there (id r) (contentsMean (kind r)) _ (is-not (body r) (at r) (id r) (r .required-at .result) (r .required-at .ensures .0) (c .before .refusal .given .1))
+    let k = c .before in
+    let r = k .before .before .before in
+    ap refused (c .at .ensures)
+    ∙ not-there (at r) (id r) (contentsMean (kind r)) _ (is-not (body r) (at r) (id r) (r .required-at .result) (r .required-at .ensures .0) (k .before .refusal .given .1))
     ∙ by-kind r
 
 returns-3 : tie.Need-returns-3
@@ -74,14 +79,14 @@ returns-3 c =
     let m = c .before .before .before in
     let p = m .before .before in
     let r = p .before .before .before in
-    bad (id r) (contentsMean (kind r)) (place p) (ap singleTold (sym (c .before .refusal2 .given .1)) ∙ m .read-contents .ensures) ∙ by-kind r
+    bad (at r) (id r) (contentsMean (kind r)) (place p) (ap singleTold (sym (c .before .fault .given .1)) ∙ m .read-contents .ensures) ∙ by-kind r
 
 returns-4 : tie.Need-returns-4
 returns-4 c =
     let m = c .before .before .before in
     let p = m .before .before .before .before in
     let r = p .before .before .before in
-    good (id r) (contentsMean (kind r)) (place p) (ap singleTold (sym (m .said .given .1)) ∙ m .before .before .read-contents .ensures)
+    good (at r) (id r) (contentsMean (kind r)) (place p) (ap singleTold (sym (m .said .given .1)) ∙ m .before .before .read-contents .ensures)
     (sym (c .before .has-left-over .ensures) ∙ c .if1 .left)
     ∙ by-kind r
 
@@ -93,6 +98,7 @@ read-spec =
     (λ c κs. search needs)
     (λ c κs. search needs)
     (λ c. search needs)
+    (λ c κs. search needs)
     (λ c. search needs)
     sub-read-contents
     part-read-contents-start
@@ -100,6 +106,7 @@ read-spec =
     (λ c κs. search needs)
     (λ c. search needs)
     (λ c. search needs)
+    (λ c κs. search needs)
     (λ c κs. search needs)
     returns
     returns-2

@@ -6,34 +6,33 @@ use lib.ListN.{take}
 use Rattle.answer.specs.Checks.{accepted}
 use Rattle.frame.specs.Allowed.{ReadingAllowed}
 use Rattle.frame.specs.declared.Reading.{Reading}
-use Rattle.station.specs.Clock.{stepped}
+use Rattle.station.specs.Taking.{taken}
 use Rattle.station.specs.Validity.{Valid}
 use Rattle.station.specs.declared.Station.{Station}
-use Rattle.station.specs.declared.clock.Stepped.{Stepped}
 use Rattle.station.proofs.Received.{heard-as}
 use Rattle.station.proofs.StaysValid.{valid-changed}
 use Rattle.station.proofs.Station.heard.Statement.{statement}
 use Rattle.station.proofs.Station.heard.Tie as tie
 
+changed-by-requires : tie.Need-changed-by-requires
+changed-by-requires c κs = c .before .before .before .before .pre .interval-positive
+
 returns : tie.Need-returns
 returns c =
-    let s = c .before .before .before .before .before in
+    let s = c .before .before .before .before in
     let a = s .args in
-    let same = c .refused .ensures in (
-      same ∙ ap (stepped (a .self)) (heard-as (a .self) (a .received) _ (c .before .before .reading .given .1)),
-      λ allowed. subst (λ (x : Stepped). Valid (x .station)) (sym same) (s .pre),
-    )
+    (ap (taken (a .self)) (heard-as (a .self) (a .received) _ (c .before .reading .given .1)), λ allowed. s .pre)
 
 returns-2 : tie.Need-returns-2
 returns-2 c =
-    let s = c .before .before .before .before .before .before in
+    let s = c .before .before .before .before .before in
     let a = s .args in
     let v = a .received in
     let qs = take (v .count) (v .quiets) in
-    let frame = c .before .before .before .reading2 .given in
-    let same = c .accepted .ensures ∙ ap (λ (x : Station). stepped (a .self) (accepted x)) (c .before .changed-by .ensures) in (
-      same ∙ ap (stepped (a .self)) (heard-as (a .self) v _ (frame .1)),
-      λ allowed. subst (λ (x : Stepped). Valid (x .station)) (sym same)
+    let frame = c .before .before .reading2 .given in
+    let changed = c .changed-by .ensures in (
+      ap (λ (x : Station). taken (a .self) (accepted x)) changed ∙ ap (taken (a .self)) (heard-as (a .self) v _ (frame .1)),
+      λ allowed. subst Valid (sym changed)
           (valid-changed (a .self) (frame .0 .0) qs (s .pre) (subst (λ (r : Reading). ReadingAllowed (a .self .interval) r qs) (frame .1) allowed)),
     )
 
@@ -42,9 +41,7 @@ heard-spec =
     tie.close
     (tie.spec
     (λ c. search needs)
-    (λ c κs. search needs)
     (λ c. search needs)
-    (λ c κs. c .before .before .before .before .pre .interval-positive)
-    (λ c κs. search needs)
+    changed-by-requires
     returns
     returns-2)

@@ -5,7 +5,7 @@ use denote.Ref.{now}
 use borrow.Author.Needs.{needs}
 use Rattle.frame.proofs.Allowing.{read-allowed}
 use Rattle.frame.specs.Allowed.{ReceivedAllowed}
-use Rattle.station.specs.Clock.{stepped}
+use Rattle.station.specs.Taking.{taken}
 use Rattle.station.proofs.Received.{read-means}
 use Rattle.station.proofs.Station.take.Statement.{statement}
 use Rattle.station.proofs.Station.take.Tie as tie
@@ -15,7 +15,7 @@ returns c =
     let a = c .before .before .before .before .before .args in
     let s = a .self in
     let read = c .before .read .ensures in (
-      c .heard .ensures .0 ∙ ap (stepped s) (read-means s (now (a .frame)) _ read),
+      c .heard .ensures .0 ∙ ap (taken s) (read-means s (now (a .frame)) _ read),
       c .heard .ensures .1 (subst (ReceivedAllowed (s .interval)) (sym read) (read-allowed (s .interval) (s .own) (s .ap) (now (a .frame)))),
     )
 

@@ -1,0 +1,33 @@
+-- The first octets of a list, and of a run by its elements. Assumes nothing.
+use mathlib.Core.List.{List}
+use mathlib.Core.Path.{_≡_, ap, _∙_}
+use Prim.Native.Nat.{ℕ, _+_, _≤_}
+use native.Mathlib.Omega.{arith}
+use lib.ListN.{length, take, drop, length-take}
+use lib.Seq.{length-take-le, getD-take, take-add, take-append-add, drop-at}
+use Rattle.octets.specs.Elements.{element}
+use Rattle.octets.specs.Numbers.{octetsFrom}
+use Rattle.walk.proofs.RunLaws.{front, split}
+use Rattle.walk.specs.Elements.{Elements, more, elementsIn}
+use Rattle.claims.proofs.ContentsIgnored.{same-from}
+
+module _ (p : ℕ) (os : List ℕ) where
+  -- k octets that stand before the cut are as they were
+  pub from-kept : (k i : ℕ) → i + k ≤ p → octetsFrom k i (take p os) ≡ octetsFrom k i os
+  from-kept k i h = same-from (take p os) os k i (λ j l m. getD-take p os j 0 (omega arith))
+
+  -- what has n octets and is cut no earlier still has them
+  pub long-kept : (n : ℕ) → n ≤ p → n ≤ length os → n ≤ length (take p os)
+  long-kept n h l = omega (arith, length-take p os)
+
+-- what stands after the first n octets is cut the same
+pub after-cut : (n k : ℕ) (os : List ℕ) → n ≤ length os → drop n (take (n + k) os) ≡ take k (drop n os)
+after-cut n k os h = ap (drop n) (take-add n k os) ∙ drop-at (take n os) (take k (drop n os)) n (length-take-le n os h)
+
+-- a whole element in front stands, and what follows it is cut the same
+pub element-kept : (run : List ℕ) (id : ℕ) (c : List ℕ) (es : Elements) (e : elementsIn run ≡ more id c es) (k : ℕ)
+    → elementsIn (take (length (element id c) + k) run) ≡ more id c (elementsIn (take k (split run id c es e .rest)))
+element-kept run id c es e k =
+    let y = split run id c es e in
+    ap (λ (os : List ℕ). elementsIn (take (length (element id c) + k) os)) (y .octets) ∙ ap elementsIn (take-append-add (element id c) (y .rest) k)
+    ∙ front id c (take k (y .rest))
