@@ -19,7 +19,7 @@ use Rattle.capture_record.specs.declared.entry.Settings.{Settings}
 use Rattle.claims.specs.Histories.{History, clockAfter}
 use Rattle.claims.specs.OpenUnits.{SetUnit, BegunUnit, QuietUnit}
 use Rattle.claims.specs.Records.{Agrees}
-use Rattle.claims.specs.Standing.{SetsEach, SchedulesAre, UntilIs}
+use Rattle.claims.specs.Standing.{RunsOn, SetsEach, SchedulesAre, UntilIs}
 use Rattle.claims.proofs.BegunRuns.{runs-on-begun, begun-or-runs-on}
 use Rattle.claims.proofs.CoveredUnits.{covers-unit, unit-covers}
 use Rattle.claims.proofs.OneSaying.{counts-one}
@@ -74,7 +74,7 @@ module _ (s : Settings) (pos : 1 ≤ s .interval) (h : History) (u : ℕ) where
     before-begun : u < n → BegunUnit s h u
     before-begun lt = ⊎-elim (λ (z : n ≡ 0). absurd (omega arith)) runs (until .1)
       where
-        runs : _ → BegunUnit s h u
+        runs : RunsOn s h n → BegunUnit s h u
         runs x = let w = runs-on-begun s h n x in (w .0, n, w .1, omega (arith, w .2), lt)
 
     begun-set-or-before : BegunUnit s h u → SetUnit s h u ⊎ (u < n)

@@ -2,6 +2,8 @@
 use mathlib.Core.Bool.{true}
 use mathlib.Core.Path.{_≡_}
 use Prim.Native.Nat.{ℕ, _+_, _<_, _≤_}
+-- where a run has begun it is the end of one, and none of those that have begun ends later; where none has, it is 0
+pub use Rattle.schedule.proofs.Ends.{is-end, none-later, none-begun}
 use Rattle.schedule.proofs.Schedule.covers_some as Covers-some
 use Rattle.schedule.proofs.Schedule.end_begun as End-begun
 use Rattle.schedule.proofs.Schedule.set_by as Set-by
@@ -21,9 +23,6 @@ covers-some κs a e f x y p q = once p q
 
 pub end-begun : OneResult 0 End-begun.Kinds.ps End-begun.Kinds.r End-begun.Reads.Post
 end-begun κs a e f x y p q = once p q
-
--- where a run has begun, it is the end of one, and none of those that have begun ends later; where none has, it is 0
-pub use Rattle.schedule.proofs.Ends.{is-end, none-later, none-begun}
 
 -- one of the n units from a on lies in a run
 abbrev pub SomeCovered : Schedule → ℕ → ℕ → Type 0
