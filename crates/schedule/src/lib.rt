@@ -60,10 +60,10 @@ impl Schedule {
         if now < self.start {
             return 0;
         }
-        if self.period == 0 {
-            return self.start + (self.duration as u64);
+        if self.period > 0 {
+            let past = (now - self.start) % self.period;
+            return now - past + (self.duration as u64);
         }
-        let past = (now - self.start) % self.period;
-        now - past + (self.duration as u64)
+        self.start + (self.duration as u64)
     }
 }
