@@ -24,14 +24,15 @@ use Rattle.frame.specs.Allowed.{KindAllowed}
 use Rattle.frame.specs.Frames.{Kind, beacon, probeResponse, action, Sent, frameMeans}
 use Rattle.pending.specs.declared.Pending.{Pending}
 use Rattle.station.specs.Clock.{stepped, switched, reached, clockAdvance, advancedTo, advanceMeans, advanceOf}
-use Rattle.station.specs.Stations.{inUse, withClock}
-use Rattle.station.specs.Taking.{schedulesOf, rescheduled, constrained, announced, announcedIf, informed, heard, takeMeans, takeOf}
+use Rattle.station.specs.Stations.{inUse, withClock, withUntil}
+use Rattle.station.specs.Taking.{schedulesOf, latestEnd, outlasting, rescheduled, constrained, announced, announcedIf, informed, heard, takeMeans, takeOf}
 use Rattle.station.specs.declared.Station.{Station}
 use Rattle.capture_record.specs.declared.entry.Settings.{Settings}
 use Rattle.claims.specs.Histories.{Call, frame, advance, ask, History, tooFar, clockAfter, Hears, Says, announcementIn, Tells, Announces, Latest, Throughout}
 use Rattle.claims.specs.Records.{recordAfter, Agrees}
-use Rattle.claims.specs.Standing.{NoAnnouncement, Switches, at-once, NoSwitch, ChannelIs, PowerIs, PendingIs, SetsEach, SchedulesAre}
+use Rattle.claims.specs.Standing.{NoAnnouncement, Switches, at-once, NoSwitch, ChannelIs, PowerIs, PendingIs, SetsEach, SchedulesAre, UntilIs}
 use Rattle.claims.specs.Standing as Standing
+use Rattle.claims.proofs.BegunRuns.{until-gone, until-stays, until-replaced}
 use Rattle.claims.proofs.CountingTbtts.{counting}
 use Rattle.claims.proofs.OneSaying.{no-switch-said, hears-one}
 use Rattle.claims.proofs.Others.{channel-changes, power-gone, schedules-gone, channel-stays, power-stays, schedules-stay, power-kept, no-constraint, schedules-replaced}
@@ -52,6 +53,7 @@ module _ (s : Settings) (pos : 1 ≤ s .interval) where
         power-told = λ p x. x;
         pending-told = λ at w x. x .0;
         schedules-told = inl (λ said t x. x, refl);
+        until-told = (λ e x. absurd x, inl refl);
       }
 
   -- ---- the schedules of a beacon or a probe response
@@ -89,6 +91,7 @@ module _ (s : Settings) (pos : 1 ≤ s .interval) where
           power-told = power-stays s c h calm (λ p x. silent (x .0) (x .1)) (r .power) (a .power-told);
           pending-told = pending-stays s pos c h still none (r .pending) (a .pending-told);
           schedules-told = schedules-stay s c h calm silent (inUse r) (a .schedules-told);
+          until-told = until-stays s c h calm (r .until) (a .until-told) silent;
         }
 
     -- ---- an accepted frame: `x` is the record before its announcement
@@ -96,7 +99,8 @@ module _ (s : Settings) (pos : 1 ≤ s .interval) where
     module _ (c : Call) (k : Kind) (x : Station) (still : clockAfter (c ∷ h) ≡ clockAfter h) (hears : Hears s c k)
         (own : x .own ≡ s .own) (ap' : x .ap ≡ s .ap) (interval : x .interval ≡ s .interval) (clock : x .clock ≡ clockAfter h)
         (channel : ChannelIs s h (x .channel)) (pending : PendingIs s h (x .pending))
-        (power : NoSwitch s c h → PowerIs s (c ∷ h) (x .power)) (schedules : NoSwitch s c h → SchedulesAre s (c ∷ h) (inUse x)) where
+        (power : NoSwitch s c h → PowerIs s (c ∷ h) (x .power)) (schedules : NoSwitch s c h → SchedulesAre s (c ∷ h) (inUse x))
+        (until : NoSwitch s c h → UntilIs s (c ∷ h) (x .until)) where
       silent-frame : announcementIn k ≡ MaybeSwitch.Absent → Agrees s (c ∷ h) x
       silent-frame e =
           let none : NoAnnouncement s c h = λ w y. no-switch-said (sym e ∙ ap announcementIn (hears-one s c k (y .0) hears (y .1)) ∙ y .2) in
@@ -110,6 +114,7 @@ module _ (s : Settings) (pos : 1 ≤ s .interval) where
             power-told = power calm;
             pending-told = pending-stays s pos c h still none (x .pending) pending;
             schedules-told = schedules calm;
+            until-told = until calm;
           }
 
       module _ (w : ChannelSwitch) (e : announcementIn k ≡ MaybeSwitch.Is w) where
@@ -127,6 +132,7 @@ module _ (s : Settings) (pos : 1 ≤ s .interval) where
               power-told = power-gone s c h w (at-once says z);
               pending-told = pending-gone s pos c h still w says z;
               schedules-told = schedules-gone s c h w (at-once says z);
+              until-told = until-gone s c h w (at-once says z);
             }
 
         announces-later : eqb (w .count) 0 ≡ false → Agrees s (c ∷ h) (announced x w)
@@ -144,6 +150,7 @@ module _ (s : Settings) (pos : 1 ≤ s .interval) where
               power-told = power calm;
               pending-told = rw (clock, interval) (pending-new s pos c h still w says more);
               schedules-told = schedules calm;
+              until-told = until calm;
             })
 
         announces : Agrees s (c ∷ h) (announced x w)
@@ -165,23 +172,31 @@ module _ (s : Settings) (pos : 1 ≤ s .interval) where
       tells : Tells s c said
       tells = (k, hears, says')
 
-      new-schedules : NoSwitch s c h → SchedulesAre s (c ∷ h) (inUse (rescheduled r (said .quiets)))
+      -- the record with the new schedules, and with what the old ones began
+      abbrev replaced : Station
+      replaced = rescheduled (withUntil r (outlasting r)) (said .quiets)
+
+      new-schedules : NoSwitch s c h → SchedulesAre s (c ∷ h) (inUse replaced)
       new-schedules calm =
-          rw (in-use r (said .quiets), a .same-clock, a .same-interval)
+          rw (in-use (withUntil r (outlasting r)) (said .quiets), a .same-clock, a .same-interval)
           (schedules-replaced s c h calm said tells _ (sets-each (clockAfter h) (said .quiets) allowed))
 
-      notices : (m : MaybePower) → said .notice .power ≡ m
-          → Agrees s (c ∷ h) (announcedIf (constrained (rescheduled r (said .quiets)) m) (announcementIn k))
+      runs-on : NoSwitch s c h → UntilIs s (c ∷ h) (outlasting r)
+      runs-on calm =
+          subst (λ (t : ℕ). UntilIs s (c ∷ h) (latestEnd t (r .until) (inUse r))) (sym (a .same-clock))
+          (until-replaced s c h calm (r .until) (a .until-told) pos said tells (inUse r) (a .schedules-told))
+
+      notices : (m : MaybePower) → said .notice .power ≡ m → Agrees s (c ∷ h) (announcedIf (constrained replaced m) (announcementIn k))
       notices MaybePower.Absent e =
-          announces-if c k (rescheduled r (said .quiets)) still hears (a .same-own) (a .same-ap) (a .same-interval) (a .same-clock)
+          announces-if c k replaced still hears (a .same-own) (a .same-ap) (a .same-interval) (a .same-clock)
           (a .channel-told) (a .pending-told)
           (λ calm. power-stays s c h calm (no-constraint s c h calm said tells e) (r .power) (a .power-told))
-          new-schedules (announcementIn k) refl
+          new-schedules runs-on (announcementIn k) refl
       notices (MaybePower.Is p) e =
-          announces-if c k (constrained (rescheduled r (said .quiets)) (MaybePower.Is p)) still hears (a .same-own) (a .same-ap) (a .same-interval)
+          announces-if c k (constrained replaced (MaybePower.Is p)) still hears (a .same-own) (a .same-ap) (a .same-interval)
           (a .same-clock) (a .channel-told) (a .pending-told)
           (λ calm. power-kept s c h calm said tells p e)
-          new-schedules (announcementIn k) refl
+          new-schedules runs-on (announcementIn k) refl
 
     -- ---- any frame
 
@@ -214,6 +229,7 @@ module _ (s : Settings) (pos : 1 ≤ s .interval) where
           (a .channel-told) (a .pending-told)
           (λ calm. power-stays s (frame f) h calm (λ p x. silent (x .0) (x .1)) (r .power) (a .power-told))
           (λ calm. schedules-stay s (frame f) h calm silent (inUse r) (a .schedules-told))
+          (λ calm. until-stays s (frame f) h calm (r .until) (a .until-told) silent)
           (MaybeSwitch.Is w) refl
         where
           silent : (said : Told) → Tells s (frame f) said → ⊥
@@ -257,6 +273,7 @@ module _ (s : Settings) (pos : 1 ≤ s .interval) where
             power-told = power-stays s (advance n) h calm (λ p x. silence (x .0) (x .1)) (r .power) (a .power-told);
             pending-told = pending;
             schedules-told = schedules-stay s (advance n) h calm silence (inUse r) (a .schedules-told);
+            until-told = until-stays s (advance n) h calm (r .until) (a .until-told) silence;
           }
 
       meets : (w : ChannelSwitch) → Switches s (advance n) h w → PendingIs s (advance n ∷ h) Pending.Nothing
@@ -271,6 +288,7 @@ module _ (s : Settings) (pos : 1 ≤ s .interval) where
             power-told = power-gone s (advance n) h w x;
             pending-told = pending;
             schedules-told = schedules-gone s (advance n) h w x;
+            until-told = until-gone s (advance n) h w x;
           }
 
       reaches : Agrees s (advance n ∷ h) (stepped r (advancedTo r (reached t (r .pending))) .station)

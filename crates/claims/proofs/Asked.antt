@@ -2,7 +2,7 @@
 use mathlib.Core.Bool.{Bool, true, false}
 use mathlib.Core.Logic.{inl, inr, ⊎-elim, _↔_}
 use mathlib.Core.Path.{_≡_, refl, sym, ap, _∙_, subst}
-use Prim.Native.Nat.{ℕ, _+_, _<_, _≤_}
+use Prim.Native.Nat.{ℕ, _+_, _-_, _<_, _≤_}
 use native.Mathlib.Nat.{le-refl, eq-or-lt-of-le}
 use native.Mathlib.Omega.{arith}
 use borrow.Author.Tests.{lt-ltb, le-ltb, ltb-true, ltb-false, eq-eqb, ne-eqb, eqb-true, eqb-false}
@@ -11,8 +11,8 @@ use Rattle.answer.proofs.Booleans.{clash, either}
 use Rattle.element.specs.declared.channel_switch.ChannelSwitch.{ChannelSwitch}
 use Rattle.pending.specs.Waiting.{silences, upTo, comesBefore}
 use Rattle.pending.specs.declared.Pending.{Pending}
-use Rattle.station.specs.Asking.{firstOf, quietIn, permissionOf}
-use Rattle.station.specs.Stations.{inUse}
+use Rattle.schedule.proofs.FirstUnit.{found, some-one}
+use Rattle.station.specs.Asking.{firstOf, quiet, quietBetween, permissionOf}
 use Rattle.station.specs.declared.Station.{Station}
 use Rattle.station.specs.declared.asking.Permission.{Permission}
 use Rattle.capture_record.specs.declared.entry.Settings.{Settings}
@@ -64,13 +64,11 @@ module _ (s : Settings) (pos : 1 ≤ s .interval) (h : History) (r : Station) (a
 
   -- ---- the quiet units
 
-  quiet-now : Tells-whether (quietIn (inUse r) (r .clock) (r .clock + 1)) (QuietUnit s h (clockAfter h))
+  quiet-now : Tells-whether (quiet r (r .clock)) (QuietUnit s h (clockAfter h))
   quiet-now =
       record {
-        holds = λ e.
-            let w = quiet-unit s pos h (inUse r) (r .clock) (r .clock + 1) (a .schedules-told) e in
-            subst (QuietUnit s h) (let now : w .0 ≡ clockAfter h = omega (arith, w .1, w .2, a .same-clock) in now) (w .3);
-        shows = λ q. unit-quiet s pos h (inUse r) (r .clock) (r .clock + 1) (clockAfter h) (a .schedules-told) (omega (arith, a .same-clock)) (omega (arith, a .same-clock)) q;
+        holds = λ e. quiet-unit s pos h (clockAfter h) r a (le-refl _) (subst (λ (u : ℕ). quiet r u ≡ true) (a .same-clock) e);
+        shows = λ q. subst (λ (u : ℕ). quiet r u ≡ true) (sym (a .same-clock)) (unit-quiet s pos h (clockAfter h) r a (le-refl _) q);
       }
 
   -- before the end, and before the pending switch, if any
@@ -96,18 +94,27 @@ module _ (s : Settings) (pos : 1 ≤ s .interval) (h : History) (r : Station) (a
       (λ (z : ltb (q .at) e ≡ false). simp z (b .0))
       (either (ltb (q .at) e))
 
-  quiet-later : (n : ℕ) → Tells-whether (quietIn (inUse r) (r .clock + 1) (upTo (r .pending) (r .clock + n))) (QuietLater s h n)
+  -- after the clock and before the end that the pending switch leaves
+  abbrev end : ℕ → ℕ
+  end n = upTo (r .pending) (r .clock + n)
+
+  quiet-later : (n : ℕ) → Tells-whether (quietBetween r (r .clock + 1) (end n)) (QuietLater s h n)
   quiet-later n =
       record {
         holds = λ e.
-            let w = quiet-unit s pos h (inUse r) (r .clock + 1) (upTo (r .pending) (r .clock + n)) (a .schedules-told) e in
-            let b = up-to (r .pending) (r .clock + n) (w .0) (a .pending-told) (w .2) in
-            (w .0, omega (arith, w .1, a .same-clock), omega (arith, b .0, a .same-clock), b .1, w .3);
+            let w = found (quiet r) (r .clock + 1) (end n - (r .clock + 1)) e in
+            let b = up-to (r .pending) (r .clock + n) (w .0) (a .pending-told) (omega (arith, w .1, w .2)) in (
+              w .0,
+              omega (arith, w .1, a .same-clock),
+              omega (arith, b .0, a .same-clock),
+              b .1,
+              quiet-unit s pos h (w .0) r a (omega (arith, w .1, a .same-clock)) (w .3),
+            );
         shows = λ x.
-            unit-quiet s pos h (inUse r) (r .clock + 1) (upTo (r .pending) (r .clock + n)) (x .0) (a .schedules-told)
+            some-one (quiet r) (r .clock + 1) (end n - (r .clock + 1)) (x .0)
             (omega (arith, x .1, a .same-clock))
-            (up-to-back (r .pending) (r .clock + n) (x .0) (a .pending-told) (omega (arith, x .2, a .same-clock), x .3))
-            (x .4);
+            (omega (arith, x .1, a .same-clock, up-to-back (r .pending) (r .clock + n) (x .0) (a .pending-told) (omega (arith, x .2, a .same-clock), x .3)))
+            (unit-quiet s pos h (x .0) r a (omega (arith, x .1)) (x .4));
       }
 
   -- ---- the answers
@@ -118,10 +125,8 @@ module _ (s : Settings) (pos : 1 ≤ s .interval) (h : History) (r : Station) (a
         record {
           before-switch = before;
           no-wait = λ at w x m k. no-wait (at, w, x, m);
-          not-quiet = λ q. ⊎-elim
-              (λ (e : clockAfter h ≡ u). not-now (subst (QuietUnit s h) (sym e) q))
-              (λ (k : clockAfter h < u). not-later (u, k, hi, before, q))
-              (eq-or-lt-of-le lo);
+          not-set = λ x. not-quiet (inl x);
+          not-begun = λ x. not-quiet (inr x);
         }
       where
         before : (at : ℕ) (w : ChannelSwitch) → Awaits s h at w → u < at
@@ -130,6 +135,13 @@ module _ (s : Settings) (pos : 1 ≤ s .interval) (h : History) (r : Station) (a
             (λ (y : ltb at (clockAfter h + n) ≡ true). absurd (not-within (at, w, x, ltb-true at (clockAfter h + n) y)))
             (λ (k : ltb at (clockAfter h + n) ≡ false). omega (arith, ltb-false at (clockAfter h + n) k))
             (either (ltb at (clockAfter h + n)))
+
+        not-quiet : QuietUnit s h u → ⊥
+        not-quiet q =
+            ⊎-elim
+            (λ (e : clockAfter h ≡ u). not-now (subst (QuietUnit s h) (sym e) q))
+            (λ (k : clockAfter h < u). not-later (u, k, hi, before, q))
+            (eq-or-lt-of-le lo)
 
     -- the first that applies is the answer
     answer-applies : Applies s h n (permissionOf r n)
@@ -141,18 +153,18 @@ module _ (s : Settings) (pos : 1 ≤ s .interval) (h : History) (r : Station) (a
         let right : (1 ≤ n) × (n ≤ 65535) = (omega (arith, eqb-false n 0 n0), ltb-false 65535 n n1) in
         ⊎-elim (λ (y : silences (r .pending) ≡ true). simp (n0, n1, y) (right, waits .holds y))
         (λ (n2 : silences (r .pending) ≡ false). ⊎-elim
-        (λ (y : quietIn (inUse r) (r .clock) (r .clock + 1) ≡ true). simp (n0, n1, n2, y) (right, fails waits n2, quiet-now .holds y))
-        (λ (n3 : quietIn (inUse r) (r .clock) (r .clock + 1) ≡ false). ⊎-elim
-        (λ (y : quietIn (inUse r) (r .clock + 1) (upTo (r .pending) (r .clock + n)) ≡ true).
+        (λ (y : quiet r (r .clock) ≡ true). simp (n0, n1, n2, y) (right, fails waits n2, quiet-now .holds y))
+        (λ (n3 : quiet r (r .clock) ≡ false). ⊎-elim
+        (λ (y : quietBetween r (r .clock + 1) (end n) ≡ true).
         simp (n0, n1, n2, n3, y) (right, fails waits n2, fails quiet-now n3, quiet-later n .holds y))
-        (λ (n4 : quietIn (inUse r) (r .clock + 1) (upTo (r .pending) (r .clock + n)) ≡ false). ⊎-elim
+        (λ (n4 : quietBetween r (r .clock + 1) (end n) ≡ false). ⊎-elim
         (λ (y : comesBefore (r .pending) (r .clock + n) ≡ true).
         simp (n0, n1, n2, n3, n4, y) (right, fails waits n2, fails quiet-now n3, fails (quiet-later n) n4, within n .holds y))
         (λ (n5 : comesBefore (r .pending) (r .clock + n) ≡ false).
         simp (n0, n1, n2, n3, n4, n5) (right, all-open (fails waits n2) (fails quiet-now n3) (fails (quiet-later n) n4) (fails (within n) n5)))
         (either (comesBefore (r .pending) (r .clock + n))))
-        (either (quietIn (inUse r) (r .clock + 1) (upTo (r .pending) (r .clock + n)))))
-        (either (quietIn (inUse r) (r .clock) (r .clock + 1))))
+        (either (quietBetween r (r .clock + 1) (end n))))
+        (either (quiet r (r .clock))))
         (either (silences (r .pending))))
         (either (ltb 65535 n)))
         (either (eqb n 0))
@@ -161,8 +173,11 @@ module _ (s : Settings) (pos : 1 ≤ s .interval) (h : History) (r : Station) (a
     open-no-wait : 1 ≤ n → AllOpen s h n → Waits s h → ⊥
     open-no-wait more open-all (at, w, x, m) = open-all (clockAfter h) (le-refl _) (omega arith) .no-wait at w x m (x .1)
 
+    open-not-quiet : AllOpen s h n → (u : ℕ) → clockAfter h ≤ u → u < clockAfter h + n → QuietUnit s h u → ⊥
+    open-not-quiet open-all u lo hi q = ⊎-elim (open-all u lo hi .not-set) (open-all u lo hi .not-begun) q
+
     open-not-later : AllOpen s h n → QuietLater s h n → ⊥
-    open-not-later open-all (u, lo, hi, before, q) = open-all u (omega arith) hi .not-quiet q
+    open-not-later open-all (u, lo, hi, before, q) = open-not-quiet open-all u (omega arith) hi q
 
     open-not-within : AllOpen s h n → SwitchWithin s h n → ⊥
     open-not-within open-all (at, w, x, lt) = let less : at < at = open-all at (omega (arith, x .1)) lt .before-switch at w x in omega arith
@@ -184,7 +199,7 @@ module _ (s : Settings) (pos : 1 ≤ s .interval) (h : History) (r : Station) (a
           ne-eqb n 0 (λ z. omega arith),
           le-ltb 65535 n hi,
           denies waits (open-no-wait lo o),
-          denies quiet-now (λ q. o (clockAfter h) (le-refl _) (omega arith) .not-quiet q),
+          denies quiet-now (open-not-quiet o (clockAfter h) (le-refl _) (omega arith)),
           denies (quiet-later n) (open-not-later o),
           denies (within n) (open-not-within o),
         )

@@ -3,6 +3,7 @@ pub mod AnsweredRequests
 pub mod Asked
 pub mod BeaconItems
 pub mod BeforeOne
+pub mod BegunRuns
 pub mod Bodies
 pub mod BodiesBefore
 pub mod ContentsIgnored
@@ -17,6 +18,7 @@ pub mod ErrorReturns
 pub mod FedFilesListed
 pub mod Filtered
 pub mod HistoriesTell
+pub mod LatestEnds
 pub mod ListedFiles
 pub mod MeasurementItems
 pub mod MeasurementsIgnored
@@ -48,6 +50,7 @@ pub mod RunItems
 pub mod Same
 pub mod SameBits
 pub mod Schedules
+pub mod SetSchedules
 pub mod SoundBefore
 pub mod StationWitnesses
 pub mod Stations

@@ -12,15 +12,15 @@ use Rattle.fraction.specs.Fractions.{ceiling, fractionOf, possible, densitiesOf
 use Rattle.frame.specs.Actions.{actionMeans}
 use Rattle.frame.specs.Frames.{frameMeans}
 use Rattle.header.specs.Headers.{foreignHeader, foreignAddress, toAll, headerMeans, managementMeans, addressMeans}
-use Rattle.schedule.specs.Schedules.{covered}
+use Rattle.schedule.specs.Schedules.{covered, endBegun}
 use Rattle.schedule.specs.Units.{someUnit}
-use Rattle.station.specs.Asking.{firstOf, quietIn, permissionOf}
+use Rattle.station.specs.Asking.{firstOf, coveredBy, quiet, permissionOf}
 use Rattle.station.specs.Clock.{clockAdvance, advanceMeans}
-use Rattle.station.specs.Taking.{announced, informed, takeMeans}
+use Rattle.station.specs.Taking.{latestEnd, announced, informed, takeMeans}
 use Rattle.walk.specs.Elements.{elementsAfter, elementsIn}
 use Rattle.claims.specs.Moments.{AllRight, moments}
 use Rattle.claims.specs.Records.{recordAfter}
 
 pub all-right : AllRight moments
-unfolding recordAfter takeMeans frameMeans headerMeans managementMeans addressMeans foreignHeader foreignAddress toAll beaconMeans checked says takes elementMeans elementsIn elementsAfter quietMeans switchMeans fixed actionMeans opensWith required single announced informed clockAdvance advanceMeans permissionOf firstOf quietIn someUnit covered densitiesOf possible fractionOf ceiling
-all-right = (refl, (refl, (refl, (refl, (refl, (refl, (refl, (refl, (refl, (refl, (refl, (refl, (refl, ((refl, refl), tt))))))))))))))
+unfolding recordAfter takeMeans frameMeans headerMeans managementMeans addressMeans foreignHeader foreignAddress toAll beaconMeans checked says takes elementMeans elementsIn elementsAfter quietMeans switchMeans fixed actionMeans opensWith required single announced informed latestEnd endBegun clockAdvance advanceMeans permissionOf firstOf quiet coveredBy someUnit covered densitiesOf possible fractionOf ceiling
+all-right = (refl, (refl, (refl, (refl, (refl, (refl, (refl, (refl, (refl, (refl, (refl, (refl, (refl, (refl, (refl, (refl, ((refl, refl), tt)))))))))))))))))

@@ -17,7 +17,7 @@ use Rattle.station.specs.declared.Station.{Station}
 use Rattle.capture_record.specs.declared.entry.Settings.{Settings}
 use Rattle.claims.specs.Histories.{History}
 use Rattle.claims.specs.Records.{Agrees}
-use Rattle.claims.specs.Standing.{Sets, SetsEach, SchedulesAre}
+use Rattle.claims.specs.Standing.{Sets, SetsEach, SchedulesAre, UntilIs}
 use Rattle.claims.proofs.CountingTbtts.{one-moment}
 use Rattle.claims.proofs.OneSaying.{counts-one, channel-one, power-one, pending-one}
 
@@ -29,8 +29,8 @@ same-schedule x y a b c =
     let same : scheduleOf (x .start) (x .period) (x .duration) ≡ scheduleOf (y .start) (y .period) (y .duration) = rw (a, b, c) in
     same
 
-abbrev stationOf : List ℕ → List ℕ → ℕ → ℕ → ℕ → MaybePower → Pending → List Schedule → ℕ → Station
-stationOf own ap' interval clock channel power pending schedules count =
+abbrev stationOf : List ℕ → List ℕ → ℕ → ℕ → ℕ → MaybePower → Pending → List Schedule → ℕ → ℕ → Station
+stationOf own ap' interval clock channel power pending schedules count until =
     record {
       own = own;
       ap = ap';
@@ -41,6 +41,7 @@ stationOf own ap' interval clock channel power pending schedules count =
       pending = pending;
       schedules = schedules;
       count = count;
+      until = until;
     }
 
 module _ (s : Settings) (pos : 1 ≤ s .interval) where
@@ -69,6 +70,12 @@ module _ (s : Settings) (pos : 1 ≤ s .interval) where
         (subst (λ (z : Told × ℕ). SetsEach s (z .1) (z .0 .quiets) xs) (counts-one s pos h (said, t) (said', t') counts counts') each)
         each'
 
+    until-one : (m n : ℕ) → UntilIs s h m → UntilIs s h n → m ≡ n
+    until-one m n (f, inl z) (g, inl z') = z ∙ sym z'
+    until-one m n (f, inl z) (g, inr y) = omega (arith, z, f n y)
+    until-one m n (f, inr x) (g, inl z') = omega (arith, z', g m x)
+    until-one m n (f, inr x) (g, inr y) = omega (arith, f n y, g m x)
+
     -- what the slots hold follows from the schedules in use
     as-many : (r : Station) → Valid r → length (inUse r) ≡ r .count
     as-many r v = length-take-le (r .count) (r .schedules) (omega (arith, v .slots, v .few))
@@ -88,11 +95,12 @@ module _ (s : Settings) (pos : 1 ≤ s .interval) where
         let channel = channel-one s pos h (r .channel) (r' .channel) (a .channel-told) (a' .channel-told) in
         let power = power-one s pos h (r .power) (r' .power) (a .power-told) (a' .power-told) in
         let pending = pending-one s pos h (r .pending) (r' .pending) (a .pending-told) (a' .pending-told) in
+        let until = until-one (r .until) (r' .until) (a .until-told) (a' .until-told) in
         let count : r .count ≡ r' .count = sym (as-many r v) ∙ ap (λ (xs : List Schedule). length xs) used ∙ as-many r' v' in
         let schedules : r .schedules ≡ r' .schedules =
         slots-hold r v ∙ ap (λ (xs : List Schedule). xs ++ replicate (quietLimit - length xs) noSchedule) used ∙ sym (slots-hold r' v') in
         let same :
-        stationOf (r .own) (r .ap) (r .interval) (r .clock) (r .channel) (r .power) (r .pending) (r .schedules) (r .count)
-        ≡ stationOf (r' .own) (r' .ap) (r' .interval) (r' .clock) (r' .channel) (r' .power) (r' .pending) (r' .schedules) (r' .count) =
-        rw (own, ap', interval, clock, channel, power, pending, schedules, count) in
+        stationOf (r .own) (r .ap) (r .interval) (r .clock) (r .channel) (r .power) (r .pending) (r .schedules) (r .count) (r .until)
+        ≡ stationOf (r' .own) (r' .ap) (r' .interval) (r' .clock) (r' .channel) (r' .power) (r' .pending) (r' .schedules) (r' .count) (r' .until) =
+        rw (own, ap', interval, clock, channel, power, pending, schedules, count, until) in
         same

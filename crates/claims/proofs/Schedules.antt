@@ -1,8 +1,11 @@
--- Quiet schedules: each promise leaves one outcome, and a yes means a unit that lies in a run. Assumes nothing.
+-- Quiet schedules: each promise leaves one outcome, a yes means a unit that lies in a run, and an end is the latest of the runs that have begun. Assumes nothing.
 use mathlib.Core.Bool.{true}
 use mathlib.Core.Path.{_≡_}
 use Prim.Native.Nat.{ℕ, _+_, _<_, _≤_}
+-- where a run has begun it is the end of one, and none of those that have begun ends later; where none has, it is 0
+pub use Rattle.schedule.proofs.Ends.{is-end, none-later, none-begun}
 use Rattle.schedule.proofs.Schedule.covers_some as Covers-some
+use Rattle.schedule.proofs.Schedule.end_begun as End-begun
 use Rattle.schedule.proofs.Schedule.set_by as Set-by
 use Rattle.schedule.proofs.Covering.{covered-covers, covers-covered}
 use Rattle.schedule.proofs.FirstUnit.{found, some-one}
@@ -17,6 +20,9 @@ set-by κs a e f x y p q = once p q
 
 pub covers-some : OneResult 0 Covers-some.Kinds.ps Covers-some.Kinds.r Covers-some.Reads.Post
 covers-some κs a e f x y p q = once p q
+
+pub end-begun : OneResult 0 End-begun.Kinds.ps End-begun.Kinds.r End-begun.Reads.Post
+end-begun κs a e f x y p q = once p q
 
 -- one of the n units from a on lies in a run
 abbrev pub SomeCovered : Schedule → ℕ → ℕ → Type 0

@@ -18,19 +18,32 @@ use Rattle.frame.specs.Actions.{actionMeans}
 use Rattle.frame.specs.Frames.{frameMeans}
 use Rattle.header.specs.Headers.{foreignHeader, foreignAddress, toAll, headerMeans, managementMeans, addressMeans}
 use Rattle.pending.specs.declared.Pending.{Pending}
-use Rattle.schedule.specs.Schedules.{covered}
+use Rattle.schedule.specs.Schedules.{covered, endBegun}
 use Rattle.schedule.specs.Units.{someUnit}
-use Rattle.station.specs.Asking.{firstOf, quietIn, permissionOf}
+use Rattle.station.specs.Asking.{firstOf, coveredBy, permissionOf}
+use Rattle.station.specs.Asking as Asking
 use Rattle.station.specs.Clock.{clockAdvance, advanceMeans}
-use Rattle.station.specs.Taking.{announced, informed, takeMeans}
+use Rattle.station.specs.Taking.{latestEnd, announced, informed, takeMeans}
 use Rattle.walk.specs.Elements.{elementsAfter, elementsIn}
-use Rattle.claims.specs.Histories.{advance}
-use Rattle.claims.specs.Moments.{Moment, asking, AllRight, ours, heard, beaconOf, quiet, announcement}
+use Rattle.claims.specs.Histories.{Call, advance}
+use Rattle.claims.specs.Moments.{Moment, asking, AllRight, ours, heard, beaconOf, quiet, switchSoon, announcement, quietSince}
 use Rattle.claims.specs.Records.{recordAfter}
 
 -- Quiet with this count: period 0, duration 10, offset 20
 abbrev quietAfter : ℕ → List ℕ
 quietAfter count = 40 ∷ 6 ∷ count ∷ 0 ∷ 10 ∷ 0 ∷ 20 ∷ 0 ∷ []
+
+-- Quiet for so many units from this offset on: count 1, period 0
+abbrev quietFor : ℕ → ℕ → List ℕ
+quietFor duration offset = 40 ∷ 6 ∷ 1 ∷ 0 ∷ duration ∷ 0 ∷ offset ∷ 0 ∷ []
+
+-- one from 120 to 219, accepted at 50, with the clock at 125
+abbrev long : List Call
+long = advance 75 ∷ beaconOf (quietFor 100 20) ∷ advance 50 ∷ []
+
+-- one from 120 to 219 and, of a later frame, one from 200 to 209, with the clock at 205
+abbrev longAndShort : List Call
+longAndShort = advance 75 ∷ beaconOf (quietFor 10 0) ∷ advance 5 ∷ long
 
 -- Power Constraint of 3 dB
 abbrev constraint : List ℕ
@@ -58,11 +71,24 @@ witnesses =
     ∷ asking (advance 70 ∷ beaconOf (quiet 0 ++ switchNow) ∷ advance 50 ∷ []) 1 0
     -- a switch ends the schedules
     ∷ asking (advance 70 ∷ announcement 0 ∷ beaconOf (quiet 0) ∷ advance 50 ∷ []) 1 0
+    -- an interval that begins at the very moment at which a later beacon is accepted has begun, one that begins a unit later has not
+    ∷ asking (advance 1 ∷ beaconOf [] ∷ quietSince 0 70) 1 2
+    ∷ asking (advance 2 ∷ beaconOf [] ∷ quietSince 0 69) 1 0
+    -- two run on from two frames, the longer one set first: the latest end counts
+    ∷ asking (advance 14 ∷ beaconOf [] ∷ longAndShort) 1 2
+    ∷ asking (advance 15 ∷ beaconOf [] ∷ longAndShort) 1 0
+    -- where a switch comes at the first unit of an interval, or between its frame and it, the interval never begins
+    ∷ asking (beaconOf [] ∷ advance 55 ∷ announcement 0 ∷ beaconOf (quietFor 10 0) ∷ advance 50 ∷ []) 1 0
+    ∷ asking (beaconOf [] ∷ advance 75 ∷ announcement 0 ∷ quietSince 0 0) 1 0
+    -- a switch ends what runs on, and so does a count of 0 in the frame that replaces the schedules
+    ∷ asking (advance 74 ∷ beaconOf (switchSoon 0) ∷ long) 1 2
+    ∷ asking (advance 75 ∷ beaconOf (switchSoon 0) ∷ long) 1 0
+    ∷ asking (beaconOf switchNow ∷ long) 1 0
     ∷ []
 
 pub witnesses-right : AllRight witnesses
-unfolding recordAfter takeMeans frameMeans headerMeans managementMeans addressMeans foreignHeader foreignAddress toAll beaconMeans checked says takes elementMeans elementsIn elementsAfter quietMeans switchMeans fixed actionMeans opensWith required single announced informed clockAdvance advanceMeans permissionOf firstOf quietIn someUnit covered
-witnesses-right = (refl, (refl, (refl, (refl, (refl, (refl, (refl, (refl, (refl, (refl, tt))))))))))
+unfolding recordAfter takeMeans frameMeans headerMeans managementMeans addressMeans foreignHeader foreignAddress toAll beaconMeans checked says takes elementMeans elementsIn elementsAfter quietMeans switchMeans fixed actionMeans opensWith required single announced informed latestEnd endBegun clockAdvance advanceMeans permissionOf firstOf Asking.quiet coveredBy someUnit covered
+witnesses-right = (refl, (refl, (refl, (refl, (refl, (refl, (refl, (refl, (refl, (refl, (refl, (refl, (refl, (refl, (refl, (refl, (refl, (refl, (refl, tt)))))))))))))))))))
 
 -- ---- the record
 

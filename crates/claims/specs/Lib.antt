@@ -13,6 +13,7 @@ pub mod Numbered
 pub mod OpenUnits
 pub mod Places
 pub mod PossibleReadings
+pub mod QuietRuns
 pub mod Records
 pub mod RepliesRead
 pub mod ReplyHeads

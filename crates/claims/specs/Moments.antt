@@ -1,4 +1,4 @@
--- The moments that 01 marks P ("Moments on both sides", B = 100), as one list: calls through raw octets, a question, its answer; and the
+-- The moments that 01 marks P ("Moments on both sides", B = 100), and those of 02, Two, as one list: calls through raw octets, a question, its answer; and the
 -- densities of eight times.
 use mathlib.Core.List.{List, [], _∷_, _++_}
 use mathlib.Core.Path.{_≡_}
@@ -68,6 +68,10 @@ moments =
     ∷ asking (quietSince 2 280) 1 0
     -- a beacon without Quiet at 110: at 120
     ∷ asking (advance 10 ∷ beaconOf [] ∷ quietSince 0 60) 1 0
+    -- one at 125, when the interval has begun (02, Two): at 126, 129 and 130
+    ∷ asking (advance 1 ∷ beaconOf [] ∷ quietSince 0 75) 1 2
+    ∷ asking (advance 4 ∷ beaconOf [] ∷ quietSince 0 75) 1 2
+    ∷ asking (advance 5 ∷ beaconOf [] ∷ quietSince 0 75) 1 0
     -- the same Quiet and a mode-0 switch at 100: at 90
     ∷ asking (advance 40 ∷ announcement 0 ∷ quietSince 0 0) 50 4
     -- mode 0, count 1 at 50: at 99

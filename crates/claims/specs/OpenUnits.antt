@@ -1,41 +1,40 @@
--- Which units are open, by the history, read unit by unit (00, demand 3), and the answers to a question (01, "The station": "First that
+-- Which units are open, by the history, read unit by unit (00, demand 3, in the words of 02, Two), and the answers to a question (01, "The station": "First that
 -- applies: 5 n is 0 or over 65,535; 1 a mode-1 switch is pending; 2 t is quiet; 3 some covered unit after t and before the pending
 -- switch, if any, is quiet; 4 the switch lies before t + n; 0 granted").
 use mathlib.Core.List.{List·Memᴰ}
 use mathlib.Core.Logic.{_⊎_}
 use mathlib.Core.Path.{_≡_}
-use Prim.Native.Nat.{ℕ, _+_, _*_, _<_, _≤_}
+use Prim.Native.Nat.{ℕ, _+_, _<_, _≤_}
 use Rattle.beacon.specs.Beacons.{Told}
 use Rattle.element.specs.declared.channel_switch.ChannelSwitch.{ChannelSwitch}
 use Rattle.element.specs.declared.quiet.Quiet.{Quiet}
 use Rattle.station.specs.declared.asking.Permission.{Permission}
 use Rattle.capture_record.specs.declared.entry.Settings.{Settings}
 use Rattle.claims.specs.Histories.{History, clockAfter}
-use Rattle.claims.specs.Standing.{Awaits, Counts}
-use Rattle.claims.specs.Tbtts.{CountedTo}
-
--- a Quiet element that was accepted at t covers the unit u: in its first run, which is at the TBTT it counts to, or, where it has a
--- period, in one that comes so many times that number of TBTTs later
-pub record CoversUnit (b t : ℕ) (q : Quiet) (u : ℕ) : Type 0 where
-  pub later : ℕ
-  pub may-repeat : (later ≡ 0) ⊎ (0 < q .period)
-  pub tbtt : ℕ
-  pub counted : CountedTo b t (q .count + later * q .period) tbtt
-  pub begun : tbtt + q .offset ≤ u
-  pub not-over : u < tbtt + q .offset + q .duration
+use Rattle.claims.specs.QuietRuns.{CoversUnit}
+use Rattle.claims.specs.Standing.{Awaits, Counts, Begun}
 
 module _ (s : Settings) (h : History) where
   -- the unit lies in a quiet interval set by the latest accepted beacon or probe response since the last switch
-  abbrev pub QuietUnit : ℕ → Type 0
-  QuietUnit u =
+  abbrev pub SetUnit : ℕ → Type 0
+  SetUnit u =
       (said : Told) × (t : ℕ) × (q : Quiet) × Counts s h said t × List·Memᴰ q (said .quiets) × CoversUnit (s .interval) t q u
 
-  -- the unit lies before any pending switch, outside the wait of a mode-1 announcement that is still the latest, and outside every
-  -- such quiet interval
+  -- the unit lies in a "quiet interval begun while its frame was the latest, with no switch at its beginning or since" (02, Two)
+  abbrev pub BegunUnit : ℕ → Type 0
+  BegunUnit u = (a : ℕ) × (e : ℕ) × Begun s h a e × (a ≤ u) × (u < e)
+
+  -- the unit is quiet by the one or by the other
+  abbrev pub QuietUnit : ℕ → Type 0
+  QuietUnit u = SetUnit u ⊎ BegunUnit u
+
+  -- the unit lies before any pending switch, outside the wait of a mode-1 announcement that is still the latest, outside every quiet
+  -- interval that the latest frame set and outside every one that has begun
   pub record Open (u : ℕ) : Type 0 where
     pub before-switch : (at : ℕ) (w : ChannelSwitch) → Awaits s h at w → u < at
     pub no-wait : (at : ℕ) (w : ChannelSwitch) → Awaits s h at w → w .mode ≡ 1 → u < at → ⊥
-    pub not-quiet : QuietUnit u → ⊥
+    pub not-set : SetUnit u → ⊥
+    pub not-begun : BegunUnit u → ⊥
 
   -- each unit that sending for n TU would cover is open
   abbrev pub AllOpen : ℕ → Type 0

@@ -8,7 +8,7 @@ use Rattle.station.specs.Taking.{takeOf}
 use Rattle.station.specs.declared.Station.{Station}
 use Rattle.capture_record.specs.declared.entry.Settings.{Settings}
 use Rattle.claims.specs.Histories.{frame, advance, ask, History, clockAfter}
-use Rattle.claims.specs.Standing.{ChannelIs, PowerIs, PendingIs, SchedulesAre}
+use Rattle.claims.specs.Standing.{ChannelIs, PowerIs, PendingIs, SchedulesAre, UntilIs}
 
 module _ (s : Settings) where
   unfoldable pub recordAfter : History → Station
@@ -26,3 +26,4 @@ module _ (s : Settings) where
     pub power-told : PowerIs s h (r .power)
     pub pending-told : PendingIs s h (r .pending)
     pub schedules-told : SchedulesAre s h (inUse r)
+    pub until-told : UntilIs s h (r .until)

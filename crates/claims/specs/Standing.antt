@@ -1,7 +1,7 @@
 -- What stands after a history (01, "The station": "In the history, a switch happened where an announcement's moment was reached with no
 -- later announcement accepted first. The schedules that count are those of the latest accepted beacon or probe response, unless a
--- switch came after it; a count of 0 in that same frame comes after it.").
-use mathlib.Core.List.{List, [], _∷_}
+-- switch came after it; a count of 0 in that same frame comes after it."), and which quiet intervals have begun (02, Two).
+use mathlib.Core.List.{List, [], _∷_, List·Memᴰ}
 use mathlib.Core.Logic.{_⊎_}
 use mathlib.Core.Path.{_≡_}
 use Prim.Native.Nat.{ℕ, _+_, _*_, _<_, _≤_}
@@ -14,6 +14,7 @@ use Rattle.pending.specs.declared.Pending.{Pending}
 use Rattle.schedule.specs.declared.Schedule.{Schedule}
 use Rattle.capture_record.specs.declared.entry.Settings.{Settings}
 use Rattle.claims.specs.Histories.{Call, History, clockAfter, Tells, Announces, Constrains, Latest, Throughout}
+use Rattle.claims.specs.QuietRuns.{RunBegins}
 use Rattle.claims.specs.Tbtts.{CountedTo}
 
 module _ (s : Settings) where
@@ -51,6 +52,27 @@ module _ (s : Settings) where
       (λ c g. ((x : Told) → Tells s c x → ⊥) × NoSwitch c g)
       (λ c g. Tells s c said × (t ≡ clockAfter g) × NoSwitch c g)
       h
+
+  -- ---- quiet intervals that have begun
+
+  -- the latest beacon or probe response set a run from the unit a on and before e, and the clock has reached its first unit
+  pub record BegunNow (h : History) (a e : ℕ) : Type 0 where
+    pub said : Told
+    pub accepted : ℕ
+    pub counts : Counts h said accepted
+    pub quiet : Quiet
+    pub among : List·Memᴰ quiet (said .quiets)
+    pub begins : RunBegins (s .interval) accepted quiet a
+    pub begun : a ≤ clockAfter h
+    pub ends : e ≡ a + quiet .duration
+
+  -- such a run has begun while its frame was the latest, with no switch at its beginning or since
+  abbrev pub Begun : History → ℕ → ℕ → Type 0
+  Begun h a e = Latest NoSwitch (λ c g. BegunNow (c ∷ g) a e) h
+
+  -- one that had begun, and ends before e, runs on: a later beacon or probe response replaced its frame, and no switch came with it or since
+  abbrev pub RunsOn : History → ℕ → Type 0
+  RunsOn h e = Latest NoSwitch (λ c g. ((said : Told) × Tells s c said) × NoSwitch c g × ((a : ℕ) × BegunNow g a e)) h
 
   -- ---- each field of the record, as the history has it
 
@@ -96,3 +118,7 @@ module _ (s : Settings) where
   SchedulesAre h xs =
       (((said : Told) (t : ℕ) → Counts h said t → ⊥) × (xs ≡ []))
       ⊎ ((said : Told) × (t : ℕ) × Counts h said t × SetsEach t (said .quiets) xs)
+
+  -- the latest end of what runs on; 0 where nothing does
+  abbrev pub UntilIs : History → ℕ → Type 0
+  UntilIs h n = ((e : ℕ) → RunsOn h e → e ≤ n) × ((n ≡ 0) ⊎ RunsOn h n)

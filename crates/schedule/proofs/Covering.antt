@@ -61,6 +61,17 @@ module _ (s : Schedule) where
       ∙ ap (λ (x : ℕ). x % s .period) (let e : (u - s .start) % s .period + toNext u ≡ s .period = omega (arith, mod-lt (u - s .start) b) in e)
       ∙ mod-self (s .period)
 
+  -- the latest run that has begun by u is number 0 where there is no period
+  pub latest-repeats : (u : ℕ) → ((u - s .start) / s .period ≡ 0) ⊎ (0 < s .period)
+  latest-repeats u =
+      ⊎-elim (λ (z : s .period ≡ 0). inl (ap (λ (p : ℕ). (u - s .start) / p) z ∙ div-zero (u - s .start))) (λ (z : 0 < s .period). inr z) (zero-or-more (s .period))
+
+  -- from the start of any run that has begun by u, the latest is as far away
+  pub same-age : (u j : ℕ) → s .start + j * s .period ≤ u → (u - s .start) % s .period ≡ (u - (s .start + j * s .period)) % s .period
+  same-age u j h =
+      ap (λ (n : ℕ). n % s .period) (let q : u - s .start ≡ u - (s .start + j * s .period) + j * s .period = omega arith in q)
+      ∙ add-mul-mod-self-right (u - (s .start + j * s .period)) j (s .period)
+
 -- ---- some unit from a on and before b: a law for each way out of `covers_some`
 
 module _ (s : Schedule) (a b : ℕ) where
@@ -116,8 +127,7 @@ module _ (s : Schedule) (u : ℕ) where
   covered-covers e = (
     (u - s .start) / s .period,
     record {
-      repeats =
-          ⊎-elim (λ (z : s .period ≡ 0). inl (ap (λ (p : ℕ). (u - s .start) / p) z ∙ div-zero (u - s .start))) (λ (z : 0 < s .period). inr z) (zero-or-more (s .period));
+      repeats = latest-repeats s u;
       begun = omega (arith, div-mul-le-self (u - s .start) (s .period), started);
       not-over = omega (arith, div-add-mod' (u - s .start) (s .period), short, started);
     },
@@ -132,9 +142,4 @@ module _ (s : Schedule) (u : ℕ) where
   pub covers-covered : Covers s u → covered s u ≡ true
   covers-covered (j, run) =
       from-start s u (omega (arith, run .begun))
-      ∙ lt-ltb ((u - s .start) % s .period) (s .duration) (omega (arith, same, mod-le (u - (s .start + j * s .period)) (s .period), run .begun, run .not-over))
-    where
-      same : (u - s .start) % s .period ≡ (u - (s .start + j * s .period)) % s .period
-      same =
-          ap (λ (n : ℕ). n % s .period) (let q : u - s .start ≡ u - (s .start + j * s .period) + j * s .period = omega (arith, run .begun) in q)
-          ∙ add-mul-mod-self-right (u - (s .start + j * s .period)) j (s .period)
+      ∙ lt-ltb ((u - s .start) % s .period) (s .duration) (omega (arith, same-age s u j (run .begun), mod-le (u - (s .start + j * s .period)) (s .period), run .begun, run .not-over))

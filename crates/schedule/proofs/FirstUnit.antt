@@ -1,5 +1,5 @@
--- Some unit of several passes exactly if the first that passes is one of them. Assumes nothing.
-use mathlib.Core.Bool.{Bool, true, false}
+-- Some unit of several passes exactly if the first that passes is one of them; and some unit by two tests. Assumes nothing.
+use mathlib.Core.Bool.{Bool, true, false, _||_}
 use mathlib.Core.Logic.{⊎-elim}
 use mathlib.Core.Path.{_≡_, refl, sym, ap, _∙_}
 use Prim.Native.Nat.{ℕ, zero, suc, _+_, _-_, _<_, _≤_}
@@ -9,6 +9,10 @@ use borrow.Author.Tests.{ltb-true, ltb-false}
 use lib.Dec.{ltb}
 use Rattle.answer.proofs.Booleans.{clash, either, or-go, or-stop}
 use Rattle.schedule.specs.Units.{someUnit}
+
+or-false : (t : Bool) → (t || false) ≡ t
+or-false true = refl
+or-false false = refl
 
 module _ (test : ℕ → Bool) where
   pub some-none : (a n : ℕ) → ((u : ℕ) → a ≤ u → u < a + n → test u ≡ false) → someUnit test a n ≡ false
@@ -50,5 +54,31 @@ module _ (test : ℕ → Bool) where
       past : ltb m b ≡ false → ltb m b ≡ someUnit test a (b - a)
       past x = x ∙ sym (some-none a (b - a) (λ u l h. none u l (omega (arith, ltb-false m b x))))
 
+  pub one-unit : (a : ℕ) → someUnit test a (a + 1 - a) ≡ test a
+  unfolding someUnit
+  one-unit a = ap (someUnit test a) (let e : a + 1 - a ≡ 1 = omega arith in e) ∙ or-false (test a)
+
   pub no-units : (a b : ℕ) → b ≤ a → false ≡ someUnit test a (b - a)
   no-units a b h = sym (some-none a (b - a) (λ u l k. absurd (omega arith)))
+
+-- ---- two tests
+
+exchanged : (a b c d : Bool) → ((a || b) || (c || d)) ≡ ((a || c) || (b || d))
+exchanged true b c d = refl
+exchanged false true true d = refl
+exchanged false true false d = refl
+exchanged false false c d = refl
+
+module _ (f g : ℕ → Bool) where
+  -- some unit passes one of them: some unit passes the one, or some unit the other
+  pub some-or : (a n : ℕ) → someUnit (λ u. f u || g u) a n ≡ (someUnit f a n || someUnit g a n)
+  unfolding someUnit
+  some-or a zero = refl
+  some-or a (suc n) =
+      ap (λ (x : Bool). (f a || g a) || x) (some-or (suc a) n) ∙ exchanged (f a) (g a) (someUnit f (suc a) n) (someUnit g (suc a) n)
+
+  -- they say the same from a on
+  pub some-same : (a n : ℕ) → ((u : ℕ) → a ≤ u → f u ≡ g u) → someUnit f a n ≡ someUnit g a n
+  unfolding someUnit
+  some-same a zero h = refl
+  some-same a (suc n) h = rw (h a (le-refl a), some-same (suc a) n (λ u l. h u (omega arith)))

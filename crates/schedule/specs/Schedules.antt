@@ -5,6 +5,7 @@ use mathlib.Core.Logic.{_⊎_}
 use mathlib.Core.Path.{_≡_}
 use Prim.Native.Nat.{ℕ, _+_, _-_, _*_, _%_, _<_, _≤_}
 use lib.Dec.{ltb}
+use Rattle.answer.specs.Checks.{pick}
 use Rattle.element.specs.declared.quiet.Quiet.{Quiet}
 use Rattle.schedule.specs.declared.Schedule.{Schedule}
 
@@ -25,3 +26,18 @@ Covers s u = (j : ℕ) × Run s u j
 -- the same as a test, by how far the unit lies past the start of the latest run (x % 0 is x); `Covering` proves them the same
 unfoldable pub covered : Schedule → ℕ → Bool
 covered s u = not (ltb u (s .start)) && ltb ((u - s .start) % s .period) (s .duration)
+
+-- run number j has begun by the moment t, and e is the first unit after it
+pub record HasBegun (s : Schedule) (t e j : ℕ) : Type 0 where
+  pub repeats : (j ≡ 0) ⊎ (0 < s .period)
+  pub begun : s .start + j * s .period ≤ t
+  pub ends : e ≡ s .start + j * s .period + s .duration
+
+-- some run that has begun by t ends there
+abbrev pub EndsAt : Schedule → ℕ → ℕ → Type 0
+EndsAt s t e = (j : ℕ) × HasBegun s t e j
+
+-- the latest such end, by how far t lies past the start of the latest run; 0 where none has begun (02, Two: "the latest end counts"). `Ends` proves
+-- that it is one of them and that none is later
+unfoldable pub endBegun : Schedule → ℕ → ℕ
+endBegun s t = pick (ltb t (s .start)) 0 (t - (t - s .start) % s .period + s .duration)

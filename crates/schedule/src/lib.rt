@@ -1,7 +1,7 @@
 // A quiet schedule (document 01, "The station"; 802.11h 7.3.2.23 and 11.6.2).
 ghost use mathlib.Core.Path.{_≡_};
 ghost use Prim.Native.Nat.{_-_};
-ghost use Rattle.schedule.specs.Schedules.{setBy, covered};
+ghost use Rattle.schedule.specs.Schedules.{setBy, covered, endBegun};
 ghost use Rattle.schedule.specs.Units.{someUnit};
 use element::quiet::Quiet;
 
@@ -9,7 +9,7 @@ use element::quiet::Quiet;
 pub struct Schedule {
     pub start: u64,
     pub period: u64,
-    pub duration: u64,
+    pub duration: u16,
 }
 
 impl Schedule {
@@ -22,7 +22,7 @@ impl Schedule {
         Schedule {
             start: tbtt + (quiet.offset as u64),
             period: (quiet.period as u64) * (interval as u64),
-            duration: quiet.duration as u64,
+            duration: quiet.duration,
         }
     }
 
@@ -42,12 +42,28 @@ impl Schedule {
         }
         let into = from - self.start;
         if self.period == 0 {
-            return into < self.duration;
+            return into < (self.duration as u64);
         }
         let past = into % self.period;
-        if past < self.duration {
+        if past < (self.duration as u64) {
             return true;
         }
         self.period - past < to - from
+    }
+
+    // The end of the latest run that has begun by a moment, or 0 where none has (document 02, Two). All runs last as long, so no other that has
+    // begun ends later. The duration and the moment are narrow, so nothing wraps.
+    pub fn end_begun(self, moment: u32) -> u64
+        ensures { λ r. ⌜ r ≡ endBegun self moment ⌝ }
+    {
+        let now = moment as u64;
+        if now < self.start {
+            return 0;
+        }
+        if self.period > 0 {
+            let past = (now - self.start) % self.period;
+            return now - past + (self.duration as u64);
+        }
+        self.start + (self.duration as u64)
     }
 }

@@ -1,36 +1,82 @@
--- The schedules in use, from one on. Assumes nothing.
-use mathlib.Core.Bool.{true, false}
-use mathlib.Core.List.{List, _∷_}
-use mathlib.Core.Path.{_≡_, sym, ap, _∙_}
+-- The schedules in use, from one on: which units they cover, and the latest end of what they began. Assumes nothing.
+use mathlib.Core.Bool.{true, false, _||_}
+use mathlib.Core.List.{List, [], _∷_}
+use mathlib.Core.Path.{_≡_, refl, sym, ap, _∙_}
 use Prim.Native.Nat.{ℕ, _+_, _-_, _<_, _≤_}
+use native.Mathlib.Nat.{le-refl}
 use native.Mathlib.Numerals.{add-one}
 use native.Mathlib.Omega.{arith}
+use borrow.Author.Tests.{lt-ltb, le-ltb}
+use lib.Dec.{ltb}
 use lib.ListN.{drop, getD, drop-of-length-le, length-take}
 use lib.Seq.{drop-cons, getD-take, length-take-le}
 use Rattle.answer.proofs.Booleans.{or-go, or-stop}
-use Rattle.schedule.specs.Schedules.{covered}
+use Rattle.schedule.proofs.FirstUnit.{some-none, some-one, some-or, some-same}
+use Rattle.schedule.specs.Schedules.{covered, endBegun}
 use Rattle.schedule.specs.Units.{someUnit}
 use Rattle.schedule.specs.declared.Schedule.{Schedule}
-use Rattle.station.specs.Asking.{quietIn}
+use Rattle.station.specs.Asking.{coveredBy, quiet, quietBetween}
 use Rattle.station.specs.Stations.{noSchedule, inUse}
+use Rattle.station.specs.Taking.{later, latestEnd}
 use Rattle.station.specs.Validity.{Valid}
 use Rattle.station.specs.declared.Station.{Station}
 
-module _ (s : Station) (v : Valid s) (a b i : ℕ) where
+module _ (s : Station) (v : Valid s) (i : ℕ) where
   -- the schedule in slot i is the first of those from i on
   here : i < s .count → drop i (inUse s) ≡ getD (s .schedules) i noSchedule ∷ drop (i + 1) (inUse s)
   here h =
       drop-cons (inUse s) i noSchedule (omega (arith, length-take-le (s .count) (s .schedules) (omega (arith, v .slots, v .few))))
       ∙ rw (getD-take (s .count) (s .schedules) i noSchedule h, ← add-one i)
 
-  pub found-here : i < s .count → someUnit (covered (getD (s .schedules) i noSchedule)) a (b - a) ≡ true → quietIn (drop i (inUse s)) a b ≡ true
-  unfolding quietIn
-  found-here h e = ap (λ (xs : List Schedule). quietIn xs a b) (here h) ∙ or-stop _ _ e
+  -- past the last there is none
+  past-all : s .count ≤ i → drop i (inUse s) ≡ []
+  past-all h = drop-of-length-le (inUse s) {i = i} (omega (arith, length-take (s .count) (s .schedules)))
 
-  pub not-here : i < s .count → someUnit (covered (getD (s .schedules) i noSchedule)) a (b - a) ≡ false → quietIn (drop (i + 1) (inUse s)) a b ≡ quietIn (drop i (inUse s)) a b
-  unfolding quietIn
-  not-here h e = sym (ap (λ (xs : List Schedule). quietIn xs a b) (here h) ∙ or-go _ e)
+  -- ---- some unit from a on and before b
 
-  pub none-left : s .count ≤ i → quietIn (drop i (inUse s)) a b ≡ false
-  unfolding quietIn
-  none-left h = rw (drop-of-length-le (inUse s) {i = i} (omega (arith, length-take (s .count) (s .schedules))))
+  module _ (a b : ℕ) where
+    -- the first of them covers some unit, or one of the others does
+    first-or-others : i < s .count
+        → someUnit (coveredBy (drop i (inUse s))) a (b - a)
+        ≡ (someUnit (covered (getD (s .schedules) i noSchedule)) a (b - a) || someUnit (coveredBy (drop (i + 1) (inUse s))) a (b - a))
+    unfolding coveredBy
+    first-or-others h =
+        ap (λ (xs : List Schedule). someUnit (coveredBy xs) a (b - a)) (here h)
+        ∙ some-or (covered (getD (s .schedules) i noSchedule)) (coveredBy (drop (i + 1) (inUse s))) a (b - a)
+
+    pub found-here : i < s .count → someUnit (covered (getD (s .schedules) i noSchedule)) a (b - a) ≡ true → someUnit (coveredBy (drop i (inUse s))) a (b - a) ≡ true
+    found-here h e = first-or-others h ∙ or-stop _ _ e
+
+    pub not-here : i < s .count → someUnit (covered (getD (s .schedules) i noSchedule)) a (b - a) ≡ false
+        → someUnit (coveredBy (drop (i + 1) (inUse s))) a (b - a) ≡ someUnit (coveredBy (drop i (inUse s))) a (b - a)
+    not-here h e = sym (first-or-others h ∙ or-go _ e)
+
+    pub none-left : s .count ≤ i → someUnit (coveredBy (drop i (inUse s))) a (b - a) ≡ false
+    unfolding coveredBy
+    none-left h =
+        ap (λ (xs : List Schedule). someUnit (coveredBy xs) a (b - a)) (past-all h) ∙ some-none (coveredBy []) a (b - a) (λ u l k. refl)
+
+  -- ---- the latest end at t
+
+  module _ (t e : ℕ) where
+    pub counted-here : i < s .count
+        → latestEnd t (later e (endBegun (getD (s .schedules) i noSchedule) t)) (drop (i + 1) (inUse s)) ≡ latestEnd t e (drop i (inUse s))
+    unfolding latestEnd
+    counted-here h = sym (ap (latestEnd t e) (here h))
+
+    pub all-counted : s .count ≤ i → latestEnd t e (drop i (inUse s)) ≡ e
+    unfolding latestEnd
+    all-counted h = ap (latestEnd t e) (past-all h)
+
+-- ---- what runs on
+
+module _ (s : Station) (a b : ℕ) where
+  -- where it ends before, the schedules decide
+  pub by-schedules : s .until ≤ a → quietBetween s a b ≡ someUnit (coveredBy (inUse s)) a (b - a)
+  unfolding quiet
+  by-schedules h =
+      some-same (quiet s) (coveredBy (inUse s)) a (b - a) (λ u l. or-go (ltb u (s .until)) (le-ltb u (s .until) (omega arith)))
+
+  pub runs-on : a < b → a < s .until → quietBetween s a b ≡ true
+  unfolding quiet
+  runs-on h k = some-one (quiet s) a (b - a) a (le-refl a) (omega arith) (or-stop (ltb a (s .until)) _ (lt-ltb a (s .until) k))

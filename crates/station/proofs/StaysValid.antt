@@ -29,8 +29,8 @@ use Rattle.schedule.specs.Schedules.{setBy}
 use Rattle.schedule.specs.declared.Schedule.{Schedule}
 use Rattle.station.specs.Clock.{stepped, switched, reached, clockAdvance, advancedTo, advanceMeans, advanceOf}
 use Rattle.station.specs.Starting.{startForbids}
-use Rattle.station.specs.Stations.{clockLimit, unitLimit, noSchedule, fresh, withClock, withChannel, withPower, withPending, withSchedules}
-use Rattle.station.specs.Taking.{passed, schedulesOf, rescheduled, constrained, announced, announcedIf, informed, changedBy}
+use Rattle.station.specs.Stations.{clockLimit, unitLimit, noSchedule, fresh, withClock, withChannel, withPower, withPending, withSchedules, withUntil}
+use Rattle.station.specs.Taking.{passed, schedulesOf, outlasting, rescheduled, constrained, announced, announcedIf, informed, changedBy}
 use Rattle.station.specs.Validity.{PendingFits, Valid}
 use Rattle.station.specs.declared.Station.{Station}
 use Rattle.station.specs.declared.clock.Advanced.{Advanced}
@@ -121,12 +121,26 @@ module _ (s : Station) (v : Valid s) where
         rest-blank = drop-at xs (replicate (quietLimit - length xs) noSchedule) (length xs) refl;
       }
 
+  valid-until : (e : ℕ) → Valid (withUntil s e)
+  valid-until e =
+      record {
+        own-single = v .own-single;
+        ap-single = v .ap-single;
+        interval-positive = v .interval-positive;
+        channel-known = v .channel-known;
+        pending-fits = v .pending-fits;
+        slots = v .slots;
+        few = v .few;
+        rest-blank = v .rest-blank;
+      }
+
 -- ---- the clock
 
 -- a switch clears the rest
 valid-switched : (s : Station) (channel : ℕ) → Valid s → channel ≤ highest → Valid (switched s channel)
 valid-switched s channel v h =
-    valid-schedules _ (valid-pending _ (valid-power _ (valid-channel s v channel h) MaybePower.Absent) Pending.Nothing tt) [] (lit≤ tt)
+    valid-until _
+    (valid-schedules _ (valid-pending _ (valid-power _ (valid-channel s v channel h) MaybePower.Absent) Pending.Nothing tt) [] (lit≤ tt)) 0
 
 -- where the clock goes on to a moment, the switch is met or is still to come
 valid-reached : (s : Station) (t : ℕ) → Valid s → Valid (stepped s (advancedTo s (reached t (s .pending))) .station)
@@ -190,7 +204,9 @@ valid-announced-if s (MaybeSwitch.Is w) v a = valid-announced s w v a
 valid-informed : (s : Station) (t : Told) → Valid s → Allowed (s .interval) t → Valid (informed s t)
 unfolding informed
 valid-informed s t v a =
-    valid-announced-if _ (t .notice .switch) (valid-constrained _ (t .notice .power) (valid-rescheduled s (t .quiets) v (a .few))) (a .switch-allowed)
+    valid-announced-if _ (t .notice .switch)
+    (valid-constrained _ (t .notice .power) (valid-rescheduled _ (t .quiets) (valid-until s v (outlasting s)) (a .few)))
+    (a .switch-allowed)
 
 pub valid-changed : (s : Station) (f : Frame) (qs : List Quiet) → Valid s → FrameAllowed (s .interval) f qs → Valid (changedBy s f qs)
 valid-changed s (Frame.Beacon n) qs v a = valid-informed s (tells n qs) v a

@@ -35,10 +35,18 @@ unfoldable pub firstOf : List Case → Permission
 firstOf [] = Permission.Granted
 firstOf (c ∷ cs) = pick (c .applies) (c .answer) (firstOf cs)
 
--- some schedule covers some unit from a on and before b
-unfoldable pub quietIn : List Schedule → ℕ → ℕ → Bool
-quietIn [] a b = false
-quietIn (q ∷ qs) a b = someUnit (covered q) a (b - a) || quietIn qs a b
+-- some schedule covers the unit
+unfoldable pub coveredBy : List Schedule → ℕ → Bool
+coveredBy [] u = false
+coveredBy (x ∷ xs) u = covered x u || coveredBy xs u
+
+-- the unit, the clock's or a later one, is quiet: what runs on covers it (02, Two), or a schedule in use
+unfoldable pub quiet : Station → ℕ → Bool
+quiet s u = ltb u (s .until) || coveredBy (inUse s) u
+
+-- some unit from a on and before b is quiet
+abbrev pub quietBetween : Station → ℕ → ℕ → Bool
+quietBetween s a b = someUnit (quiet s) a (b - a)
 
 unfoldable pub permissionOf : Station → ℕ → Permission
 permissionOf s n =
@@ -46,7 +54,7 @@ permissionOf s n =
     (eqb n 0 gives Permission.WrongLength
     ∷ ltb unitLimit n gives Permission.WrongLength
     ∷ silences (s .pending) gives Permission.SwitchSilences
-    ∷ quietIn (inUse s) (s .clock) (s .clock + 1) gives Permission.QuietNow
-    ∷ quietIn (inUse s) (s .clock + 1) (upTo (s .pending) (s .clock + n)) gives Permission.QuietLater
+    ∷ quiet s (s .clock) gives Permission.QuietNow
+    ∷ quietBetween s (s .clock + 1) (upTo (s .pending) (s .clock + n)) gives Permission.QuietLater
     ∷ comesBefore (s .pending) (s .clock + n) gives Permission.SwitchBefore
     ∷ [])

@@ -1,5 +1,6 @@
 -- The clock (01, "The station" and "Answer numbers"): 14 where it would pass its limit, or the advance is over 65,535; when it reaches
--- the switch, the channel changes, and schedules, constraint and pending switch are gone.
+-- the switch, the channel changes, and schedules, constraint and pending switch are gone; what runs on of older schedules ends too (02, Two: "A
+-- channel switch still ends it").
 use mathlib.Core.Bool.{_||_}
 use mathlib.Core.List.{[]}
 use Prim.Native.Nat.{ℕ, _+_}
@@ -9,7 +10,7 @@ use Rattle.answer.specs.declared.Answer.{Answer}
 use Rattle.answer.specs.declared.Refusal.{Refusal}
 use Rattle.beacon.specs.declared.MaybePower.{MaybePower}
 use Rattle.pending.specs.declared.Pending.{Pending}
-use Rattle.station.specs.Stations.{clockLimit, unitLimit, withClock, withChannel, withPower, withPending, withSchedules}
+use Rattle.station.specs.Stations.{clockLimit, unitLimit, withClock, withChannel, withPower, withPending, withSchedules, withUntil}
 use Rattle.station.specs.declared.Station.{Station}
 use Rattle.station.specs.declared.clock.Advanced.{Advanced}
 use Rattle.station.specs.declared.clock.Stepped.{Stepped}
@@ -20,7 +21,7 @@ stepped s (refused r) = record { answer = Answer.Refused r; station = s }
 stepped s (accepted next) = record { answer = Answer.Accepted; station = next }
 
 abbrev pub switched : Station → ℕ → Station
-switched s channel = withSchedules (withPending (withPower (withChannel s channel) MaybePower.Absent) Pending.Nothing) []
+switched s channel = withUntil (withSchedules (withPending (withPower (withChannel s channel) MaybePower.Absent) Pending.Nothing) []) 0
 
 -- with the clock at t, a switch that lies no later has come
 abbrev pub reached : ℕ → Pending → Advanced

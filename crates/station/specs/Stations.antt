@@ -1,5 +1,5 @@
 -- What a station keeps (01, "The station"): settings, clock, channel, latest Power Constraint if any, one pending switch if any, and
--- quiet schedules with how many are in use.
+-- quiet schedules with how many are in use; and until when what had begun of replaced schedules runs on (02, Two), 0 where nothing does.
 use mathlib.Core.List.{List, [], _++_}
 use Prim.Native.Nat.{ℕ, _-_}
 use lib.ListN.{length, take, replicate}
@@ -42,13 +42,14 @@ fresh own ap b channel =
       pending = Pending.Nothing;
       schedules = slotted [];
       count = 0;
+      until = 0;
     }
 
 -- ---- a station with one field changed: the settings never do
 
 module _ (s : Station) where
-  abbrev kept : ℕ → ℕ → MaybePower → Pending → List Schedule → ℕ → Station
-  kept clock channel power pending schedules count =
+  abbrev kept : ℕ → ℕ → MaybePower → Pending → List Schedule → ℕ → ℕ → Station
+  kept clock channel power pending schedules count until =
       record {
         own = s .own;
         ap = s .ap;
@@ -59,20 +60,24 @@ module _ (s : Station) where
         pending = pending;
         schedules = schedules;
         count = count;
+        until = until;
       }
 
   abbrev pub withClock : ℕ → Station
-  withClock t = kept t (s .channel) (s .power) (s .pending) (s .schedules) (s .count)
+  withClock t = kept t (s .channel) (s .power) (s .pending) (s .schedules) (s .count) (s .until)
 
   abbrev pub withChannel : ℕ → Station
-  withChannel channel = kept (s .clock) channel (s .power) (s .pending) (s .schedules) (s .count)
+  withChannel channel = kept (s .clock) channel (s .power) (s .pending) (s .schedules) (s .count) (s .until)
 
   abbrev pub withPower : MaybePower → Station
-  withPower p = kept (s .clock) (s .channel) p (s .pending) (s .schedules) (s .count)
+  withPower p = kept (s .clock) (s .channel) p (s .pending) (s .schedules) (s .count) (s .until)
 
   abbrev pub withPending : Pending → Station
-  withPending p = kept (s .clock) (s .channel) (s .power) p (s .schedules) (s .count)
+  withPending p = kept (s .clock) (s .channel) (s .power) p (s .schedules) (s .count) (s .until)
 
   -- these schedules are those in use
   abbrev pub withSchedules : List Schedule → Station
-  withSchedules xs = kept (s .clock) (s .channel) (s .power) (s .pending) (slotted xs) (length xs)
+  withSchedules xs = kept (s .clock) (s .channel) (s .power) (s .pending) (slotted xs) (length xs) (s .until)
+
+  abbrev pub withUntil : ℕ → Station
+  withUntil e = kept (s .clock) (s .channel) (s .power) (s .pending) (s .schedules) (s .count) e

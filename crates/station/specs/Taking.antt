@@ -1,7 +1,7 @@
 -- Taking a frame (01, "The station"): what an accepted one changes. A refused one changes nothing, and says where it broke (02, One).
-use mathlib.Core.List.{List, map}
+use mathlib.Core.List.{List, [], _∷_, map}
 use Prim.Native.Nat.{ℕ, _/_}
-use lib.Dec.{eqb}
+use lib.Dec.{ltb, eqb}
 use lib.ListN.{take}
 use Rattle.answer.specs.Checks.{refused, accepted, pick, andThen}
 use Rattle.answer.specs.Faults.{Placed}
@@ -16,10 +16,10 @@ use Rattle.frame.specs.Laid.{frameTold, frameOf, quietsOf}
 use Rattle.frame.specs.declared.Frame.{Frame}
 use Rattle.frame.specs.declared.Received.{Received}
 use Rattle.pending.specs.Waiting.{pendingBy}
-use Rattle.schedule.specs.Schedules.{setBy}
+use Rattle.schedule.specs.Schedules.{setBy, endBegun}
 use Rattle.schedule.specs.declared.Schedule.{Schedule}
 use Rattle.station.specs.Clock.{switched}
-use Rattle.station.specs.Stations.{withPower, withPending, withSchedules}
+use Rattle.station.specs.Stations.{inUse, withPower, withPending, withSchedules, withUntil}
 use Rattle.station.specs.declared.Station.{Station}
 use Rattle.station.specs.declared.taking.Taken.{Taken}
 
@@ -30,6 +30,19 @@ passed s = s .clock / s .interval
 -- the schedules that Quiet elements set, k beacon intervals of b units having passed
 abbrev pub schedulesOf : ℕ → ℕ → List Quiet → List Schedule
 schedulesOf k b qs = map (λ q. setBy q k b) qs
+
+-- the later of two moments
+abbrev pub later : ℕ → ℕ → ℕ
+later d e = pick (ltb d e) e d
+
+-- the latest of an end and of those of the schedules' runs that have begun by t (02, Two: "several may run and the latest end counts")
+unfoldable pub latestEnd : ℕ → ℕ → List Schedule → ℕ
+latestEnd t e [] = e
+latestEnd t e (x ∷ xs) = latestEnd t (later e (endBegun x t)) xs
+
+-- until when it stays quiet where the schedules are replaced now: a run that has begun keeps its whole length
+abbrev pub outlasting : Station → ℕ
+outlasting s = latestEnd (s .clock) (s .until) (inUse s)
 
 -- all schedules are replaced, by none where there is no Quiet element
 abbrev pub rescheduled : Station → List Quiet → Station
@@ -50,9 +63,10 @@ abbrev pub announcedIf : Station → MaybeSwitch → Station
 announcedIf s MaybeSwitch.Absent = s
 announcedIf s (MaybeSwitch.Is w) = announced s w
 
--- a beacon or a probe response: first the schedules, then the Power Constraint, then the announcement
+-- a beacon or a probe response: first the schedules, of which what has begun runs on, then the Power Constraint, then the announcement
 unfoldable pub informed : Station → Told → Station
-informed s t = announcedIf (constrained (rescheduled s (t .quiets)) (t .notice .power)) (t .notice .switch)
+informed s t =
+    announcedIf (constrained (rescheduled (withUntil s (outlasting s)) (t .quiets)) (t .notice .power)) (t .notice .switch)
 
 -- an accepted frame, with the Quiet elements beside it; other action frames change nothing
 abbrev pub changedBy : Station → Frame → List Quiet → Station

@@ -1,7 +1,6 @@
 // Asking to send (document 01, "The station"): it costs the schedules in use, not the units asked about.
 ghost use mathlib.Core.Path.{_≡_};
-ghost use Rattle.station.specs.Asking.{permissionNumber, quietIn, permissionOf};
-ghost use Rattle.station.specs.Stations.{inUse};
+ghost use Rattle.station.specs.Asking.{permissionNumber, quietBetween, permissionOf};
 ghost use Rattle.station.specs.Validity.{Valid};
 use crate::Station;
 
@@ -37,11 +36,17 @@ impl Permission {
 }
 
 impl Station {
-    // Whether some schedule covers some unit from `from` on and before `to`.
+    // Whether some unit from `from` on and before `to` is quiet: the first of them by what runs on, or any by a schedule.
     fn quiet_between(self, from: u64, to: u64) -> bool
         requires { ⌜ Valid self ⌝ }
-        ensures { λ r. ⌜ r ≡ quietIn (inUse self) from to ⌝ }
+        ensures { λ r. ⌜ r ≡ quietBetween self from to ⌝ }
     {
+        if to <= from {
+            return false;
+        }
+        if from < self.until {
+            return true;
+        }
         let mut i = 0;
         while i < self.count {
             let schedule = self.schedules[i];

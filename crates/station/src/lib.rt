@@ -19,7 +19,8 @@ use beacon::MaybePower;
 use pending::Pending;
 use schedule::Schedule;
 
-// What one station keeps between calls. The first `count` slots are the quiet schedules in use, the others are blank.
+// What one station keeps between calls. The first `count` slots are the quiet schedules in use, the others are blank. Before `until` it is quiet by
+// what had begun of schedules that were replaced: the latest end counts, and 0 says that nothing runs on (document 02, Two).
 pub struct Station {
     pub own: [u8; 6],
     pub ap: [u8; 6],
@@ -30,6 +31,7 @@ pub struct Station {
     pub pending: Pending,
     pub schedules: [Schedule; Station::SCHEDULE_LIMIT],
     pub count: usize,
+    pub until: u64,
 }
 
 impl Station {
@@ -52,7 +54,7 @@ impl Station {
         duration: 0,
     };
 
-    // On another channel nothing of the old one holds: schedules, constraint and pending switch are gone.
+    // On another channel nothing of the old one holds: schedules, what runs on of older ones, constraint and pending switch are gone.
     fn switched(self, channel: u8) -> Station
         ensures { λ r. ⌜ r ≡ switched self channel ⌝ }
     {
@@ -62,6 +64,7 @@ impl Station {
             pending: Pending::Nothing,
             schedules: [Station::NO_SCHEDULE; Station::SCHEDULE_LIMIT],
             count: 0,
+            until: 0,
             ..self
         }
     }

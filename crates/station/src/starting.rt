@@ -31,6 +31,7 @@ impl Station {
             pending: Pending::Nothing,
             schedules: [Station::NO_SCHEDULE; Station::SCHEDULE_LIMIT],
             count: 0,
+            until: 0,
         }
     }
 

@@ -7,7 +7,8 @@ ghost use Rattle.beacon.specs.Beacons.{quietLimit, tells};
 ghost use Rattle.element.specs.declared.quiet.Quiet.{Quiet};
 ghost use Rattle.frame.specs.Allowed.{ReceivedAllowed};
 ghost use Rattle.pending.specs.Waiting.{pendingBy};
-ghost use Rattle.station.specs.Taking.{passed, rescheduled, constrained, announced, announcedIf, informed, changedBy, heardOf, takeOf};
+ghost use Rattle.station.specs.Stations.{withUntil};
+ghost use Rattle.station.specs.Taking.{later, passed, outlasting, rescheduled, constrained, announced, announcedIf, informed, changedBy, heardOf, takeOf};
 ghost use Rattle.station.specs.Validity.{Valid};
 use crate::Station;
 use answer::Verdict;
@@ -36,6 +37,13 @@ fn at_most_all(count: usize) -> usize
     if QUIETS < count { QUIETS } else { count }
 }
 
+// The later of two moments.
+fn later(one: u64, other: u64) -> u64
+    ensures { λ r. ⌜ r ≡ later one other ⌝ }
+{
+    if one < other { other } else { one }
+}
+
 impl Station {
     // How many whole beacon intervals have passed.
     fn passed(self) -> u32
@@ -45,10 +53,26 @@ impl Station {
         self.clock / (self.interval as u32)
     }
 
-    // The schedules of the first `count` Quiet elements take the place of all there were.
-    fn rescheduled(self, quiets: [Quiet; QUIETS], count: usize) -> Station
+    // Until when it stays quiet where the schedules are replaced now: a run that has begun keeps its whole length, and of several the latest end
+    // counts (document 02, Two).
+    fn outlasting(self) -> u64
+        requires { ⌜ Valid self ⌝ }
+        ensures { λ r. ⌜ r ≡ outlasting self ⌝ }
+    {
+        let mut until = self.until;
+        let mut i = 0;
+        while i < self.count {
+            let schedule = self.schedules[i];
+            until = later(until, schedule.end_begun(self.clock));
+            i += 1;
+        }
+        until
+    }
+
+    // The schedules of the first `count` Quiet elements take the place of all there were, and until then it stays quiet by what runs on of these.
+    fn rescheduled(self, until: u64, quiets: [Quiet; QUIETS], count: usize) -> Station
         requires { ⌜ 1 ≤ self .interval ⌝ }
-        ensures { λ r. ⌜ r ≡ rescheduled self (take count quiets) ⌝ }
+        ensures { λ r. ⌜ r ≡ rescheduled (withUntil self until) (take count quiets) ⌝ }
     {
         let count = at_most_all(count);
         let interval = self.interval;
@@ -64,6 +88,7 @@ impl Station {
         Station {
             schedules,
             count,
+            until,
             ..self
         }
     }
@@ -108,28 +133,30 @@ impl Station {
         }
     }
 
-    // What a beacon or a probe response changes: all schedules, then the constraint, then the announcement. Most have no Quiet element,
-    // and no schedule is left then.
+    // What a beacon or a probe response changes: all schedules, of which what has begun runs on, then the constraint, then the announcement. Most
+    // have no Quiet element, and no schedule is left then.
     fn informed(self, notice: Notice, quiets: [Quiet; QUIETS], count: usize) -> Station
-        requires { ⌜ 1 ≤ self .interval ⌝ }
+        requires { ⌜ Valid self ⌝ }
         ensures { λ r. ⌜ r ≡ informed self (tells notice (take count quiets)) ⌝ }
     {
         let power = notice.power;
         let switch = notice.switch;
+        let until = self.outlasting();
         if count == 0 {
             let none = Station {
                 schedules: [Station::NO_SCHEDULE; Station::SCHEDULE_LIMIT],
                 count: 0,
+                until,
                 ..self
             };
             return none.told(power, switch);
         }
-        self.rescheduled(quiets, count).told(power, switch)
+        self.rescheduled(until, quiets, count).told(power, switch)
     }
 
     // What an accepted frame changes. Measurement frames and those of transmit power control change nothing.
     fn changed_by(self, frame: Frame, quiets: [Quiet; QUIETS], count: usize) -> Station
-        requires { ⌜ 1 ≤ self .interval ⌝ }
+        requires { ⌜ Valid self ⌝ }
         ensures { λ r. ⌜ r ≡ changedBy self frame (take count quiets) ⌝ }
     {
         match frame {

@@ -277,6 +277,35 @@ mod tests {
     }
 
     #[test]
+    fn a_begun_quiet_interval_is_listed_to_its_end() {
+        // 02, Two: the run is 120 to 129, and a beacon replaces its frame.
+        for (replaced, answers) in [(110, [0, 0, 0]), (120, [2, 2, 0]), (125, [2, 2, 0])] {
+            let file = block(&[
+                started(),
+                advance(50),
+                record(2, &notice(8, ALL, 100, &quiet(1, 0, 10, 20))),
+                advance(replaced - 50),
+                record(2, &notice(8, ALL, 100, &[])),
+                advance(126 - replaced),
+                ask(1),
+                advance(3),
+                ask(1),
+                advance(1),
+                ask(1),
+            ]);
+            assert_eq!(
+                text(&file),
+                format!(
+                    "1 start 0\n2 advance 0\n3 frame 0\n4 advance 0\n5 frame 0\n\
+                     6 advance 0\n7 ask {}\n8 advance 0\n9 ask {}\n10 advance 0\n\
+                     11 ask {}\nblocks 1 damaged 0\n",
+                    answers[0], answers[1], answers[2]
+                )
+            );
+        }
+    }
+
+    #[test]
     fn an_empty_file_and_empty_blocks() {
         assert_eq!(text(&[]), "blocks 0 damaged 0\n");
         assert_eq!(text(&block(&[])), "blocks 1 damaged 0\n");

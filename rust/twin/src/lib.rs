@@ -1,7 +1,7 @@
 //! A second, independent reading of document 01 ("Scope of the build and its
-//! rules") and of request One in document 02, over IEEE Std 802.11h-2003:
-//! elements, action frames, replies, one non-AP station, and the evening list
-//! of a capture.
+//! rules") and of requests One and Two in document 02, over IEEE Std
+//! 802.11h-2003: elements, action frames, replies, one non-AP station, and the
+//! evening list of a capture.
 //!
 //! Every refusal is a `u8` of the document's table, see [`answer`]; that of a
 //! frame says its place too, see [`Refusal`]. No function panics, and a

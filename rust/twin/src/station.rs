@@ -1,10 +1,15 @@
-//! One non-AP station of an infrastructure BSS (section "The station";
-//! 802.11h 11.6.2 and 11.6.7.1).
+//! One non-AP station of an infrastructure BSS (section "The station"; for
+//! quiet intervals that run to their end 02, Two; 802.11h 11.6.2 and
+//! 11.6.7.1).
 //!
 //! This station keeps no state of switches and schedules. It keeps what it
 //! accepted and when, and reads every answer from that history, as the last
 //! paragraph of the section says: which announcements came to be a switch,
-//! which beacon's schedules count, and which units those make quiet.
+//! which beacon's schedules count, and which units those make quiet. Of the
+//! beacons that others replaced it reads which of their quiet intervals had
+//! begun by then, and which units those still make quiet.
+
+use std::collections::VecDeque;
 
 use crate::answer::{
     Refusal, ACCEPTED, ASK_GRANTED, ASK_LENGTH, ASK_QUIET_AHEAD, ASK_QUIET_NOW, ASK_SILENCED,
@@ -27,28 +32,49 @@ pub struct Station {
     /// The channel at start.
     channel: u8,
     clock: u32,
-    /// In the order of acceptance.
+    /// How many frames went into the history, forgotten ones too.
+    frames: u64,
+    /// What they said of power and channel, in the order of acceptance.
     history: Vec<Accepted>,
+    /// What the latest beacon or probe response set.
+    latest: Option<Setting>,
+    /// What those before it set that can still matter, in the order of
+    /// acceptance.
+    replaced: VecDeque<Setting>,
 }
 
-/// What an accepted frame said that can still matter. Moments are 64 bits
-/// wide, since switches and runs can lie past the clock's limit.
-#[derive(Clone, Debug, PartialEq, Eq)]
+/// What an accepted frame said of power and channel that can still matter.
+/// Moments are 64 bits wide, since switches and runs can lie past the clock's
+/// limit.
+#[derive(Clone, Copy, Debug, PartialEq, Eq)]
 struct Accepted {
+    /// Which frame of the whole history it was, from 0.
+    place: u64,
     /// The clock when the frame was accepted.
     moment: u64,
-    /// The Quiet elements of a beacon or probe response (maybe none at all);
-    /// `None` for an announcement in its own frame.
-    quiets: Option<Vec<Quiet>>,
     constraint: Option<u8>,
     switch: Option<Switch>,
+}
+
+/// The Quiet elements of a beacon or probe response (maybe none at all), and
+/// from when to when it was the latest.
+#[derive(Clone, Debug, PartialEq, Eq)]
+struct Setting {
+    /// Which frame of the whole history it was, from 0.
+    place: u64,
+    /// The clock when the frame was accepted.
+    accepted: u64,
+    /// The clock when the next beacon or probe response was accepted; `None`
+    /// while this is the latest.
+    replaced: Option<u64>,
+    quiets: Vec<Quiet>,
 }
 
 /// An announcement in the history.
 #[derive(Clone, Copy, Debug, PartialEq, Eq)]
 struct Announcement {
-    /// Where it stands in the history.
-    place: usize,
+    /// Which frame of the whole history it was, from 0.
+    place: u64,
     /// When it was accepted.
     accepted: u64,
     /// When the switch is to be.
@@ -64,6 +90,9 @@ struct Schedule {
     start: u64,
     period: u64,
     duration: u64,
+    /// When its frame was replaced, if it was: runs that start later never
+    /// begin.
+    replaced: Option<u64>,
 }
 
 impl Station {
@@ -89,7 +118,10 @@ impl Station {
             interval,
             channel,
             clock: 0,
+            frames: 0,
             history: Vec::new(),
+            latest: None,
+            replaced: VecDeque::new(),
         })
     }
 
@@ -97,10 +129,8 @@ impl Station {
     /// place, and nothing changed.
     pub fn take(&mut self, frame: &[u8]) -> Result<(), Refusal> {
         let received = read_frame(frame, self.own, self.ap, self.interval)?;
-        if let Some(accepted) = self.said(received.frame) {
-            self.forget_before(&accepted);
-            self.history.push(accepted);
-        }
+        self.remember(received.frame);
+        self.forget();
         Ok(())
     }
 
@@ -110,6 +140,7 @@ impl Station {
             return CLOCK;
         }
         self.clock += n;
+        self.forget();
         ACCEPTED
     }
 
@@ -125,10 +156,10 @@ impl Station {
         if pending.map_or(false, |switch| switch.mode == 1) {
             return ASK_SILENCED;
         }
-        let schedules = self.schedules();
-        if schedules.iter().any(|schedule| schedule.covers(now)) {
+        if self.schedules().any(|schedule| schedule.covers(now)) {
             return ASK_QUIET_NOW;
         }
+        let schedules: Vec<Schedule> = self.schedules().collect();
         let before_switch = pending.map_or(end, |switch| switch.moment.min(end));
         if any_quiet(&schedules, now + 1, before_switch) {
             return ASK_QUIET_AHEAD;
@@ -152,14 +183,11 @@ impl Station {
 
     /// The latest Power Constraint, unless a switch came after it.
     pub fn constraint(&self) -> Option<u8> {
-        let place = self
-            .history
-            .iter()
-            .rposition(|accepted| accepted.constraint.is_some())?;
-        if self.switched_after(place) {
+        let latest = self.latest_constraint()?;
+        if self.switched_after(latest.place, latest.moment) {
             return None;
         }
-        self.history[place].constraint
+        latest.constraint
     }
 
     fn now(&self) -> u64 {
@@ -173,73 +201,122 @@ impl Station {
         (moment / interval + u64::from(count)) * interval
     }
 
-    /// What a frame leaves in the history. Other action frames change nothing.
-    fn said(&self, frame: Frame) -> Option<Accepted> {
-        let moment = self.now();
+    /// Puts an accepted frame into the history. Other action frames change
+    /// nothing.
+    fn remember(&mut self, frame: Frame) {
         match frame {
-            Frame::Beacon(notice) | Frame::ProbeResponse(notice) => Some(Accepted {
-                moment,
-                quiets: Some(notice.quiets),
-                constraint: notice.constraint,
-                switch: notice.switch,
-            }),
-            Frame::ChannelSwitch(switch) => Some(Accepted {
-                moment,
-                quiets: None,
-                constraint: None,
-                switch: Some(switch),
-            }),
+            Frame::Beacon(notice) | Frame::ProbeResponse(notice) => {
+                self.remember_quiets(notice.quiets);
+                self.remember_said(notice.constraint, notice.switch);
+            }
+            Frame::ChannelSwitch(switch) => self.remember_said(None, Some(switch)),
             Frame::MeasurementRequest { .. }
             | Frame::MeasurementReport { .. }
             | Frame::TpcRequest { .. }
-            | Frame::TpcReport { .. } => None,
+            | Frame::TpcReport { .. } => {}
         }
     }
 
-    /// Forgets what can no longer matter once `next` is accepted, so that the
-    /// history stays short however long the evening is:
-    /// - only the latest beacon's or probe response's schedules count;
+    /// The Quiet elements of this frame are now the latest, and those of the
+    /// beacon or probe response before it are replaced.
+    fn remember_quiets(&mut self, quiets: Vec<Quiet>) {
+        let now = self.now();
+        let setting = Setting {
+            place: self.frames,
+            accepted: now,
+            replaced: None,
+            quiets,
+        };
+        if let Some(mut old) = self.latest.replace(setting) {
+            old.replaced = Some(now);
+            self.replaced.push_back(old);
+        }
+    }
+
+    /// The rest of what this frame said, and on to the next frame's place.
+    fn remember_said(&mut self, constraint: Option<u8>, switch: Option<Switch>) {
+        self.history.push(Accepted {
+            place: self.frames,
+            moment: self.now(),
+            constraint,
+            switch,
+        });
+        self.frames += 1;
+    }
+
+    /// Forgets what can no longer matter, so that the history stays short
+    /// however long the evening is. It changes no answer.
+    fn forget(&mut self) {
+        self.forget_said();
+        self.forget_replaced();
+    }
+
+    /// Forgets what was said of power and channel:
     /// - only the latest Power Constraint counts;
     /// - an announcement whose moment was not reached before the next one
     ///   never is a switch, and the latest switch undoes all that an earlier
     ///   one did.
-    fn forget_before(&mut self, next: &Accepted) {
+    fn forget_said(&mut self) {
+        let constrained = self.latest_constraint().map(|accepted| accepted.place);
+        let announced = self.latest_announcement().map(|switch| switch.place);
         let switched = self.latest_switch().map(|switch| switch.place);
-        for (place, accepted) in self.history.iter_mut().enumerate() {
-            if next.quiets.is_some() {
-                accepted.quiets = None;
-            }
-            if next.constraint.is_some() {
+        for accepted in &mut self.history {
+            let place = Some(accepted.place);
+            if place != constrained {
                 accepted.constraint = None;
             }
-            if next.switch.is_some() && switched != Some(place) {
+            if place != announced && place != switched {
                 accepted.switch = None;
             }
         }
-        self.history.retain(|accepted| {
-            accepted.quiets.is_some() || accepted.constraint.is_some() || accepted.switch.is_some()
-        });
+        self.history
+            .retain(|accepted| accepted.constraint.is_some() || accepted.switch.is_some());
+    }
+
+    /// Forgets replaced beacons and probe responses that are over, at both ends
+    /// of their row: those of which nothing had begun as they were replaced,
+    /// and those whose runs have ended by now. One between them waits until
+    /// the older ones are over, which no more than 65,535 units can take.
+    fn forget_replaced(&mut self) {
+        while self.replaced.back().map_or(false, |old| self.is_over(old)) {
+            self.replaced.pop_back();
+        }
+        while self.replaced.front().map_or(false, |old| self.is_over(old)) {
+            self.replaced.pop_front();
+        }
+    }
+
+    /// Whether nothing of a replaced beacon or probe response can matter any
+    /// more: a switch came after it, or no run of it covers this unit. A run
+    /// that covers a later unit covers this one too, since it has begun.
+    fn is_over(&self, old: &Setting) -> bool {
+        let now = self.now();
+        self.switched_after(old.place, old.accepted)
+            || !self.schedules_of(old).any(|schedule| schedule.covers(now))
+    }
+
+    /// The latest frame with a Power Constraint.
+    fn latest_constraint(&self) -> Option<&Accepted> {
+        let mut latest_first = self.history.iter().rev();
+        latest_first.find(|accepted| accepted.constraint.is_some())
     }
 
     /// The announcements of the history, in the order of acceptance.
     fn announcements(&self) -> impl DoubleEndedIterator<Item = Announcement> + '_ {
-        self.history
-            .iter()
-            .enumerate()
-            .filter_map(move |(place, accepted)| {
-                let switch = accepted.switch?;
-                Some(Announcement {
-                    place,
-                    accepted: accepted.moment,
-                    // Count 0 is at once, not at the last TBTT.
-                    moment: match switch.count {
-                        0 => accepted.moment,
-                        count => self.tbtt(accepted.moment, count),
-                    },
-                    mode: switch.mode,
-                    channel: switch.channel,
-                })
+        self.history.iter().filter_map(move |accepted| {
+            let switch = accepted.switch?;
+            Some(Announcement {
+                place: accepted.place,
+                accepted: accepted.moment,
+                // Count 0 is at once, not at the last TBTT.
+                moment: match switch.count {
+                    0 => accepted.moment,
+                    count => self.tbtt(accepted.moment, count),
+                },
+                mode: switch.mode,
+                channel: switch.channel,
             })
+        })
     }
 
     /// The announcements that came to be a switch: their moment was reached
@@ -269,50 +346,49 @@ impl Station {
         self.switches().last()
     }
 
+    /// The latest announcement, whether it came to be a switch or not.
+    fn latest_announcement(&self) -> Option<Announcement> {
+        self.announcements().next_back()
+    }
+
     /// The pending switch: the latest announcement, if its moment lies ahead.
     fn pending(&self) -> Option<Announcement> {
-        self.announcements()
-            .next_back()
+        self.latest_announcement()
             .filter(|switch| switch.moment > self.now())
     }
 
-    /// Whether a switch came after the frame at `place`. One announced by that
-    /// very frame or a later one did. One announced before did if its moment
-    /// came after the frame; at the frame's own moment the clock had reached
-    /// the switch before the frame was accepted.
-    fn switched_after(&self, place: usize) -> bool {
-        let accepted = self.history[place].moment;
+    /// Whether a switch came after the frame at `place`, accepted at
+    /// `accepted`. One announced by that very frame or a later one did. One
+    /// announced before did if its moment came after the frame; at the frame's
+    /// own moment the clock had reached the switch before the frame was
+    /// accepted.
+    fn switched_after(&self, place: u64, accepted: u64) -> bool {
         self.switches()
             .any(|switch| switch.place >= place || switch.moment > accepted)
     }
 
     /// The schedules that count: those of the latest accepted beacon or probe
-    /// response, unless a switch came after it.
-    fn schedules(&self) -> Vec<Schedule> {
-        let latest = self
-            .history
+    /// response, and beside them "every quiet interval begun while its frame
+    /// was the latest" (02, Two), which is what `Schedule` leaves of the
+    /// replaced ones. A switch after a frame ends all that it set: what had
+    /// begun by the switch, and what starts at it or later never begins.
+    fn schedules(&self) -> impl Iterator<Item = Schedule> + '_ {
+        self.replaced
             .iter()
-            .rposition(|accepted| accepted.quiets.is_some());
-        match latest {
-            Some(place) if !self.switched_after(place) => {
-                let accepted = &self.history[place];
-                let quiets = accepted.quiets.iter().flatten();
-                quiets
-                    .map(|quiet| self.schedule(quiet, accepted.moment))
-                    .collect()
-            }
-            _ => Vec::new(),
-        }
+            .chain(&self.latest)
+            .filter(move |setting| !self.switched_after(setting.place, setting.accepted))
+            .flat_map(move |setting| self.schedules_of(setting))
     }
 
-    /// "A Quiet element starts at S = (k + count) times B + offset", k from
-    /// the moment of acceptance.
-    fn schedule(&self, quiet: &Quiet, accepted: u64) -> Schedule {
-        Schedule {
-            start: self.tbtt(accepted, quiet.count) + u64::from(quiet.offset),
+    /// The schedules of one beacon or probe response. "A Quiet element starts
+    /// at S = (k + count) times B + offset", k from the moment of acceptance.
+    fn schedules_of<'a>(&'a self, setting: &'a Setting) -> impl Iterator<Item = Schedule> + 'a {
+        setting.quiets.iter().map(move |quiet| Schedule {
+            start: self.tbtt(setting.accepted, quiet.count) + u64::from(quiet.offset),
             period: u64::from(quiet.period) * u64::from(self.interval),
             duration: u64::from(quiet.duration),
-        }
+            replaced: setting.replaced,
+        })
     }
 }
 
@@ -346,47 +422,46 @@ fn any_quiet(schedules: &[Schedule], first: u64, end: u64) -> bool {
 }
 
 impl Schedule {
-    /// Whether a unit lies in a run. Runs at least as long as the period leave
-    /// no unit open after the start, and the remainder is below such a
-    /// duration always.
+    /// Whether a run begins: the clock reaches its first unit while its frame
+    /// is the latest (02, Two). At the very moment at which the frame was
+    /// replaced, the clock had reached the run before the next frame was
+    /// accepted.
+    fn begins(&self, run: u64) -> bool {
+        self.replaced.map_or(true, |replaced| run <= replaced)
+    }
+
+    /// Whether a unit lies in a run that begins. The first run that is not
+    /// over by then decides: if it starts after the unit or never begins, the
+    /// same holds for every later one.
     fn covers(&self, unit: u64) -> bool {
-        match unit.checked_sub(self.start) {
-            None => false,
-            Some(since) if self.period == 0 => since < self.duration,
-            Some(since) => since % self.period < self.duration,
+        self.first_left(unit)
+            .map_or(false, |run| run <= unit && self.begins(run))
+    }
+
+    /// The start of the first run that is not over by `unit`, whether it
+    /// begins or not, or `None` if all are over.
+    fn first_left(&self, unit: u64) -> Option<u64> {
+        match unit.checked_sub(self.start + self.duration) {
+            None => Some(self.start),
+            Some(_) if self.period == 0 => None,
+            Some(since) => Some(self.start + (since / self.period + 1) * self.period),
         }
     }
 
-    /// Marks the units that lie in a run, of the units from `from` on.
+    /// Marks the units that lie in a run that begins, of the units from `from`
+    /// on. Each such run keeps its whole length, also past the start of a next
+    /// one that never begins.
     fn mark(&self, from: u64, units: &mut [u8]) {
         let end = from + units.len() as u64;
-        let mut run = self.last_start(from);
-        while run < end {
-            mark_run(run, self.run_end(run), from, units);
-            if self.period == 0 {
+        let mut left = self.first_left(from);
+        while let Some(run) = left.filter(|&run| run < end && self.begins(run)) {
+            let run_end = run + self.duration;
+            mark_run(run, run_end, from, units);
+            // One that reaches the end leaves later ones nothing to mark.
+            if self.period == 0 || run_end >= end {
                 return;
             }
-            run += self.period;
-        }
-    }
-
-    /// The start of the last run that starts at or before `unit`, or of the
-    /// first run if all start later. Runs before that one are over by `unit`,
-    /// since `run_end` lets none last longer than its period.
-    fn last_start(&self, unit: u64) -> u64 {
-        match unit.checked_sub(self.start) {
-            Some(since) if self.period != 0 => self.start + since / self.period * self.period,
-            _ => self.start,
-        }
-    }
-
-    /// The end of a run that starts at `run`. What a run covers past the start
-    /// of the next, that one covers as well.
-    fn run_end(&self, run: u64) -> u64 {
-        if self.period == 0 {
-            run + self.duration
-        } else {
-            run + self.duration.min(self.period)
+            left = Some(run + self.period);
         }
     }
 }
@@ -537,12 +612,573 @@ mod tests {
         go(&mut station, 120);
         assert_eq!(station.ask(1), 0);
         assert_eq!(station.ask(65_535), 0);
-        // Also within a running interval, and by a probe response.
-        let mut station = quieted(0);
+        // Within a running interval too, but that one runs to its end (02,
+        // Two): 320 is the start of the next.
+        let mut station = quieted(2);
         go(&mut station, 125);
         assert_eq!(station.ask(1), 2);
-        assert_eq!(station.take(&notice(5, OWN, 100, &[])), Ok(()));
+        assert_eq!(station.take(&beacon(&[])), Ok(()));
+        assert_eq!(station.ask(1), 2);
+        go(&mut station, 130);
+        assert_eq!(station.ask(65_535), 0);
+        go(&mut station, 320);
         assert_eq!(station.ask(1), 0);
+    }
+
+    /// The moments from `first` to `last` at which a question for one unit is
+    /// answered 2; at the others it has to be 0. One unit at a time.
+    fn quiet_moments(station: &Station, first: u32, last: u32) -> Vec<u32> {
+        let mut then = station.clone();
+        go(&mut then, first);
+        let mut moments = Vec::new();
+        loop {
+            match then.ask(1) {
+                0 => {}
+                2 => moments.push(then.clock()),
+                other => panic!("{} at {}", other, then.clock()),
+            }
+            if then.clock() == last {
+                return moments;
+            }
+            assert_eq!(then.advance(1), 0);
+        }
+    }
+
+    fn moments(first: u32, end: u32) -> Vec<u32> {
+        (first..end).collect()
+    }
+
+    /// A station that accepts beacons with these elements at these moments.
+    fn after_beacons(beacons: &[(u32, &[u8])]) -> Station {
+        let mut station = fresh();
+        for &(moment, elements) in beacons {
+            go(&mut station, moment);
+            assert_eq!(station.take(&beacon(elements)), Ok(()));
+        }
+        station
+    }
+
+    #[test]
+    fn a_begun_run_goes_on_to_its_end() {
+        // The run is 120 to 129. A beacon before 120 finds it not begun.
+        for moment in [51, 99, 100, 110, 119] {
+            let mut station = quieted(0);
+            go(&mut station, moment);
+            assert_eq!(station.ask(71), 3);
+            assert_eq!(station.take(&beacon(&[])), Ok(()));
+            assert_eq!(station.ask(65_535), 0);
+            assert_eq!(quiet_moments(&station, moment, 140), []);
+        }
+        for moment in [120, 121, 125, 129] {
+            let mut station = quieted(0);
+            go(&mut station, moment);
+            assert_eq!(station.take(&beacon(&[])), Ok(()));
+            assert_eq!((station.ask(1), station.ask(65_535)), (2, 2));
+            assert_eq!(
+                quiet_moments(&station, moment, 140),
+                moments(moment, 130),
+                "beacon at {}",
+                moment
+            );
+            go(&mut station, 130);
+            assert_eq!(station.ask(65_535), 0);
+        }
+        let mut station = quieted(0);
+        go(&mut station, 130);
+        assert_eq!(station.take(&beacon(&[])), Ok(()));
+        assert_eq!(station.ask(65_535), 0);
+        assert_eq!(quiet_moments(&station, 130, 140), []);
+    }
+
+    #[test]
+    fn the_case_of_the_request() {
+        // "With the beacon at 125 the answer at 126 is 2."
+        let mut station = quieted(0);
+        go(&mut station, 125);
+        assert_eq!(station.take(&beacon(&[])), Ok(()));
+        for (moment, answer) in [(126, 2), (129, 2), (130, 0)] {
+            go(&mut station, moment);
+            assert_eq!(station.ask(1), answer);
+        }
+    }
+
+    #[test]
+    fn beacons_and_probe_responses_replace_each_other_alike() {
+        for (first, second) in [(8, 8), (8, 5), (5, 8), (5, 5)] {
+            for da in [OWN, ALL] {
+                let set = notice(first, da, 100, &quiet(1, 0, 10, 20));
+                let replace = notice(second, da, 100, &[]);
+                for (moment, quiet_from) in [(119, 130), (120, 120), (125, 125), (130, 130)] {
+                    let mut station = fresh();
+                    go(&mut station, 50);
+                    assert_eq!(station.take(&set), Ok(()));
+                    go(&mut station, moment);
+                    assert_eq!(station.take(&replace), Ok(()));
+                    assert_eq!(
+                        quiet_moments(&station, moment, 140),
+                        moments(quiet_from, 130)
+                    );
+                }
+            }
+        }
+    }
+
+    #[test]
+    fn a_run_goes_on_however_often_its_frame_is_replaced() {
+        let mut station = quieted(0);
+        for moment in 120..=135 {
+            go(&mut station, moment);
+            // Several at the same moment: the first of them replaced it.
+            for _ in 0..3 {
+                assert_eq!(station.take(&beacon(&[])), Ok(()));
+                assert_eq!(station.ask(1), if moment < 130 { 2 } else { 0 });
+            }
+            assert_eq!(station.replaced.len(), usize::from(moment < 130));
+        }
+        // What replaces it at 119 is replaced itself when 120 comes.
+        let mut station = quieted(0);
+        go(&mut station, 119);
+        assert_eq!(station.take(&beacon(&[])), Ok(()));
+        go(&mut station, 120);
+        assert_eq!(station.take(&beacon(&[])), Ok(()));
+        assert_eq!(quiet_moments(&station, 120, 140), []);
+    }
+
+    #[test]
+    fn a_frame_that_was_replaced_at_once_sets_nothing() {
+        let mut station = quieted(0);
+        assert_eq!(station.take(&beacon(&[])), Ok(()));
+        assert_eq!(station.ask(65_535), 0);
+        // Accepted on a TBTT: its own first TBTT is the next one.
+        let station = after_beacons(&[(100, &quiet(1, 0, 10, 0)), (100, &[]), (200, &[])]);
+        assert_eq!(quiet_moments(&station, 200, 220), []);
+    }
+
+    #[test]
+    fn an_advance_over_the_beginning_has_reached_it() {
+        // Both come to 125, by one advance and by one unit at a time.
+        let mut leap = quieted(0);
+        assert_eq!(leap.advance(75), 0);
+        let mut steps = quieted(0);
+        for _ in 0..75 {
+            assert_eq!(steps.advance(1), 0);
+        }
+        for station in [&mut leap, &mut steps] {
+            assert_eq!(station.take(&beacon(&[])), Ok(()));
+            assert_eq!(quiet_moments(station, 125, 140), moments(125, 130));
+        }
+        assert_eq!(leap, steps);
+    }
+
+    #[test]
+    fn two_runs_the_longer_one_set_first() {
+        // 120 to 249, and from the beacon at 130 200 to 219.
+        let (first, second) = (quiet(1, 0, 130, 20), quiet(1, 0, 20, 0));
+        for (replaced, end) in [(199, 250), (200, 250), (210, 250), (230, 250)] {
+            let station = after_beacons(&[(50, &first), (130, &second), (replaced, &[])]);
+            assert_eq!(
+                quiet_moments(&station, replaced, 300),
+                moments(replaced, end)
+            );
+        }
+    }
+
+    #[test]
+    fn two_runs_the_longer_one_set_last() {
+        // 120 to 209, and from the beacon at 130 200 to 249.
+        let (first, second) = (quiet(1, 0, 90, 20), quiet(1, 0, 50, 0));
+        for (replaced, end) in [(199, 210), (200, 250), (205, 250), (215, 250)] {
+            let station = after_beacons(&[(50, &first), (130, &second), (replaced, &[])]);
+            assert_eq!(
+                quiet_moments(&station, replaced, 300),
+                moments(replaced, end)
+            );
+        }
+    }
+
+    #[test]
+    fn runs_of_many_frames() {
+        // One run from each of eight beacons, at 120, 220, ... 820, every
+        // other one long. All begun ones run on beside each other.
+        let mut station = fresh();
+        let ends = [320u32, 240, 520, 440, 720, 640, 920, 840];
+        for (turn, end) in ends.into_iter().enumerate() {
+            go(&mut station, 100 * turn as u32 + 50);
+            let duration = end as u16 - (100 * turn as u16 + 120);
+            assert_eq!(station.take(&beacon(&quiet(1, 0, duration, 20))), Ok(()));
+        }
+        go(&mut station, 850);
+        assert_eq!(station.take(&beacon(&[])), Ok(()));
+        // Of them all, 720 to 919 is not over.
+        assert_eq!(quiet_moments(&station, 850, 950), moments(850, 920));
+        go(&mut station, 920);
+        assert_eq!(station.ask(65_535), 0);
+        assert_eq!(station.replaced, []);
+    }
+
+    #[test]
+    fn a_period_shorter_than_the_duration() {
+        // Runs of 250 at 100, 200, 300 and so on. Those that have begun run
+        // on, each to its own end; later ones never begin.
+        for (replaced, end) in [
+            (99, 99),
+            (100, 350),
+            (199, 350),
+            (200, 450),
+            (250, 450),
+            (299, 450),
+            (300, 550),
+            (1000, 1250),
+        ] {
+            let station = after_beacons(&[(0, &quiet(1, 1, 250, 0)), (replaced, &[])]);
+            assert_eq!(
+                quiet_moments(&station, replaced, 1300),
+                moments(replaced, end)
+            );
+        }
+    }
+
+    #[test]
+    fn a_period_longer_than_the_duration() {
+        // Runs of 10 at 120, 320, 520.
+        for (replaced, quiet_from, end) in [
+            (130, 130, 130),
+            (319, 319, 319),
+            (320, 320, 330),
+            (329, 329, 330),
+            (330, 330, 330),
+            (525, 525, 530),
+        ] {
+            let station = after_beacons(&[(50, &quiet(1, 2, 10, 20)), (replaced, &[])]);
+            assert_eq!(
+                quiet_moments(&station, replaced, 800),
+                moments(quiet_from, end)
+            );
+        }
+        // A period that is the duration: no unit is open until the end.
+        let station = after_beacons(&[(0, &quiet(1, 1, 100, 0)), (399, &[])]);
+        assert_eq!(quiet_moments(&station, 399, 600), moments(399, 400));
+        let station = after_beacons(&[(0, &quiet(1, 1, 100, 0)), (400, &[])]);
+        assert_eq!(quiet_moments(&station, 400, 600), moments(400, 500));
+    }
+
+    #[test]
+    fn each_element_of_a_replaced_frame_by_itself() {
+        // 120 to 129, 125 to 134, 126 to 155.
+        let elements = [
+            quiet(1, 0, 10, 20),
+            quiet(1, 0, 10, 25),
+            quiet(1, 0, 30, 26),
+        ]
+        .concat();
+        for (replaced, end) in [
+            (119, 119),
+            (120, 130),
+            (124, 130),
+            (125, 135),
+            (126, 156),
+            (140, 156),
+        ] {
+            let station = after_beacons(&[(50, &elements), (replaced, &[])]);
+            assert_eq!(
+                quiet_moments(&station, replaced, 200),
+                moments(replaced, end)
+            );
+        }
+    }
+
+    #[test]
+    fn what_runs_on_stands_beside_the_latest_schedules() {
+        // 120 to 129 runs on; the beacon at 125 sets 200 to 209.
+        let mut station = after_beacons(&[(50, &quiet(1, 2, 10, 20)), (125, &quiet(1, 0, 10, 0))]);
+        let both = [moments(125, 130), moments(200, 210)].concat();
+        assert_eq!(quiet_moments(&station, 125, 400), both);
+        go(&mut station, 129);
+        assert_eq!(station.ask(65_535), 2);
+        go(&mut station, 130);
+        assert_eq!((station.ask(70), station.ask(71)), (0, 3));
+        // The latest one overlaps what runs on, and outlasts it.
+        let station = after_beacons(&[(50, &quiet(1, 0, 90, 20)), (130, &quiet(1, 0, 20, 0))]);
+        assert_eq!(quiet_moments(&station, 130, 300), moments(130, 220));
+    }
+
+    #[test]
+    fn a_run_that_has_not_begun_lies_ahead_of_nobody() {
+        // At 119 the run at 120 lies ahead of a question for two units, until
+        // the beacon that replaces it; so does its later run at 320.
+        let mut station = quieted(2);
+        go(&mut station, 119);
+        assert_eq!((station.ask(1), station.ask(2)), (0, 3));
+        assert_eq!(station.take(&beacon(&[])), Ok(()));
+        assert_eq!((station.ask(2), station.ask(65_535)), (0, 0));
+        let mut station = after_beacons(&[(50, &quiet(1, 2, 10, 20)), (125, &[])]);
+        go(&mut station, 319);
+        assert_eq!((station.ask(2), station.ask(65_535)), (0, 0));
+        // The same Quiet said again at 119 starts at 220 for the first time.
+        let mut station = quieted(2);
+        go(&mut station, 119);
+        assert_eq!(station.take(&beacon(&quiet(1, 2, 10, 20))), Ok(()));
+        assert_eq!((station.ask(101), station.ask(102)), (0, 3));
+    }
+
+    #[test]
+    fn a_switch_that_is_reached_ends_what_runs_on() {
+        // 120 to 419; the switch at 200 is announced before the frame, by the
+        // frame itself, before the beacon that replaces it at 150, by that
+        // beacon, and after it.
+        let long = quiet(1, 0, 300, 20);
+        let switch = |count| [37, 3, 0, 44, count];
+        for announced in 0..5 {
+            let mut station = fresh();
+            if announced == 0 {
+                assert_eq!(station.take(&announcement(0, 44, 2)), Ok(()));
+            }
+            go(&mut station, 50);
+            let said = if announced == 1 { &switch(2)[..] } else { &[] };
+            assert_eq!(station.take(&beacon(&[&long, said].concat())), Ok(()));
+            go(&mut station, 140);
+            if announced == 2 {
+                assert_eq!(station.take(&announcement(0, 44, 1)), Ok(()));
+            }
+            go(&mut station, 150);
+            let said = if announced == 3 { &switch(1)[..] } else { &[] };
+            assert_eq!(station.take(&beacon(said)), Ok(()));
+            if announced == 4 {
+                assert_eq!(station.take(&announcement(0, 44, 1)), Ok(()));
+            }
+            assert_eq!(quiet_moments(&station, 150, 450), moments(150, 200));
+            go(&mut station, 199);
+            // 2 comes before 4.
+            assert_eq!((station.ask(1), station.ask(2)), (2, 2));
+            go(&mut station, 200);
+            assert_eq!((station.ask(65_535), station.channel()), (0, 44));
+            assert_eq!(station.replaced, []);
+        }
+    }
+
+    #[test]
+    fn answers_1_2_and_4_while_a_run_goes_on() {
+        let mut station = quieted(0);
+        go(&mut station, 125);
+        assert_eq!(station.take(&beacon(&[])), Ok(()));
+        // Mode 1 comes first, mode 0 after what is quiet.
+        assert_eq!(station.take(&announcement(1, 44, 2)), Ok(()));
+        assert_eq!((station.ask(1), station.ask(0)), (1, 5));
+        assert_eq!(station.take(&announcement(0, 44, 1)), Ok(()));
+        assert_eq!(station.ask(65_535), 2);
+        go(&mut station, 130);
+        assert_eq!((station.ask(70), station.ask(71)), (0, 4));
+    }
+
+    #[test]
+    fn a_count_of_0_ends_what_runs_on() {
+        // In the frame that replaces: it comes after the frame's own Quiet.
+        let at_once = [&[37, 3, 0, 44, 0][..], &quiet(1, 0, 10, 0)].concat();
+        for moment in [119, 120, 125, 129] {
+            let mut station = quieted(0);
+            go(&mut station, moment);
+            assert_eq!(station.take(&beacon(&at_once)), Ok(()));
+            assert_eq!((station.ask(65_535), station.channel()), (0, 44));
+            // A beacon after it finds nothing that had begun.
+            assert_eq!(station.take(&beacon(&[])), Ok(()));
+            assert_eq!(station.ask(65_535), 0);
+        }
+        // In an action frame, before and after the beacon that replaces.
+        let mut station = quieted(0);
+        go(&mut station, 125);
+        assert_eq!(station.take(&announcement(0, 44, 0)), Ok(()));
+        assert_eq!(station.take(&beacon(&[])), Ok(()));
+        assert_eq!(station.ask(65_535), 0);
+        let mut station = quieted(0);
+        go(&mut station, 125);
+        assert_eq!(station.take(&beacon(&[])), Ok(()));
+        go(&mut station, 126);
+        assert_eq!(station.ask(1), 2);
+        assert_eq!(station.take(&announcement(0, 44, 0)), Ok(()));
+        assert_eq!((station.ask(65_535), station.replaced.len()), (0, 0));
+        // In the frame that set it: nothing of it ever begins.
+        let elements = [&quiet(1, 0, 10, 20)[..], &[37, 3, 0, 44, 0]].concat();
+        let station = after_beacons(&[(50, &elements), (125, &[])]);
+        assert_eq!(quiet_moments(&station, 125, 140), []);
+        // Before that frame, at the same moment: it ends nothing of it.
+        let mut station = fresh();
+        go(&mut station, 50);
+        assert_eq!(station.take(&announcement(0, 44, 0)), Ok(()));
+        assert_eq!(station.take(&beacon(&quiet(1, 0, 10, 20))), Ok(()));
+        go(&mut station, 125);
+        assert_eq!(station.take(&beacon(&[])), Ok(()));
+        assert_eq!(quiet_moments(&station, 125, 140), moments(125, 130));
+    }
+
+    #[test]
+    fn a_switch_at_the_first_unit_comes_first() {
+        // The run would be 100 to 149, and the switch is at 100.
+        for announced_by_the_frame in [true, false] {
+            let mut station = fresh();
+            go(&mut station, 50);
+            let mut elements = quiet(1, 0, 50, 0);
+            if announced_by_the_frame {
+                elements.extend_from_slice(&[37, 3, 0, 44, 1]);
+            } else {
+                assert_eq!(station.take(&announcement(0, 44, 1)), Ok(()));
+            }
+            assert_eq!(station.take(&beacon(&elements)), Ok(()));
+            go(&mut station, 99);
+            assert_eq!((station.ask(1), station.ask(2)), (0, 4));
+            go(&mut station, 100);
+            assert_eq!(station.ask(65_535), 0);
+            assert_eq!(station.take(&beacon(&[])), Ok(()));
+            assert_eq!(quiet_moments(&station, 100, 160), []);
+        }
+        // A run from 101 finds the switch done and never begins either.
+        let elements = [&quiet(1, 0, 50, 1)[..], &[37, 3, 0, 44, 1]].concat();
+        let station = after_beacons(&[(50, &elements), (110, &[])]);
+        assert_eq!(quiet_moments(&station, 110, 160), []);
+        // A run from 199 has begun, and the switch at 200 ends it.
+        let elements = [&quiet(1, 0, 50, 99)[..], &[37, 3, 0, 44, 2]].concat();
+        let mut station = after_beacons(&[(50, &elements), (199, &[])]);
+        assert_eq!(quiet_moments(&station, 199, 260), [199]);
+        go(&mut station, 200);
+        assert_eq!((station.ask(65_535), station.channel()), (0, 44));
+    }
+
+    #[test]
+    fn a_switch_between_the_frame_and_the_run() {
+        let mut station = quieted(2);
+        assert_eq!(station.take(&announcement(0, 44, 1)), Ok(()));
+        go(&mut station, 125);
+        assert_eq!(station.take(&beacon(&[])), Ok(()));
+        assert_eq!(quiet_moments(&station, 125, 400), []);
+        // By a count of 0, and with the beacon at the run's first unit.
+        let mut station = quieted(0);
+        go(&mut station, 119);
+        assert_eq!(station.take(&announcement(0, 44, 0)), Ok(()));
+        go(&mut station, 120);
+        assert_eq!(station.take(&beacon(&[])), Ok(()));
+        assert_eq!(quiet_moments(&station, 120, 140), []);
+        // An announcement that another one replaces is no switch.
+        let mut station = quieted(0);
+        assert_eq!(station.take(&announcement(0, 44, 1)), Ok(()));
+        assert_eq!(station.take(&announcement(0, 48, 3)), Ok(()));
+        go(&mut station, 125);
+        assert_eq!(station.take(&beacon(&[])), Ok(()));
+        assert_eq!(quiet_moments(&station, 125, 340), moments(125, 130));
+    }
+
+    #[test]
+    fn a_run_begun_after_a_switch_goes_on() {
+        // The first frame's run is 120 to 419, until the switch at 200. The
+        // second is accepted there, and its run is 300 to 309.
+        let first = [&quiet(1, 0, 300, 20)[..], &[37, 3, 0, 44, 2]].concat();
+        let second = quiet(1, 0, 10, 0);
+        let station = after_beacons(&[(50, &first), (200, &second), (305, &[])]);
+        assert_eq!(quiet_moments(&station, 305, 450), moments(305, 310));
+        // The first one replaced before the switch does not come back.
+        let station = after_beacons(&[(50, &first), (150, &[]), (200, &second), (305, &[])]);
+        assert_eq!(quiet_moments(&station, 305, 450), moments(305, 310));
+    }
+
+    #[test]
+    fn only_an_accepted_beacon_or_probe_response_replaces() {
+        for moment in [110, 120, 125] {
+            let mut station = quieted(2);
+            go(&mut station, moment);
+            let before = station.clone();
+            for refused in [
+                beacon(&quiet(0, 0, 1, 0)),
+                beacon(&quiet(1, 0, 1, 100)),
+                beacon(&[40]),
+                beacon(&[37, 3, 0, 201, 0]),
+                beacon(&quiet(1, 0, 1, 0).repeat(9)),
+                notice(5, OWN, 99, &[]),
+                notice(8, AP, 100, &[]),
+            ] {
+                assert!(station.take(&refused).is_err());
+                assert_eq!(station, before);
+            }
+            // An announcement in its own frame is none, nor is a TPC Request.
+            assert_eq!(station.take(&announcement(0, 44, 9)), Ok(()));
+            assert_eq!(station.take(&action(OWN, &[0, 2, 7, 34, 0])), Ok(()));
+            let whole = [moments(moment.max(120), 130), moments(320, 330)].concat();
+            assert_eq!(quiet_moments(&station, moment, 400), whole);
+        }
+        // Nor does a refused one replace what replaced it: 120 to 129 is all.
+        let mut station = after_beacons(&[(50, &quiet(1, 2, 10, 20)), (125, &[])]);
+        assert!(station.take(&beacon(&quiet(0, 0, 1, 0))).is_err());
+        assert_eq!(station.advance(65_536), 14);
+        assert_eq!(quiet_moments(&station, 125, 400), moments(125, 130));
+    }
+
+    #[test]
+    fn a_begun_run_of_duration_0_covers_nothing() {
+        for period in [0, 1, 255] {
+            for moment in [119, 120, 121, 220] {
+                let elements = quiet(1, period, 0, 20);
+                let mut station = after_beacons(&[(50, &elements), (moment, &[])]);
+                assert_eq!(station.ask(65_535), 0);
+                assert_eq!(station.replaced, []);
+                go(&mut station, 320);
+                assert_eq!(station.ask(65_535), 0);
+            }
+        }
+        // Beside it, one of duration 1 covers its one unit.
+        let elements = [quiet(1, 0, 0, 20), quiet(1, 0, 1, 20)].concat();
+        let station = after_beacons(&[(50, &elements), (120, &[])]);
+        assert_eq!(quiet_moments(&station, 120, 130), [120]);
+    }
+
+    #[test]
+    fn the_longest_run_goes_on() {
+        // From 120, 65,535 units: to 65,654.
+        let mut station = after_beacons(&[(50, &quiet(1, 0, 65_535, 20)), (120, &[])]);
+        assert_eq!(station.advance(65_534), 0);
+        assert_eq!((station.clock(), station.ask(65_535)), (65_654, 2));
+        assert_eq!(station.advance(1), 0);
+        assert_eq!(station.ask(65_535), 0);
+    }
+
+    #[test]
+    fn a_run_goes_on_at_the_clocks_limit() {
+        let mut station = Station::start(OWN, AP, 1, 0).unwrap();
+        station.clock = u32::MAX - 2;
+        assert_eq!(
+            station.take(&notice(8, OWN, 1, &quiet(1, 0, 65_535, 0))),
+            Ok(())
+        );
+        assert_eq!((station.ask(1), station.ask(2)), (0, 3));
+        assert_eq!(station.advance(1), 0);
+        assert_eq!(station.take(&notice(8, OWN, 1, &[])), Ok(()));
+        assert_eq!(station.ask(1), 2);
+        assert_eq!(station.advance(1), 0);
+        assert_eq!((station.clock(), station.ask(1)), (u32::MAX, 2));
+        // A run past the limit is never reached, so it never begins.
+        assert_eq!(station.take(&notice(8, OWN, 1, &quiet(1, 1, 9, 0))), Ok(()));
+        assert_eq!(station.take(&announcement(0, 44, 0)), Ok(()));
+        assert_eq!(station.take(&notice(8, OWN, 1, &quiet(1, 1, 9, 0))), Ok(()));
+        assert_eq!((station.ask(1), station.ask(2)), (0, 3));
+        assert_eq!(station.take(&notice(8, OWN, 1, &[])), Ok(()));
+        assert_eq!(station.ask(65_535), 0);
+    }
+
+    #[test]
+    fn what_runs_on_stays_within_bounds() {
+        // B of 1, a beacon at each unit, and every run of the greatest length:
+        // each has begun when the next beacon comes.
+        let mut station = Station::start(OWN, AP, 1, 36).unwrap();
+        let longest = notice(8, OWN, 1, &quiet(1, 1, 65_535, 0));
+        for _ in 0..200_000 {
+            assert_eq!(station.take(&longest), Ok(()));
+            assert_eq!(station.advance(1), 0);
+            assert_eq!(station.ask(65_535), 2);
+        }
+        assert!(station.replaced.len() <= 65_535);
+        // The last run begins at 200,000 and ends before 265,535.
+        assert_eq!(station.take(&notice(8, OWN, 1, &[])), Ok(()));
+        assert_eq!(station.advance(65_534), 0);
+        assert_eq!(station.ask(1), 2);
+        assert_eq!(station.advance(1), 0);
+        assert_eq!(station.ask(65_535), 0);
+        assert_eq!(station.replaced, []);
     }
 
     #[test]
@@ -781,11 +1417,12 @@ mod tests {
         assert_eq!((station.ask(3), station.ask(4)), (0, 3));
     }
 
-    /// Whether a unit lies in a run, run by run as the document says it.
+    /// Whether a unit lies in a run, run by run as the document says it; of a
+    /// replaced frame in one that had begun.
     fn in_a_run(schedule: &Schedule, unit: u64) -> bool {
         let mut run = schedule.start;
         loop {
-            if unit < run {
+            if unit < run || schedule.replaced.map_or(false, |replaced| replaced < run) {
                 return false;
             }
             if unit < run + schedule.duration {
@@ -806,6 +1443,7 @@ mod tests {
                 start: dice.roll(60),
                 period: dice.roll(30),
                 duration: dice.roll(40),
+                replaced: Some(dice.roll(120)).filter(|&replaced| replaced < 100),
             };
             for unit in 0..200 {
                 assert_eq!(schedule.covers(unit), in_a_run(&schedule, unit));
@@ -826,18 +1464,39 @@ mod tests {
                 start: quiet_unit,
                 period: 0,
                 duration: 1,
+                replaced: None,
+            };
+            let begun = Schedule {
+                replaced: Some(quiet_unit),
+                ..schedule
+            };
+            let never_begun = Schedule {
+                replaced: Some(quiet_unit - 1),
+                ..schedule
             };
             for first in [0, 1, 1024] {
                 for end in [first, quiet_unit, quiet_unit + 1, 70_000] {
                     let inside = first <= quiet_unit && quiet_unit < end;
                     assert_eq!(any_quiet(&[schedule], first, end), inside);
+                    assert_eq!(any_quiet(&[never_begun, begun], first, end), inside);
+                    assert!(!any_quiet(&[never_begun], first, end));
                 }
             }
         }
     }
 
+    /// Whether a run starts at this very unit.
+    fn starts_a_run(schedule: &Schedule, unit: u64) -> bool {
+        match unit.checked_sub(schedule.start) {
+            None => false,
+            Some(since) if schedule.period == 0 => since == 0,
+            Some(since) => since % schedule.period == 0,
+        }
+    }
+
     /// The station as the document's bullets describe it, step by step, with
-    /// nothing of the history: a check on the history's reading.
+    /// nothing of the history: a check on the history's reading. Runs begin
+    /// here one by one, as the clock reaches them (02, Two).
     struct Bullets {
         interval: u64,
         clock: u64,
@@ -845,12 +1504,15 @@ mod tests {
         constraint: Option<u8>,
         pending: Option<(u64, Switch)>,
         schedules: Vec<Schedule>,
+        /// The ends of the runs that have begun since the last switch.
+        running: Vec<u64>,
     }
 
     impl Bullets {
         fn switch_to(&mut self, channel: u8) {
             self.channel = channel;
             self.schedules.clear();
+            self.running.clear();
             self.constraint = None;
             self.pending = None;
         }
@@ -873,6 +1535,7 @@ mod tests {
                     start: (k + u64::from(quiet.count)) * self.interval + u64::from(quiet.offset),
                     period: u64::from(quiet.period) * self.interval,
                     duration: u64::from(quiet.duration),
+                    replaced: None,
                 })
                 .collect();
             if notice.constraint.is_some() {
@@ -883,7 +1546,7 @@ mod tests {
             }
         }
 
-        /// One unit at a time.
+        /// One unit at a time: a switch comes first, then runs begin.
         fn advance(&mut self, n: u64) {
             for _ in 0..n {
                 self.clock += 1;
@@ -892,15 +1555,27 @@ mod tests {
                         self.switch_to(switch.channel);
                     }
                 }
+                for schedule in &self.schedules {
+                    if starts_a_run(schedule, self.clock) {
+                        self.running.push(self.clock + schedule.duration);
+                    }
+                }
             }
         }
 
+        /// Whether the latest schedules make a unit quiet.
+        fn is_set(&self, unit: u64) -> bool {
+            let mut schedules = self.schedules.iter();
+            schedules.any(|schedule| in_a_run(schedule, unit))
+        }
+
+        /// Whether a run that has begun makes a unit from now on quiet.
+        fn runs_on(&self, unit: u64) -> bool {
+            self.running.iter().any(|&end| unit < end)
+        }
+
         fn ask(&self, n: u64) -> u8 {
-            let quiet = |unit| {
-                self.schedules
-                    .iter()
-                    .any(|schedule| in_a_run(schedule, unit))
-            };
+            let quiet = |unit| self.is_set(unit) || self.runs_on(unit);
             if let Some((_, switch)) = self.pending {
                 if switch.mode == 1 {
                     return 1;
@@ -923,10 +1598,11 @@ mod tests {
         }
     }
 
-    /// Some frame that is mostly accepted.
-    fn some_frame(dice: &mut Dice, interval: u16) -> Vec<u8> {
+    /// Some frame that is mostly accepted. Quiet runs are under `longest`
+    /// units, and one in `calm` frames announces a switch, or a bit more.
+    fn some_frame(dice: &mut Dice, interval: u16, longest: u64, calm: u64) -> Vec<u8> {
         let switch = [dice.roll(2) as u8, dice.roll(201) as u8, dice.roll(4) as u8];
-        if dice.roll(3) == 0 {
+        if dice.roll(calm) == 0 {
             return announcement(switch[0], switch[1], switch[2]);
         }
         let mut elements = Vec::new();
@@ -935,14 +1611,14 @@ mod tests {
             elements.extend_from_slice(&quiet(
                 dice.roll(4) as u8 + u8::from(dice.roll(20) != 0),
                 dice.roll(4) as u8,
-                dice.roll(2 * u64::from(interval)) as u16 / (1 + dice.roll(4)) as u16,
+                dice.roll(longest) as u16 / (1 + dice.roll(4)) as u16,
                 offset,
             ));
         }
         if dice.roll(2) == 0 {
             elements.extend_from_slice(&[32, 1, dice.roll(256) as u8]);
         }
-        if dice.roll(3) == 0 {
+        if dice.roll(calm) == 0 {
             elements.extend_from_slice(&[37, 3, switch[0], switch[1], switch[2]]);
         }
         notice(
@@ -956,8 +1632,17 @@ mod tests {
     #[test]
     fn history_and_bullets_agree() {
         let mut dice = Dice(2003);
-        for walk in 0..400u64 {
-            let interval = [1u16, 2, 5, 7, 10, 33][walk as usize % 6];
+        // How often replaced frames alone make a moment quiet, and several.
+        let (mut alone, mut several) = (0, 0);
+        // Unoptimised code gets fewer walks.
+        let walks = if cfg!(debug_assertions) { 60 } else { 400 };
+        for walk in 0..walks {
+            let interval = [1u16, 2, 5, 7, 10, 33][walk % 6];
+            // Short runs and many switches, or long runs and few.
+            let (longest, calm) = match walk / 6 % 2 {
+                0 => (2 * u64::from(interval), 3),
+                _ => (20 * u64::from(interval), 30),
+            };
             let mut station = Station::start(OWN, AP, interval, 36).unwrap();
             // The same station that forgets nothing.
             let mut whole = station.clone();
@@ -968,11 +1653,12 @@ mod tests {
                 constraint: None,
                 pending: None,
                 schedules: Vec::new(),
+                running: Vec::new(),
             };
             for _ in 0..120 {
                 match dice.roll(3) {
                     0 => {
-                        let frame = some_frame(&mut dice, interval);
+                        let frame = some_frame(&mut dice, interval, longest, calm);
                         if station.take(&frame).is_ok() {
                             let read = read_frame(&frame, OWN, AP, interval).unwrap().frame;
                             match &read {
@@ -982,18 +1668,21 @@ mod tests {
                                 }
                                 _ => {}
                             }
-                            let accepted = whole.said(read);
-                            whole.history.extend(accepted);
+                            whole.remember(read);
                         }
                     }
                     _ => {
                         let n = dice.roll(3 * u64::from(interval)) as u32;
                         assert_eq!(station.advance(n), 0);
-                        assert_eq!(whole.advance(n), 0);
+                        whole.clock += n;
                         bullets.advance(u64::from(n));
                     }
                 }
-                assert!(station.history.len() <= 4);
+                if bullets.runs_on(bullets.clock) && !bullets.is_set(bullets.clock) {
+                    alone += 1;
+                    several += u32::from(station.replaced.len() > 1);
+                }
+                assert!(station.history.len() <= 3);
                 assert_eq!(u64::from(station.clock()), bullets.clock);
                 assert_eq!(station.channel(), bullets.channel);
                 assert_eq!(station.constraint(), bullets.constraint);
@@ -1007,5 +1696,6 @@ mod tests {
                 }
             }
         }
+        assert!(alone > 1000 && several > 100, "{} {}", alone, several);
     }
 }

@@ -17,6 +17,9 @@ returns-2 c = some-never _ _ _ (search needs)
 returns-3 : tie.Need-returns-3
 returns-3 c = some-to-come _ _ _ (search needs) (search needs)
 
+cast-result : tie.Need-cast-result
+cast-result c = search needs
+
 returns-4 : tie.Need-returns-4
 returns-4 c = some-once _ _ _ (search needs) (search needs) (search needs)
 
@@ -42,8 +45,10 @@ covers-some-spec =
     returns
     returns-2
     returns-3
+    cast-result
     returns-4
     rem-past
+    (λ c. search needs)
     returns-5
     sub-result
     sub-result-2

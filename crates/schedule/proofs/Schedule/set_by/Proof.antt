@@ -38,12 +38,9 @@ mul-t9 c =
     let a = c .before .before .before .args in
     omega (arith, product 255 65535 {a = a .quiet .period} {b = a .interval} (omega arith) (omega arith))
 
-cast-t10 : tie.Need-cast-t10
-cast-t10 c = search needs
-
 returns : tie.Need-returns
 returns c = search needs
 
 pub set-by-spec : {M : Type 1} → statement M
 set-by-spec =
-    tie.close (tie.spec cast-tbtt add-tbtt mul-tbtt cast-t5 add-t8 cast-t7 mul-t9 cast-t10 returns)
+    tie.close (tie.spec cast-tbtt add-tbtt mul-tbtt cast-t5 add-t8 cast-t7 mul-t9 returns)

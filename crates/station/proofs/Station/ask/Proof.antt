@@ -8,8 +8,9 @@ use borrow.Author.Needs.{needs}
 use borrow.Author.Tests.{eq-eqb, ne-eqb, lt-ltb, le-ltb}
 use lib.Dec.{ltb, eqb}
 use Rattle.pending.specs.Waiting.{silences, upTo, comesBefore}
-use Rattle.station.specs.Asking.{quietIn, _gives_, firstOf, permissionOf}
-use Rattle.station.specs.Stations.{unitLimit, inUse}
+use Rattle.schedule.proofs.FirstUnit.{one-unit}
+use Rattle.station.specs.Asking.{quiet, quietBetween, _gives_, firstOf, permissionOf}
+use Rattle.station.specs.Stations.{unitLimit}
 use Rattle.station.specs.declared.asking.Permission.{Permission}
 use Rattle.station.proofs.Answers.{past, stop, done}
 use Rattle.station.proofs.Station.ask.Statement.{statement}
@@ -19,6 +20,12 @@ use Rattle.station.proofs.Station.ask.Tie as tie
 abbrev entry : tie.After-quiet-between2 → tie.Start
 entry c = let silence = c .before .before .before .before in silence .before .before .before .before .before
 
+-- what the first look finds
+now : (c : tie.After-quiet-between)
+    → let s = c .before .before .before .before .before .before .args .self in c .quiet-between .result ≡ quiet s (s .clock)
+now c =
+    let s = c .before .before .before .before .before .before .args .self in c .quiet-between .ensures ∙ one-unit (quiet s) (s .clock)
+
 -- ---- the cases that do not apply, from the places where this is known
 
 right-length : (c : tie.Else2) → let n = c .before .before .args .units in (eqb n 0 ≡ false) × (ltb unitLimit n ≡ false)
@@ -27,16 +34,16 @@ right-length c = (ne-eqb _ _ (c .before .if1 .left), le-ltb _ _ (c .if2 .left))
 no-silence : (c : tie.Else3) → silences (c .before .before .before .before .before .args .self .pending) ≡ false
 no-silence c = sym (c .before .silences .ensures) ∙ c .if3 .left
 
-not-now : (c : tie.Else4) → let s = c .before .before .before .before .before .before .before .args .self in quietIn (inUse s) (s .clock) (s .clock + 1) ≡ false
-not-now c = sym (c .before .quiet-between .ensures) ∙ c .if4 .left
+not-now : (c : tie.Else4) → let s = c .before .before .before .before .before .before .before .args .self in quiet s (s .clock) ≡ false
+not-now c = sym (now (c .before)) ∙ c .if4 .left
 
 -- what the second look finds, with the end that `up_to` gives
 later : (c : tie.After-quiet-between2)
     → let a = entry c .args in
-    c .quiet-between2 .result ≡ quietIn (inUse (a .self)) (a .self .clock + 1) (upTo (a .self .pending) (a .self .clock + a .units))
+    c .quiet-between2 .result ≡ quietBetween (a .self) (a .self .clock + 1) (upTo (a .self .pending) (a .self .clock + a .units))
 later c =
     let s = entry c .args .self in
-    c .quiet-between2 .ensures ∙ ap (quietIn (inUse s) (s .clock + 1)) (c .before .up-to .ensures)
+    c .quiet-between2 .ensures ∙ ap (quietBetween s (s .clock + 1)) (c .before .up-to .ensures)
 
 -- ---- the ways out
 
@@ -60,20 +67,20 @@ returns-4 c =
     let silence = c .before .before in
     let length = right-length (silence .before .before .before) in
     past _ _ (length .0) (past _ _ (length .1) (past _ _ (no-silence silence)
-    (stop _ _ (sym (c .before .quiet-between .ensures) ∙ c .if4 .taken))))
+    (stop _ _ (sym (now (c .before)) ∙ c .if4 .taken))))
 
 -- past all cases but the last two
 not-yet : (c : tie.After-quiet-between2) {p : Permission}
     → let a = entry c .args in
     let end = a .self .clock + a .units in
-    p ≡ firstOf (quietIn (inUse (a .self)) (a .self .clock + 1) (upTo (a .self .pending) end) gives Permission.QuietLater ∷ comesBefore (a .self .pending) end gives Permission.SwitchBefore ∷ [])
+    p ≡ firstOf (quietBetween (a .self) (a .self .clock + 1) (upTo (a .self .pending) end) gives Permission.QuietLater ∷ comesBefore (a .self .pending) end gives Permission.SwitchBefore ∷ [])
     → p ≡ permissionOf (a .self) (a .units)
 unfolding permissionOf
 not-yet c e =
-    let now = c .before .before in
-    let silence = now .before .before in
+    let looked = c .before .before in
+    let silence = looked .before .before in
     let length = right-length (silence .before .before .before) in
-    past _ _ (length .0) (past _ _ (length .1) (past _ _ (no-silence silence) (past _ _ (not-now now) e)))
+    past _ _ (length .0) (past _ _ (length .1) (past _ _ (no-silence silence) (past _ _ (not-now looked) e)))
 
 returns-5 : tie.Need-returns-5
 returns-5 c = let k = c .before in not-yet k (stop _ _ (sym (later k) ∙ c .if5 .taken))

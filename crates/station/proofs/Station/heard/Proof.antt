@@ -15,7 +15,7 @@ use Rattle.station.proofs.Station.heard.Statement.{statement}
 use Rattle.station.proofs.Station.heard.Tie as tie
 
 changed-by-requires : tie.Need-changed-by-requires
-changed-by-requires c κs = c .before .before .before .before .pre .interval-positive
+changed-by-requires c κs = c .before .before .before .before .pre
 
 returns : tie.Need-returns
 returns c =

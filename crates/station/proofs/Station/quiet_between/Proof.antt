@@ -4,56 +4,52 @@ use borrow.Author.Needs.{needs}
 use Prim.Native.Nat.{_≤_, _-_}
 use mathlib.Core.Path.{_≡_, refl, sym, _∙_}
 use lib.ListN.{drop}
-use Rattle.station.specs.Asking.{quietIn}
+use Rattle.schedule.proofs.FirstUnit.{no-units}
+use Rattle.schedule.specs.Units.{someUnit}
+use Rattle.station.specs.Asking.{coveredBy, quietBetween}
 use Rattle.station.specs.Stations.{inUse}
-use Rattle.station.proofs.InUse.{found-here, not-here, none-left}
+use Rattle.station.proofs.InUse.{found-here, not-here, none-left, by-schedules, runs-on}
 use Rattle.station.proofs.Station.quiet_between.Statement.{statement}
 use Rattle.station.proofs.Station.quiet_between.Tie as tie
 
 abbrev Inv-loop : tie.InvT-loop
-Inv-loop from to self i₀ i = (i ≤ self .count) × (quietIn (drop i (inUse self)) from to ≡ quietIn (inUse self) from to)
+Inv-loop from to self i₀ i =
+    (i ≤ self .count) × (someUnit (coveredBy (drop i (inUse self))) from (to - from) ≡ quietBetween self from to)
 
 abbrev μ-loop : tie.MeasureT-loop
 μ-loop from to self i₀ i = self .count - i
 
-loop-holds : tie.Need-loop-holds Inv-loop μ-loop
-loop-holds c = (search needs, refl)
-
-mul-schedule : tie.Need-mul-schedule Inv-loop μ-loop
-mul-schedule c = search needs
-
-element-copy-out-schedule : tie.Need-element-copy-out-schedule Inv-loop μ-loop
-element-copy-out-schedule c = search needs
-
-covers-some-requires : tie.Need-covers-some-requires Inv-loop μ-loop
-covers-some-requires c κs = search needs
-
 returns : tie.Need-returns Inv-loop μ-loop
-returns c =
-    let s = c .before .before .before .before .before in
-    let i = c .before .before .before .before .loop .i in
-    sym (found-here (s .args .t1) (s .pre) (s .args .from) (s .args .to) i (search needs) (sym (c .before .covers-some .ensures) ∙ c .if1 .taken))
-    ∙ c .before .before .before .before .loop .inv .1
+returns c = no-units _ _ _ (search needs)
 
-add-i : tie.Need-add-i Inv-loop μ-loop
-add-i c = search needs
+returns-2 : tie.Need-returns-2 Inv-loop μ-loop
+returns-2 c = sym (runs-on _ _ _ (search needs) (search needs))
 
-loop-less : tie.Need-loop-less Inv-loop μ-loop
-loop-less c = search needs
+loop-holds : tie.Need-loop-holds Inv-loop μ-loop
+loop-holds c = (search needs, sym (by-schedules _ _ _ (search needs)))
+
+returns-3 : tie.Need-returns-3 Inv-loop μ-loop
+returns-3 c =
+    let l = c .before .before .before .before in
+    let s = l .before .before .before in
+    let a = s .args in
+    sym (found-here (a .t1) (s .pre) (l .loop .i) (a .from) (a .to) (search needs) (sym (c .before .covers-some .ensures) ∙ c .if3 .taken)) ∙ l .loop .inv .1
 
 loop-again : tie.Need-loop-again Inv-loop μ-loop
 loop-again c =
-    let s = c .before .before .before .before .before in
-    let i = c .before .before .before .before .loop .i in (
+    let l = c .before .before .before .before in
+    let s = l .before .before .before in
+    let a = s .args in (
       search needs,
-      not-here (s .args .t1) (s .pre) (s .args .from) (s .args .to) i (search needs) (sym (c .before .covers-some .ensures) ∙ c .if1 .left)
-          ∙ c .before .before .before .before .loop .inv .1,
+      not-here (a .t1) (s .pre) (l .loop .i) (a .from) (a .to) (search needs) (sym (c .before .covers-some .ensures) ∙ c .if3 .left) ∙ l .loop .inv .1,
     )
 
-returns-2 : tie.Need-returns-2 Inv-loop μ-loop
-returns-2 c =
-    let s = c .before .before in
-    sym (none-left (s .args .t1) (s .pre) (s .args .from) (s .args .to) (c .before .loop .i) (search needs)) ∙ c .before .loop .inv .1
+returns-4 : tie.Need-returns-4 Inv-loop μ-loop
+returns-4 c =
+    let l = c .before in
+    let s = l .before .before .before in
+    let a = s .args in
+    sym (none-left (a .t1) (s .pre) (l .loop .i) (a .from) (a .to) (search needs)) ∙ l .loop .inv .1
 
 pub quiet-between-spec : {M : Type 1} → statement M
 quiet-between-spec =
@@ -61,12 +57,14 @@ quiet-between-spec =
     (tie.spec
     Inv-loop
     μ-loop
-    loop-holds
-    mul-schedule
-    element-copy-out-schedule
-    covers-some-requires
     returns
-    add-i
-    loop-less
+    returns-2
+    loop-holds
+    (λ c. search needs)
+    (λ c. search needs)
+    (λ c κs. search needs)
+    returns-3
+    (λ c. search needs)
+    (λ c. search needs)
     loop-again
-    returns-2)
+    returns-4)

@@ -15,11 +15,11 @@ use Rattle.station.proofs.Station.rescheduled.Statement.{statement}
 use Rattle.station.proofs.Station.rescheduled.Tie as tie
 
 abbrev Inv-loop : tie.InvT-loop
-Inv-loop self count quiets used interval k schedules₀ i₀ schedules i =
+Inv-loop self until count quiets used interval k schedules₀ i₀ schedules i =
     (i ≤ used) × (schedules ≡ slotted (schedulesOf (passed self) interval (take i quiets)))
 
 abbrev μ-loop : tie.MeasureT-loop
-μ-loop self count quiets used interval k schedules₀ i₀ schedules i = used - i
+μ-loop self until count quiets used interval k schedules₀ i₀ schedules i = used - i
 
 loop-holds : tie.Need-loop-holds Inv-loop μ-loop
 loop-holds c = (search needs, refl)
@@ -28,7 +28,7 @@ loop-again : tie.Need-loop-again Inv-loop μ-loop
 loop-again c =
     let l = c .before .before .before .loop in
     let p = c .before .before .before .before in
-    let quiets = p .before .before .args .t2 in
+    let quiets = p .before .before .args .t3 in
     let eight : length quiets ≡ quietLimit = search needs in
     (search needs, rw (l .inv .1, c .set-by .ensures, p .passed .ensures) (slot-filled _ _ quiets _ (l .i) (omega arith) (omega arith)))
 
@@ -38,11 +38,11 @@ returns c =
     let u = c .before .before .before .before .before in
     let used = u .at-most-all .result in
     let a = u .before .args in
-    let eight : length (a .t2) ≡ quietLimit = search needs in
+    let eight : length (a .t3) ≡ quietLimit = search needs in
     let all : l .i ≡ used = omega arith in
-    let same : take used (a .t2) ≡ take (a .count) (a .t2) = u .at-most-all .ensures .1 (a .t2) eight in
-    let as-many : length (schedulesOf (passed (a .self)) (a .self .interval) (take used (a .t2))) ≡ used =
-    length-map (take used (a .t2)) (λ q. setBy q (passed (a .self)) (a .self .interval)) ∙ length-take-le used (a .t2) (omega arith) in
+    let same : take used (a .t3) ≡ take (a .count) (a .t3) = u .at-most-all .ensures .1 (a .t3) eight in
+    let as-many : length (schedulesOf (passed (a .self)) (a .self .interval) (take used (a .t3))) ≡ used =
+    length-map (take used (a .t3)) (λ q. setBy q (passed (a .self)) (a .self .interval)) ∙ length-take-le used (a .t3) (omega arith) in
     rw (l .inv .1, all, ← same, as-many)
 
 pub rescheduled-spec : {M : Type 1} → statement M
