@@ -170,7 +170,7 @@ fn token_not_0(octets: &[u8], at: usize) -> Result<u8, Refusal> {
     Ok(token)
 }
 
-/// Reads exactly one element, at `at`, and skips the vendors' elements behind
+/// Reads exactly one element, at `at`, and skips the vendors' elements after
 /// it (02, Four); left-over octets come last (22), told at the first of them.
 fn read_single<T>(
     octets: &[u8],
@@ -189,7 +189,7 @@ fn read_single<T>(
 
 /// Reads one or more Measurement Requests, from `first` on, with tokens that
 /// all differ. What follows an element, and the vendors' elements skipped
-/// behind it (02, Four), is a further one.
+/// after it (02, Four), is a further one.
 fn read_requests(octets: &[u8], first: usize) -> Result<Vec<Request>, Refusal> {
     let mut requests = Vec::new();
     let mut used = [false; 256];
@@ -209,7 +209,7 @@ fn read_requests(octets: &[u8], first: usize) -> Result<Vec<Request>, Refusal> {
 }
 
 /// Reads one or more Measurement Reports, from `first` on. What follows an
-/// element, and the vendors' elements skipped behind it (02, Four), is a
+/// element, and the vendors' elements skipped after it (02, Four), is a
 /// further one.
 fn read_reports(octets: &[u8], first: usize) -> Result<Vec<Report>, Refusal> {
     let mut reports = Vec::new();
@@ -857,7 +857,7 @@ mod tests {
 
     #[test]
     fn vendors_elements_are_not_written_again() {
-        // Each body, with where the element behind which they stand ends.
+        // Each body, with where the element that they stand after ends.
         let bodies: [(&[u8], usize); 5] = [
             (&[0, 0, 9, 38, 3, 1, 2, 0, 38, 3, 2, 2, 0], 8),
             (&[0, 1, 9, 39, 3, 1, 1, 0, 39, 3, 1, 1, 0], 8),

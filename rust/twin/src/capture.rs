@@ -441,7 +441,7 @@ mod tests {
 
     #[test]
     fn vendors_elements_in_the_list() {
-        // 02, Four: the document's example with vendors' elements behind the
+        // 02, Four: the document's example with vendors' elements after the
         // announcement, and places that count the skipped octets.
         let frame = |body: &[u8]| record(2, &action(OWN, body));
         let first = block(&[

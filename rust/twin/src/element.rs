@@ -92,7 +92,7 @@ pub(crate) fn cut_any(octets: &[u8], at: usize) -> Result<Cut<'_>, Refusal> {
 
 /// Cuts an element that must begin at `at` and have this ID, in an action
 /// frame: "absent (7), header cut (6), wrong element" (21), "contents cut (6)".
-/// A vendor's element is a wrong one here, since those are skipped behind an
+/// A vendor's element is a wrong one here, since those are skipped after an
 /// element, not in front of it (02, Four). `at` is not past the end of the
 /// octets.
 pub(crate) fn cut_required(octets: &[u8], at: usize, id: u8) -> Result<Cut<'_>, Refusal> {
@@ -110,7 +110,7 @@ pub(crate) fn cut_required(octets: &[u8], at: usize, id: u8) -> Result<Cut<'_>, 
 }
 
 /// Where what follows the vendors' elements at `at` begins: whole ones are
-/// skipped behind an element of an action frame, however many there are, and
+/// skipped after an element of an action frame, however many there are, and
 /// "a cut one is refusal 6", in its header or its contents, told at its ID
 /// octet (02, Four).
 pub(crate) fn skip_vendors(octets: &[u8], at: usize) -> Result<usize, Refusal> {

@@ -935,17 +935,17 @@ mod tests {
 
     /// A fault whose place is counted from the end of this body, with its place
     /// in the frame.
-    fn behind(body: &[u8], fault: (u8, Option<usize>)) -> (u8, Option<usize>) {
+    fn after(body: &[u8], fault: (u8, Option<usize>)) -> (u8, Option<usize>) {
         (fault.0, fault.1.map(|place| 24 + body.len() + place))
     }
 
-    /// Each run of octets with the fault it makes behind the element of each
+    /// Each run of octets with the fault it makes after the element of each
     /// of these bodies; the place is counted from the run's first octet.
-    fn check_behind(bodies: &[&[u8]], cases: &[(&[u8], (u8, Option<usize>))]) {
+    fn check_after(bodies: &[&[u8]], cases: &[(&[u8], (u8, Option<usize>))]) {
         for body in bodies {
             for (run, expected) in cases {
                 let whole = [*body, run].concat();
-                check_bodies(&[(&whole, behind(body, *expected))]);
+                check_bodies(&[(&whole, after(body, *expected))]);
                 if *expected == ACCEPTED {
                     assert_eq!(read(&action(OWN, &whole)), read(&action(OWN, body)));
                 }
@@ -954,10 +954,10 @@ mod tests {
     }
 
     #[test]
-    fn vendors_behind_the_one_element() {
+    fn vendors_after_the_one_element() {
         let longest = vendor(&[221; 255]);
         let some = [vendor(&[]), vendor(&[34, 0]), longest.clone(), vendor(&[0])].concat();
-        check_behind(
+        check_after(
             &SINGLES,
             &[
                 (&[], ACCEPTED),
@@ -975,9 +975,9 @@ mod tests {
     }
 
     #[test]
-    fn a_cut_vendor_behind_the_one_element() {
+    fn a_cut_vendor_after_the_one_element() {
         let longest = vendor(&[34; 255]);
-        check_behind(
+        check_after(
             &SINGLES,
             &[
                 // In its header, and in its contents.
@@ -1001,10 +1001,10 @@ mod tests {
     }
 
     #[test]
-    fn what_is_left_over_behind_vendors() {
+    fn what_is_left_over_after_vendors() {
         for id in (0..=255u8).filter(|&id| id != 221) {
             // Cut or whole, and whatever follows it: 22 at its first octet.
-            check_behind(
+            check_after(
                 &SINGLES,
                 &[
                     (&[id], at(22, 0)),
@@ -1070,7 +1070,7 @@ mod tests {
     }
 
     #[test]
-    fn the_one_element_is_judged_before_what_is_behind_it() {
+    fn the_one_element_is_judged_before_what_is_after_it() {
         for vendors in [&[221][..], &[221, 0], &[221, 1], &[221, 0, 0]] {
             let with = |body: &[u8]| [body, vendors].concat();
             check_bodies(&[
@@ -1102,7 +1102,7 @@ mod tests {
                     let mixed = [body, between, further, after].concat();
                     assert_eq!(read(&action(OWN, &mixed)), plain);
                 }
-                check_behind(&[body], &[(between, ACCEPTED)]);
+                check_after(&[body], &[(between, ACCEPTED)]);
             }
         }
     }
@@ -1111,7 +1111,7 @@ mod tests {
     fn a_cut_vendor_among_measurements() {
         for (body, further) in MEASUREMENTS {
             let two = [body, &[221, 1, 7], further].concat();
-            check_behind(
+            check_after(
                 &[body, &two],
                 &[
                     (&[221], at(6, 0)),
@@ -1142,7 +1142,7 @@ mod tests {
                         at(21, place)
                     }
                 };
-                check_behind(
+                check_after(
                     &[body],
                     &[
                         (&[id], at(6, 0)),
@@ -1154,7 +1154,7 @@ mod tests {
                     ],
                 );
                 let cut = if id == right { at(6, 2) } else { at(21, 2) };
-                check_behind(&[body], &[(&[221, 0, id, 9], cut)]);
+                check_after(&[body], &[(&[221, 0, id, 9], cut)]);
             }
         }
         check_bodies(&[
@@ -1165,10 +1165,10 @@ mod tests {
     }
 
     #[test]
-    fn faults_behind_vendors_count_the_skipped_octets() {
+    fn faults_after_vendors_count_the_skipped_octets() {
         let requests = [0, 0, 5, 38, 3, 1, 2, 0, 221, 2, 38, 3];
         let reports = [0, 1, 0, 39, 3, 1, 1, 0, 221, 2, 39, 3];
-        check_behind(
+        check_after(
             &[&requests],
             &[
                 (&[38, 2, 2, 2], at(8, 0)),
@@ -1176,12 +1176,12 @@ mod tests {
                 (&measure(2, 0, 201, 0, 1), at(9, 0)),
                 (&[38, 3, 2, 2], at(6, 0)),
                 (&[39, 3, 2, 1, 0], at(21, 0)),
-                // An element is judged before the vendor's behind it.
+                // An element is judged before the vendor's after it.
                 (&[38, 3, 0, 2, 0, 221], at(9, 0)),
                 (&[38, 4, 2, 2, 0, 0, 221, 1], at(8, 0)),
             ],
         );
-        check_behind(
+        check_after(
             &[&reports],
             &[
                 (&[39, 2, 2, 1], at(8, 0)),
@@ -1196,18 +1196,18 @@ mod tests {
     }
 
     #[test]
-    fn a_repeat_behind_vendors() {
+    fn a_repeat_after_vendors() {
         let one = [0, 0, 5, 38, 3, 1, 2, 0];
-        check_behind(
+        check_after(
             &[&one],
             &[
                 (&[38, 3, 1, 2, 0], at(10, 0)),
                 (&[221, 0, 38, 3, 1, 2, 0], at(10, 2)),
                 (&[221, 0, 221, 1, 7, 38, 3, 1, 2, 0], at(10, 5)),
-                // The repeat comes before what is behind it.
+                // The repeat comes before what is after it.
                 (&[221, 0, 38, 3, 1, 2, 0, 221], at(10, 2)),
                 (&[221, 0, 38, 3, 1, 2, 0, 0, 0], at(10, 2)),
-                // And a cut vendor's element before the repeat behind it.
+                // And a cut vendor's element before the repeat after it.
                 (&[221, 6, 38, 3, 1, 2, 0], at(6, 0)),
                 // A token in a vendor's contents is not used.
                 (&[221, 5, 38, 3, 1, 2, 0], ACCEPTED),
@@ -1365,7 +1365,7 @@ mod tests {
                 plain.extend_from_slice(&element);
                 mixed.extend_from_slice(&element);
             }
-            // The last element is cut, or has vendors' elements behind it.
+            // The last element is cut, or has vendors' elements after it.
             if dice.roll(6) == 0 && !begins.is_empty() {
                 plain.pop();
                 mixed.pop();

@@ -583,14 +583,14 @@ mod tests {
             &[0, 4, 37, 3, 1, 200, 0],
         ] {
             assert_eq!(returned(&action(OWN, body)), Err(18));
-            // Nor with whole vendors' elements behind it (02, Four).
+            // Nor with whole vendors' elements after it (02, Four).
             let more = [body, &[221, 0, 221, 1, 7]].concat();
             assert_eq!(returned(&action(OWN, &more)), Err(18));
         }
     }
 
     #[test]
-    fn a_tpc_request_with_vendors_behind_it() {
+    fn a_tpc_request_with_vendors_after_it() {
         let mut plain = [0xEE; 33];
         assert_eq!(tpc(&action(OWN, &TPC), &mut plain), Ok(31));
         for vendors in [&[221, 0][..], &[221, 1, 7], &[221, 2, 34, 0, 221, 0]] {

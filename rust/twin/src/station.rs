@@ -1261,13 +1261,13 @@ mod tests {
     }
 
     #[test]
-    fn an_announcement_with_vendors_behind_it() {
+    fn an_announcement_with_vendors_after_it() {
         let longest = vendor(&[7; 255]);
         for vendors in [&[221, 0][..], &[221, 5, 37, 3, 0, 48, 0], &longest] {
             for times in 1..=3 {
-                let behind = vendors.repeat(times);
+                let after = vendors.repeat(times);
                 let announced = |mode, channel, count| {
-                    [announcement(mode, channel, count), behind.clone()].concat()
+                    [announcement(mode, channel, count), after.clone()].concat()
                 };
                 let mut plain = fresh();
                 let mut station = fresh();
@@ -1395,7 +1395,7 @@ mod tests {
             (notice(8, OWN, 99, &[]), 12, Some(32)),
             (action(OWN, &[0, 4, 38, 3, 0, 48, 0]), 21, Some(26)),
             (action(OWN, &[0, 4, 37, 3, 0, 48, 0, 0]), 22, Some(31)),
-            // Cut vendors' elements, one in front, and what is behind them.
+            // Cut vendors' elements, one in front, and what is after them.
             (action(OWN, &[0, 4, 37, 3, 0, 48, 0, 221]), 6, Some(31)),
             (action(OWN, &[0, 4, 37, 3, 0, 48, 0, 221, 1]), 6, Some(31)),
             (
