@@ -91,7 +91,7 @@ module _ (b : ℕ) where
   allowed-says : (n : ℕ) (es : Elements) (t : Told) → Allowed b t → Yields (Allowed b) (says b n es t)
   unfolding says
   allowed-says n end t a = of-value (Allowed b) a
-  allowed-says n cutHeader t a = of-refusal (Allowed b) _
+  allowed-says n (cutHeader o) t a = of-refusal (Allowed b) _
   allowed-says n (cutContents id) t a = of-refusal (Allowed b) _
   allowed-says n (more id c es) t a =
       after-value (Allowed b) (placedAt n (takes b id c t)) (says b (pastElement n c) es)

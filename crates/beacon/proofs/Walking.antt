@@ -44,9 +44,9 @@ module _ (b : ℕ) (body : List ℕ) (at : ℕ) (notice : Notice) (filled : List
   unfolding says
   at-end e = rw (w .kept-quiets, w .kept-count) (ap laid (from-here e refl))
 
-  pub at-cut-header : elementsIn (drop at body) ≡ cutHeader → refused (faultAt at Refusal.ElementCut) ≡ beaconMeans b body
+  pub at-cut-header : (o : ℕ) → elementsIn (drop at body) ≡ cutHeader o → refused (faultAt at Refusal.ElementCut) ≡ beaconMeans b body
   unfolding says
-  at-cut-header e = from-here e refl
+  at-cut-header o e = from-here e refl
 
   pub at-cut-contents : (id : ℕ) → elementsIn (drop at body) ≡ cutContents id → refused (faultAt at Refusal.ElementCut) ≡ beaconMeans b body
   unfolding says

@@ -68,7 +68,7 @@ takes b id c t = andThen (elementMeans b id c) (adds t)
 -- all elements, in their order; n octets stand before them
 unfoldable pub says : ℕ → ℕ → Elements → Told → Placed Told
 says b n end t = accepted t
-says b n cutHeader t = refused (faultAt n Refusal.ElementCut)
+says b n (cutHeader o) t = refused (faultAt n Refusal.ElementCut)
 says b n (cutContents id) t = refused (faultAt n Refusal.ElementCut)
 says b n (more id c es) t = andThen (placedAt n (takes b id c t)) (says b (pastElement n c) es)
 

@@ -126,7 +126,7 @@ pub fn read(body: &[u8], interval: u16) -> Heard
                     count,
                 };
             }
-            Found::CutHeader => {
+            Found::CutHeader(_) => {
                 return refused_at(Refusal::ElementCut, at);
             }
             Found::CutContents(_) => {

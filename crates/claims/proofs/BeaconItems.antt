@@ -212,7 +212,7 @@ module _ (b : ℕ) where
   said : (n : ℕ) (es : Elements) (before after : Told) → says b n es before ≡ accepted after → (xs : List Item) × (es ≡ walkedAs xs end) × Said xs before after
   unfolding says walkedAs
   said n end before after e = ([], refl, subst (λ (t : Told). Said [] before t) (accepted-once e) (none before))
-  said n cutHeader before after e = absurd (never e)
+  said n (cutHeader o) before after e = absurd (never e)
   said n (cutContents id) before after e = absurd (never e)
   said n (more id c es) before after e =
       let p = followed (placedAt n (takes b id c before)) (says b (pastElement n c) es) after e in

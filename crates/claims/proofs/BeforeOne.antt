@@ -1,5 +1,5 @@
--- A frame means what it meant before request One, but for the place of a refusal, and for 21 and 22, which were 7 (02, One: no other answer
--- changes). Assumes nothing.
+-- A frame in which nothing is passed over means what it meant before request One, but for the place of a refusal, and for 21 and 22, which were 7 (02, One
+-- and Four: no other answer changes). Assumes nothing.
 use mathlib.Core.Bool.{Bool, true, false, not}
 use mathlib.Core.List.{List, [], _∷_, _++_}
 use mathlib.Core.Logic.{_⊎_, inl, inr, ⊎-elim, _↔_}
@@ -9,6 +9,8 @@ use native.Mathlib.Omega.{arith}
 use lib.Dec.{ltb, eqb}
 use lib.ListN.{length, drop}
 use Rattle.action.specs.Openings.{fixedFields, switchFixedFields, forbidsToken, Opens, switching, with, opensWith}
+use borrow.Author.Tests.{not-true}
+use Rattle.answer.proofs.Booleans.{both}
 use Rattle.answer.proofs.Judged.{never}
 use Rattle.answer.proofs.Placing.{past-without, nowhere-without}
 use Rattle.answer.proofs.Refusing.{Refuses, by-value, by-check, by-none, by-then, of-place}
@@ -21,18 +23,20 @@ use Rattle.element.specs.ChannelSwitch.{switchMeans}
 use Rattle.element.specs.TpcReport.{tpcReportMeans}
 use Rattle.element.specs.TpcRequest.{tpcRequestMeans}
 use Rattle.frame.proofs.BodyFaults.{Misread, switch-misread, tpc-report-misread, tpc-request-misread, request-misread, report-misread, NoticeFaults, takes-by}
-use Rattle.frame.specs.Actions.{afterOpening, actionMeans}
-use Rattle.frame.specs.Frames.{Sent, kindOf, frameMeans}
-use Rattle.header.specs.Headers.{headerLength, bodyOf, managementMeans, addressMeans, headerMeans}
+use Rattle.frame.specs.Actions.{Body, requests, reports, tpcRequest, tpcReport, switch, afterOpening, actionMeans}
+use Rattle.frame.specs.Frames.{Kind, action, Sent, kindOf, frameMeans}
+use Rattle.header.specs.Headers.{headerLength, bodyOf, managementMeans, addressMeans, Head, headerMeans}
 use Rattle.header.specs.declared.management.Subtype.{Subtype}
 use Rattle.measurement_body.specs.Lists.{Sort, repeats, nextIn, listed, measurementsIn}
 use Rattle.measurement_body.specs.Reports.{reportSort}
 use Rattle.measurement_body.specs.Requests.{requestSort}
 use Rattle.octets.specs.Numbers.{octet, number}
 use Rattle.single_body.specs.Singles.{single}
-use Rattle.walk.specs.Elements.{Elements, end, cutHeader, cutContents, more, elementsIn, pastElement}
+use Rattle.walk.specs.Elements.{Elements, elementsIn, pastElement}
+use Rattle.walk.specs.Elements as Raw
+use Rattle.walk.specs.Handed.{Handed, end, cutHeader, cutContents, more, passed, cutPassed, vendorId, passing, handing, handedIn}
 use Rattle.walk.specs.Required.{required, nothingLeft}
-use Rattle.claims.specs.BeforeOne.{oldRequired, oldNothingLeft, oldSingle, oldNext, oldListed, oldOpens, oldAfterOpening, oldSays, oldBeaconMeans, oldKindOf, oldFrameMeans, oldNumbered, oldTold, asBefore}
+use Rattle.claims.specs.BeforeOne.{oldRequired, oldNothingLeft, oldSingle, oldNext, oldListed, oldOpens, oldAfterOpening, oldSays, oldBeaconMeans, oldKindOf, oldFrameBy, oldFrameMeans, each, eachIn, noVendorIn, noVendorAfter, NoVendor, NothingPassed, oldNumbered, oldTold, asBefore}
 use Rattle.claims.proofs.Same.{accepted-once}
 
 -- ---- what is new is taken away part by part
@@ -110,53 +114,60 @@ header-before own ap' f =
 
 -- ---- the element that has to be there, and what follows it
 
-required-before : (id : ℕ) (es : Elements) → oldTold (required id es) ≡ oldRequired id es
+required-before : (id : ℕ) (hs : Handed) → oldTold (required id hs) ≡ oldRequired id hs
 unfolding required oldRequired checked
 required-before id end = refl
 required-before id cutHeader = refl
 required-before id (cutContents i) = told-either (not (eqb i id)) _ _ refl refl
-required-before id (more i c es) = told-either (not (eqb i id)) _ _ refl refl
+required-before id (more i c hs) = told-either (not (eqb i id)) _ _ refl refl
+required-before id (passed c hs) = refl
+required-before id cutPassed = refl
 
-nothing-before : {A : Type 0} (n : ℕ) (es : Elements) (a : A) → asBefore (nothingLeft n es a) ≡ oldNothingLeft es a
+nothing-before : {A : Type 0} (n : ℕ) (hs : Handed) (a : A) → asBefore (nothingLeft n hs a) ≡ oldNothingLeft hs a
+unfolding nothingLeft oldNothingLeft
 nothing-before n end a = refl
 nothing-before n cutHeader a = refl
 nothing-before n (cutContents id) a = refl
-nothing-before n (more id c es) a = refl
+nothing-before n (more id c hs) a = refl
+nothing-before n (passed c hs) a = nothing-before (pastElement n c) hs a
+nothing-before n cutPassed a = refl
 
-single-before : {A : Type 0} (n id : ℕ) (means : List ℕ → Outcome A) → ((c : List ℕ) → Refuses Misread (means c)) → (es : Elements)
-    → asBefore (single n id means es) ≡ oldSingle id means es
+single-before : {A : Type 0} (n id : ℕ) (means : List ℕ → Outcome A) → ((c : List ℕ) → Refuses Misread (means c)) → (hs : Handed)
+    → asBefore (single n id means hs) ≡ oldSingle id means hs
 unfolding single oldSingle
-single-before n id means m es =
-    before-then (placedAt n (required id es)) _ (placed-before n (required id es) ∙ required-before id es)
+single-before n id means m hs =
+    before-then (placedAt n (required id hs)) _ (placed-before n (required id hs) ∙ required-before id hs)
     (λ s. before-then (placedAt n (means (s .contents))) _
     (placed-before n (means (s .contents)) ∙ contents-before (means (s .contents)) (m (s .contents)))
     (nothing-before (pastElement n (s .contents)) (s .rest)))
 
 -- one element after the other
 module _ {A : Type 0} (s : Sort A) (m : (c : List ℕ) → Refuses Misread (s .means c)) where
-  next-told : (es : Elements) (before : List A) → oldTold (nextIn s es before) ≡ oldNext s es before
+  next-told : (hs : Handed) (before : List A) → oldTold (nextIn s hs before) ≡ oldNext s hs before
   unfolding nextIn oldNext checked
-  next-told es before =
-      told-then (required (s .id) es) _ (required-before (s .id) es)
+  next-told hs before =
+      told-then (required (s .id) hs) _ (required-before (s .id) hs)
       (λ e. told-then (s .means (e .contents)) _ (contents-before (s .means (e .contents)) (m (e .contents)))
       (λ a. told-either (repeats s a before) _ _ refl refl))
 
-  next-before : (n : ℕ) (es : Elements) (before : List A) → asBefore (placedAt n (nextIn s es before)) ≡ oldNext s es before
-  next-before n es before = placed-before n (nextIn s es before) ∙ next-told es before
+  next-before : (n : ℕ) (hs : Handed) (before : List A) → asBefore (placedAt n (nextIn s hs before)) ≡ oldNext s hs before
+  next-before n hs before = placed-before n (nextIn s hs before) ∙ next-told hs before
 
-  listed-before : (es : Elements) (n : ℕ) (before : List A) → asBefore (listed s n es before) ≡ oldListed s es before
+  listed-before : (hs : Handed) (n : ℕ) (before : List A) → asBefore (listed s n hs before) ≡ oldListed s hs before
   unfolding listed oldListed
   listed-before end n before =
       before-either (eqb (length before) 0) _ _ (before-then (placedAt n (nextIn s end before)) _ (next-before n end before) (λ a. refl)) refl
   listed-before cutHeader n before = before-then (placedAt n (nextIn s cutHeader before)) _ (next-before n cutHeader before) (λ a. refl)
   listed-before (cutContents id) n before = before-then (placedAt n (nextIn s (cutContents id) before)) _ (next-before n (cutContents id) before) (λ a. refl)
-  listed-before (more id c es) n before =
-      before-then (placedAt n (nextIn s (more id c es) before)) _ (next-before n (more id c es) before)
-      (λ a. listed-before es (pastElement n c) (before ++ (a ∷ [])))
+  listed-before (more id c hs) n before =
+      before-then (placedAt n (nextIn s (more id c hs) before)) _ (next-before n (more id c hs) before)
+      (λ a. listed-before hs (pastElement n c) (before ++ (a ∷ [])))
+  listed-before (passed c hs) n before = listed-before hs (pastElement n c) before
+  listed-before cutPassed n before = before-then (placedAt n (nextIn s cutPassed before)) _ (next-before n cutPassed before) (λ a. refl)
 
-  measurements-before : (run : List ℕ) → asBefore (measurementsIn s run) ≡ oldListed s (elementsIn run) []
+  measurements-before : (run : List ℕ) → asBefore (measurementsIn s run) ≡ oldListed s (handedIn run) []
   unfolding measurementsIn
-  measurements-before run = listed-before (elementsIn run) fixedFields []
+  measurements-before run = listed-before (handedIn run) fixedFields []
 
 -- ---- an action body
 
@@ -171,21 +182,21 @@ opens-before body =
     (before-either (ltb (length body) fixedFields) _ _ refl
     (before-either (forbidsToken (octet 1 body) (octet 2 body)) _ _ refl refl))))))
 
-after-before : (body : List ℕ) (o : Opens) → asBefore (afterOpening body o) ≡ oldAfterOpening body o
+after-before : (body : List ℕ) (o : Opens) → asBefore (afterOpening body o) ≡ oldAfterOpening handedIn body o
 after-before body switching =
-    let run = elementsIn (drop switchFixedFields body) in
+    let run = handedIn (drop switchFixedFields body) in
     before-then (single switchFixedFields 37 switchMeans run) _ (single-before switchFixedFields 37 switchMeans switch-misread run) (λ s. refl)
 after-before body (with k token) =
     let run = drop fixedFields body in
     before-either (eqb k 0) _ _ (before-then (measurementsIn requestSort run) _ (measurements-before requestSort request-misread run) (λ rs. refl))
     (before-either (eqb k 1) _ _ (before-then (measurementsIn reportSort run) _ (measurements-before reportSort report-misread run) (λ rs. refl))
     (before-either (eqb k 2) _ _
-    (before-then (single fixedFields 34 tpcRequestMeans (elementsIn run)) _
-    (single-before fixedFields 34 tpcRequestMeans tpc-request-misread (elementsIn run)) (λ u. refl))
-    (before-then (single fixedFields 35 tpcReportMeans (elementsIn run)) _
-    (single-before fixedFields 35 tpcReportMeans tpc-report-misread (elementsIn run)) (λ t. refl))))
+    (before-then (single fixedFields 34 tpcRequestMeans (handedIn run)) _
+    (single-before fixedFields 34 tpcRequestMeans tpc-request-misread (handedIn run)) (λ u. refl))
+    (before-then (single fixedFields 35 tpcReportMeans (handedIn run)) _
+    (single-before fixedFields 35 tpcReportMeans tpc-report-misread (handedIn run)) (λ t. refl))))
 
-action-before : (body : List ℕ) → asBefore (actionMeans body) ≡ andThen (oldOpens body) (oldAfterOpening body)
+action-before : (body : List ℕ) → asBefore (actionMeans body) ≡ andThen (oldOpens body) (oldAfterOpening handedIn body)
 unfolding actionMeans
 action-before body = before-then (opensWith body) (afterOpening body) (opens-before body) (after-before body)
 
@@ -193,10 +204,10 @@ action-before body = before-then (opensWith body) (afterOpening body) (opens-bef
 
 says-before : (b : ℕ) (es : Elements) (n : ℕ) (t : Told) → asBefore (says b n es t) ≡ oldSays b es t
 unfolding says oldSays
-says-before b end n t = refl
-says-before b cutHeader n t = refl
-says-before b (cutContents id) n t = refl
-says-before b (more id c es) n t =
+says-before b Raw.end n t = refl
+says-before b (Raw.cutHeader o) n t = refl
+says-before b (Raw.cutContents id) n t = refl
+says-before b (Raw.more id c es) n t =
     before-then (placedAt n (takes b id c t)) _ (placed-before n (takes b id c t) ∙ takes-before b id c t) (says-before b es (pastElement n c))
 
 beacon-before : (b : ℕ) (body : List ℕ) → asBefore (beaconMeans b body) ≡ oldBeaconMeans b body
@@ -207,19 +218,102 @@ beacon-before b body =
 
 -- ---- a frame
 
-kind-before : (b : ℕ) (s : Subtype) (body : List ℕ) → asBefore (kindOf b s body) ≡ oldKindOf b s body
+kind-before : (b : ℕ) (s : Subtype) (body : List ℕ) → asBefore (kindOf b s body) ≡ oldKindOf handedIn b s body
 kind-before b Subtype.Beacon body = before-then (beaconMeans b body) _ (beacon-before b body) (λ t. refl)
 kind-before b Subtype.ProbeResponse body = before-then (beaconMeans b body) _ (beacon-before b body) (λ t. refl)
 kind-before b Subtype.Action body = before-then (actionMeans body) _ (action-before body) (λ a. refl)
 
--- without what is new, a frame means what it meant
-pub as-before : (own ap' : List ℕ) (b : ℕ) (f : List ℕ) → asBefore (frameMeans own ap' b f) ≡ oldFrameMeans own ap' b f
-unfolding frameMeans oldFrameMeans
-as-before own ap' b f =
+-- without what is new in refusals
+refusals-before : (own ap' : List ℕ) (b : ℕ) (f : List ℕ) → asBefore (frameMeans own ap' b f) ≡ oldFrameBy handedIn own ap' b f
+unfolding frameMeans oldFrameBy
+refusals-before own ap' b f =
     before-then (nowhere (headerMeans own ap' f)) _ (ap oldTold (nowhere-without (headerMeans own ap' f)) ∙ header-before own ap' f)
     (λ h. before-then (placedPast headerLength (kindOf b (h .subtype) (bodyOf f))) _
     (ap oldTold (past-without headerLength (kindOf b (h .subtype) (bodyOf f))) ∙ kind-before b (h .subtype) (bodyOf f))
     (λ k. refl))
+
+-- ---- where nothing is passed over, every element is handed out
+
+each-passing : (es : Elements) → noVendorIn es ≡ true → passing es ≡ each es
+unfolding noVendorIn passing each
+each-passing Raw.end h = refl
+each-passing (Raw.cutHeader o) h = simp (not-true (eqb o vendorId) h)
+each-passing (Raw.cutContents id) h = simp (not-true (eqb id vendorId) h)
+each-passing (Raw.more id c es) h =
+    let p = both (not (eqb id vendorId)) (noVendorIn es) h in
+    simp (not-true (eqb id vendorId) (p .0)) (ap (more id c) (each-passing es (p .1)))
+
+each-handing : (es : Elements) → noVendorAfter es ≡ true → handing es ≡ each es
+unfolding noVendorAfter handing each
+each-handing Raw.end h = refl
+each-handing (Raw.cutHeader o) h = refl
+each-handing (Raw.cutContents id) h = refl
+each-handing (Raw.more id c es) h = ap (more id c) (each-passing es h)
+
+-- after an opening, by its action
+module _ (body : List ℕ) {A : Type 0} (f g : Opens → Outcome A) where
+  opened-alike : (eqb (octet 1 body) 4 ≡ true → f switching ≡ g switching) → (eqb (octet 1 body) 4 ≡ false → (k token : ℕ) → f (with k token) ≡ g (with k token))
+      → andThen (oldOpens body) f ≡ andThen (oldOpens body) g
+  unfolding oldOpens checked
+  opened-alike four others =
+      past-test (ltb (length body) 1) _ _
+      (past-test (not (eqb (octet 0 body) 0)) _ _
+      (past-test (ltb (length body) switchFixedFields) _ _
+      (past-test (ltb 4 (octet 1 body)) _ _
+      (by (eqb (octet 1 body) 4) refl))))
+    where
+      Alike : Outcome Opens → Type 0
+      Alike o = andThen o f ≡ andThen o g
+
+      past-test : (t : Bool) (r : Refusal) (o : Outcome Opens) → Alike o → Alike (pick t (refused r) o)
+      past-test true r o e = refl
+      past-test false r o e = e
+
+      by : (t : Bool) → eqb (octet 1 body) 4 ≡ t
+          → Alike (pick t (accepted switching)
+          (pick (ltb (length body) fixedFields) (refused Refusal.TooShort)
+          (pick (forbidsToken (octet 1 body) (octet 2 body)) (refused Refusal.ForbiddenValue) (accepted (with (octet 1 body) (octet 2 body))))))
+      by true e = four e
+      by false e =
+          past-test (ltb (length body) fixedFields) _ _ (past-test (forbidsToken (octet 1 body) (octet 2 body)) _ _ (others e (octet 1 body) (octet 2 body)))
+
+module _ (body : List ℕ) (none : NoVendor body) where
+  each-after : (t : Bool) → eqb (octet 1 body) 4 ≡ t → handedIn (drop (pick t switchFixedFields fixedFields) body) ≡ eachIn (drop (pick t switchFixedFields fixedFields) body)
+  each-after t e =
+      each-handing (elementsIn (drop (pick t switchFixedFields fixedFields) body))
+      (subst (λ (u : Bool). noVendorAfter (elementsIn (drop (pick u switchFixedFields fixedFields) body)) ≡ true) e none)
+
+  each-action : andThen (oldOpens body) (oldAfterOpening handedIn body) ≡ andThen (oldOpens body) (oldAfterOpening eachIn body)
+  each-action =
+      opened-alike body (oldAfterOpening handedIn body) (oldAfterOpening eachIn body)
+      (λ four. ap (λ (hs : Handed). andThen (oldSingle 37 switchMeans hs) (λ s. accepted (switch s))) (each-after true four))
+      (λ other k token.
+      ap
+      (λ (hs : Handed). pick (eqb k 0) (andThen (oldListed requestSort hs []) (λ rs. accepted (requests token rs)))
+      (pick (eqb k 1) (andThen (oldListed reportSort hs []) (λ rs. accepted (reports token rs)))
+      (pick (eqb k 2) (andThen (oldSingle 34 tpcRequestMeans hs) (λ u. accepted (tpcRequest token)))
+      (andThen (oldSingle 35 tpcReportMeans hs) (λ t. accepted (tpcReport token t))))))
+      (each-after false other))
+
+each-kind : (body : List ℕ) (b : ℕ) (s : Subtype) → (s ≡ Subtype.Action → NoVendor body) → oldKindOf handedIn b s body ≡ oldKindOf eachIn b s body
+each-kind body b Subtype.Beacon none = refl
+each-kind body b Subtype.ProbeResponse none = refl
+each-kind body b Subtype.Action none = ap (λ (o : Outcome Body). andThen o (λ a. accepted (action a))) (each-action body (none refl))
+
+-- without what is new, such a frame means what it meant
+pub as-before : (own ap' : List ℕ) (b : ℕ) (f : List ℕ) → NothingPassed own ap' f → asBefore (frameMeans own ap' b f) ≡ oldFrameMeans own ap' b f
+unfolding oldFrameBy
+as-before own ap' b f none =
+    refusals-before own ap' b f ∙ by (headerMeans own ap' f) refl
+  where
+    heard : Head → Kind → Outcome Sent
+    heard h k = accepted (record { toAll = h .toAll; kind = k })
+
+    by : (o : Outcome Head) → headerMeans own ap' f ≡ o
+        → andThen o (λ h. andThen (oldKindOf handedIn b (h .subtype) (bodyOf f)) (heard h))
+        ≡ andThen o (λ h. andThen (oldKindOf eachIn b (h .subtype) (bodyOf f)) (heard h))
+    by (refused r) e = refl
+    by (accepted h) e = ap (λ (o : Outcome Kind). andThen o (heard h)) (each-kind (bodyOf f) b (h .subtype) (none h e))
 
 -- ---- what that says of each answer
 
@@ -249,11 +343,11 @@ numbered-before Refusal.OtherElement = inr (refl, inl refl)
 numbered-before Refusal.LeftOver = inr (refl, inr refl)
 
 -- a frame that is refused was refused, and with the same number, or with 7 where it is 21 or 22 now
-pub only-seven : (own ap' : List ℕ) (b : ℕ) (f : List ℕ) (x : Fault) → frameMeans own ap' b f ≡ refused x
+pub only-seven : (own ap' : List ℕ) (b : ℕ) (f : List ℕ) (x : Fault) → NothingPassed own ap' f → frameMeans own ap' b f ≡ refused x
     → ((oldFrameMeans own ap' b f ≡ refused (x .refusal)) × (oldNumbered (x .refusal) ≡ x .refusal))
     ⊎ ((oldFrameMeans own ap' b f ≡ refused Refusal.ElementAbsent) × ((x .refusal ≡ Refusal.OtherElement) ⊎ (x .refusal ≡ Refusal.LeftOver)))
-only-seven own ap' b f x e =
-    let was : oldFrameMeans own ap' b f ≡ refused (oldNumbered (x .refusal)) = sym (as-before own ap' b f) ∙ ap asBefore e in
+only-seven own ap' b f x none e =
+    let was : oldFrameMeans own ap' b f ≡ refused (oldNumbered (x .refusal)) = sym (as-before own ap' b f none) ∙ ap asBefore e in
     ⊎-elim (λ k. inl (was ∙ ap refused k, k)) (λ k. inr (was ∙ ap refused (k .0), k .1)) (numbered-before (x .refusal))
 
 -- the same frames are accepted, and as the same
@@ -261,6 +355,6 @@ accepted-before : {A : Type 0} (o : Placed A) (a : A) → asBefore o ≡ accepte
 accepted-before (refused x) a e = absurd (never e)
 accepted-before (accepted b) a e = ap accepted (accepted-once e)
 
-pub accepted-alike : (own ap' : List ℕ) (b : ℕ) (f : List ℕ) (s : Sent) → (frameMeans own ap' b f ≡ accepted s) ↔ (oldFrameMeans own ap' b f ≡ accepted s)
-accepted-alike own ap' b f s =
-    (λ e. sym (as-before own ap' b f) ∙ ap asBefore e, λ e. accepted-before (frameMeans own ap' b f) s (as-before own ap' b f ∙ e))
+pub accepted-alike : (own ap' : List ℕ) (b : ℕ) (f : List ℕ) (s : Sent) → NothingPassed own ap' f → (frameMeans own ap' b f ≡ accepted s) ↔ (oldFrameMeans own ap' b f ≡ accepted s)
+accepted-alike own ap' b f s none =
+    (λ e. sym (as-before own ap' b f none) ∙ ap asBefore e, λ e. accepted-before (frameMeans own ap' b f) s (as-before own ap' b f none ∙ e))

@@ -26,6 +26,7 @@ use Rattle.measurement_body.specs.Requests.{requestSort}
 use Rattle.octets.specs.Numbers.{octet, number, join}
 use Rattle.single_body.specs.Singles.{single}
 use Rattle.walk.specs.Elements.{elementsIn}
+use Rattle.walk.specs.Handed.{handedIn}
 use Rattle.claims.proofs.Cut.{from-kept, long-kept, after-cut}
 use Rattle.claims.proofs.ElementsBefore.{Accepts, Reached, says-before, measurements-before, none-measured, single-before, none-single}
 use Rattle.claims.proofs.RefusedAt.{unfailed, unchecked, refused-by, made-refused, same-place, some-place}
@@ -139,7 +140,7 @@ module _ (body : List ℕ) (q : ℕ) (r : Refusal) where
   -- after them, by the action
   by-opening : (o : Opens) → Begins body o → actionMeans body ≡ refused (faultAt q r) → ActionBefore body q
   by-opening switching b e =
-      led-before (0 ∷ 4 ∷ []) (λ run. single switchFixedFields 37 switchMeans (elementsIn run)) switch
+      led-before (0 ∷ 4 ∷ []) (λ run. single switchFixedFields 37 switchMeans (handedIn run)) switch
       (λ run. by-lead run _ _ (opens-switch run)) (λ run. refl) (none-single switchFixedFields 37 switchMeans) (single-before switchFixedFields 37 switchMeans)
       body (drop switchFixedFields body) q r b e
   by-opening (with zero token) b e =
@@ -151,11 +152,11 @@ module _ (body : List ℕ) (q : ℕ) (r : Refusal) where
       (λ run. by-lead run _ _ (opens run 1 token (omega arith) (b .2))) (λ run. refl) (none-measured reportSort) (measurements-before reportSort)
       body (drop fixedFields body) q r (b .0) e
   by-opening (with (suc (suc zero)) token) b e =
-      led-before (0 ∷ 2 ∷ token ∷ []) (λ run. single fixedFields 34 tpcRequestMeans (elementsIn run)) (λ u. tpcRequest token)
+      led-before (0 ∷ 2 ∷ token ∷ []) (λ run. single fixedFields 34 tpcRequestMeans (handedIn run)) (λ u. tpcRequest token)
       (λ run. by-lead run _ _ (opens run 2 token (omega arith) (b .2))) (λ run. refl) (none-single fixedFields 34 tpcRequestMeans) (single-before fixedFields 34 tpcRequestMeans)
       body (drop fixedFields body) q r (b .0) e
   by-opening (with (suc (suc (suc zero))) token) b e =
-      led-before (0 ∷ 3 ∷ token ∷ []) (λ run. single fixedFields 35 tpcReportMeans (elementsIn run)) (tpcReport token)
+      led-before (0 ∷ 3 ∷ token ∷ []) (λ run. single fixedFields 35 tpcReportMeans (handedIn run)) (tpcReport token)
       (λ run. by-lead run _ _ (opens run 3 token (omega arith) (b .2))) (λ run. refl) (none-single fixedFields 35 tpcReportMeans) (single-before fixedFields 35 tpcReportMeans)
       body (drop fixedFields body) q r (b .0) e
   by-opening (with (suc (suc (suc (suc n)))) token) b e = absurd (omega arith)

@@ -34,6 +34,7 @@ pub mod OneRecord
 pub mod OneSaying
 pub mod Others
 pub mod OwedReports
+pub mod PassedOver
 pub mod Pendings
 pub mod Places
 pub mod QuietUnits
@@ -54,4 +55,5 @@ pub mod SetSchedules
 pub mod SoundBefore
 pub mod StationWitnesses
 pub mod Stations
+pub mod TakenOut
 pub mod Witnesses

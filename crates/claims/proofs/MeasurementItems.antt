@@ -8,26 +8,24 @@ use Prim.Native.Nat.{ℕ, _+_, _≤_, _<_}
 use native.Mathlib.Omega.{arith}
 use borrow.Author.Tests.{eq-eqb, ne-eqb, eqb-true, eqb-false}
 use lib.Dec.{eqb}
-use lib.ListN.{length}
+use lib.ListN.{length, length-append}
 use Rattle.action.specs.Openings.{fixedFields}
 use Rattle.answer.specs.Checks.{accepted, pick}
-use Rattle.answer.proofs.Booleans.{neither, and-go}
-use Rattle.measurement_body.proofs.Listing.{onward, lists, ended, not-cut-header, not-cut-contents}
+use Rattle.answer.proofs.Booleans.{clash, neither, and-go}
+use Rattle.measurement_body.proofs.Listing.{onward, lists, ended, not-cut-header, not-cut-contents, not-cut-passed}
 use Rattle.measurement_body.specs.Lists.{Sort, used, repeats, listed, measurementsIn}
 use Rattle.walk.proofs.Requiring.{there}
-use Rattle.walk.specs.Elements.{Elements, end, cutHeader, cutContents, more, elementsIn, pastElement}
+use Rattle.walk.specs.Elements.{Elements, elementsIn, pastElement}
+use Rattle.walk.specs.Elements as Raw
+use Rattle.walk.specs.Handed.{Handed, cutHeader, cutContents, more, passed, cutPassed, vendorId, passing, handing}
 use Rattle.claims.specs.FilteredFrames.{ofToken, ListOf}
-use Rattle.claims.specs.Filters.{Item, item, ofId, walkedAs}
+use Rattle.claims.specs.Filters.{Item, item, ofId, notOfId, walkedAs}
 use Rattle.claims.proofs.ReadItems.{Grows, grows-none, grew-none, grows-all, grew-all, grows-first, grew-first}
 use Rattle.claims.proofs.RunItems.{walk-whole}
 
 -- ---- elements that are all of one ID
 
 module _ (id : ℕ) where
-  one-own : (x : Item) (xs : List Item) → x .id ≡ id → ofId id xs ≡ xs → ofId id (x ∷ xs) ≡ x ∷ xs
-  unfolding ofId
-  one-own x xs e h = simp (eq-eqb (x .id) id e) (ap (λ (l : List Item). x ∷ l) h)
-
   never-more : (xs : List Item) → length (ofId id xs) ≤ length xs
   unfolding ofId
   never-more [] = omega arith
@@ -37,13 +35,54 @@ module _ (id : ℕ) where
       by true h = omega arith
       by false h = omega arith
 
-  first-own : (x : Item) (xs : List Item) → ofId id (x ∷ xs) ≡ x ∷ xs → (x .id ≡ id) × (ofId id xs ≡ xs)
+  pub all-of-id : (x : Item) (xs : List Item) → ofId id (x ∷ xs) ≡ x ∷ xs → (x .id ≡ id) × (ofId id xs ≡ xs)
   unfolding ofId
-  first-own x xs h = by (eqb (x .id) id) refl h
+  all-of-id x xs h = by (eqb (x .id) id) refl h
     where
       by : (t : Bool) → eqb (x .id) id ≡ t → pick t (x ∷ ofId id xs) (ofId id xs) ≡ x ∷ xs → (x .id ≡ id) × (ofId id xs ≡ xs)
       by true e f = (eqb-true (x .id) id e, cc)
       by false e f = absurd (omega (arith, ap length f, never-more xs))
+
+-- ---- elements of one ID, and vendors' elements among them
+
+module _ (id : ℕ) (not-vendor : eqb id vendorId ≡ false) where
+  -- an element of the ID in front
+  own-first : (x : Item) (xs : List Item) → x .id ≡ id → (ofId id (x ∷ xs) ≡ x ∷ ofId id xs) × (notOfId vendorId (x ∷ xs) ≡ x ∷ notOfId vendorId xs)
+  unfolding ofId notOfId
+  own-first x xs e =
+      let other : eqb (x .id) vendorId ≡ false = ap (λ (n : ℕ). eqb n vendorId) e ∙ not-vendor in
+      (simp (eq-eqb (x .id) id e), simp other)
+
+  -- one of a vendor
+  vendor-first : (x : Item) (xs : List Item) → eqb (x .id) vendorId ≡ true → (ofId id (x ∷ xs) ≡ ofId id xs) × (notOfId vendorId (x ∷ xs) ≡ notOfId vendorId xs)
+  unfolding ofId notOfId
+  vendor-first x xs e =
+      let other : eqb (x .id) id ≡ false = ne-eqb (x .id) id (λ same. clash (sym e ∙ ap (λ (n : ℕ). eqb n vendorId) same ∙ not-vendor)) in
+      (simp other, simp e)
+
+  no-more-own : (xs : List Item) → length (ofId id xs) ≤ length (notOfId vendorId xs)
+  unfolding ofId notOfId
+  no-more-own [] = omega arith
+  no-more-own (x ∷ xs) = by (eqb (x .id) vendorId) refl (no-more-own xs)
+    where
+      own : (t : Bool) → length (ofId id xs) ≤ length (notOfId vendorId xs) → length (pick t (x ∷ ofId id xs) (ofId id xs)) ≤ length (x ∷ notOfId vendorId xs)
+      own true h = omega arith
+      own false h = omega arith
+
+      by : (t : Bool) → eqb (x .id) vendorId ≡ t → length (ofId id xs) ≤ length (notOfId vendorId xs)
+          → length (ofId id (x ∷ xs)) ≤ length (pick t (notOfId vendorId xs) (x ∷ notOfId vendorId xs))
+      by true e h = omega (arith, ap length (vendor-first x xs e .0))
+      by false e h = own (eqb (x .id) id) h
+
+  -- where all others are of the ID, an element that is none of a vendor's is
+  first-own : (x : Item) (xs : List Item) → eqb (x .id) vendorId ≡ false → ofId id (x ∷ xs) ≡ notOfId vendorId (x ∷ xs)
+      → (x .id ≡ id) × (ofId id xs ≡ notOfId vendorId xs)
+  unfolding ofId notOfId
+  first-own x xs other h = by (eqb (x .id) id) refl (h ∙ simp other)
+    where
+      by : (t : Bool) → eqb (x .id) id ≡ t → pick t (x ∷ ofId id xs) (ofId id xs) ≡ x ∷ notOfId vendorId xs → (x .id ≡ id) × (ofId id xs ≡ notOfId vendorId xs)
+      by true e f = (eqb-true (x .id) id e, cc)
+      by false e f = absurd (omega (arith, ap length f, no-more-own xs))
 
 -- ---- records of which no two have the same token
 
@@ -111,78 +150,119 @@ module _ {A : Type 0} (s : Sort A) where
           (arith, o on (s .token a), own-token a, joined-tokens before (a ∷ []) (s .token a), joined-tokens (before ++ (a ∷ [])) values (s .token a)))
       by false off = refl
 
-  -- ---- the records of a run, after those before
+  -- ---- the records of a run after its first element, after those before
 
-  record Listed (es : Elements) (before l : List A) : Type 0 where
-    items : List Item
-    walk : es ≡ walkedAs items end
-    own : ofId (s .id) items ≡ items
-    grows : Grows (s .means) items before l
-    some : 0 < length l
-    once : Once l
+  module _ (not-vendor : eqb (s .id) vendorId ≡ false) where
+    record Listed (es : Elements) (before l : List A) : Type 0 where
+      items : List Item
+      walk : es ≡ walkedAs items Raw.end
+      own : ofId (s .id) items ≡ notOfId vendorId items
+      grows : Grows (s .means) (ofId (s .id) items) before l
+      once : Once l
 
-  read-run : (n : ℕ) (es : Elements) (before l : List A) → Once before → listed s n es before ≡ accepted l → Listed es before l
-  unfolding walkedAs ofId
-  read-run n end before l o e =
-      let p = ended s n before l e in
-      record {
-        items = [];
-        walk = refl;
-        own = refl;
-        grows = subst (Grows (s .means) [] before) (p .1) (grows-none (s .means) before);
-        some = omega (arith, ap length (p .1), eqb-false (length before) 0 (p .0));
-        once = subst Once (p .1) o;
-      }
-  read-run n cutHeader before l o e = absurd (not-cut-header s n before l e)
-  read-run n (cutContents id) before l o e = absurd (not-cut-contents s n id before l e)
-  read-run n (more id c es) before l o e =
-      let p = lists s n id c es before l e in
-      let r = read-run (pastElement n c) es (before ++ (p .one ∷ [])) l (once-more before (p .one) o (p .new)) (p .on) in
-      record {
-        items = item id c ∷ r .items;
-        walk = ap (more id c) (r .walk);
-        own = one-own (s .id) (item id c) (r .items) (p .own) (r .own);
-        grows = grows-first (s .means) (item id c) (r .items) (p .says) (r .grows);
-        some = r .some;
-        once = r .once;
-      }
+    read-run : (n : ℕ) (es : Elements) (before l : List A) → Once before → listed s n (passing es) before ≡ accepted l → Listed es before l
+    unfolding listed passing walkedAs ofId notOfId
+    read-run n Raw.end before l o e =
+        let p = ended s n before l e in
+        record { items = []; walk = refl; own = refl; grows = subst (Grows (s .means) [] before) (p .1) (grows-none (s .means) before); once = subst Once (p .1) o }
+    read-run n (Raw.cutHeader i) before l o e = by (eqb i vendorId) e
+      where
+        by : (t : Bool) → listed s n (pick t cutPassed cutHeader) before ≡ accepted l → Listed (Raw.cutHeader i) before l
+        by true f = absurd (not-cut-passed s n before l f)
+        by false f = absurd (not-cut-header s n before l f)
+    read-run n (Raw.cutContents id) before l o e = by (eqb id vendorId) e
+      where
+        by : (t : Bool) → listed s n (pick t cutPassed (cutContents id)) before ≡ accepted l → Listed (Raw.cutContents id) before l
+        by true f = absurd (not-cut-passed s n before l f)
+        by false f = absurd (not-cut-contents s n id before l f)
+    read-run n (Raw.more id c es) before l o e = by (eqb id vendorId) refl e (read-run (pastElement n c) es)
+      where
+        by : (t : Bool) → eqb id vendorId ≡ t → listed s n (pick t (passed c (passing es)) (more id c (passing es))) before ≡ accepted l
+            → ((b k : List A) → Once b → listed s (pastElement n c) (passing es) b ≡ accepted k → Listed es b k) → Listed (Raw.more id c es) before l
+        by true v f on =
+            let r = on before l o f in
+            let p = vendor-first (s .id) not-vendor (item id c) (r .items) v in
+            record {
+              items = item id c ∷ r .items;
+              walk = ap (Raw.more id c) (r .walk);
+              own = p .0 ∙ r .own ∙ sym (p .1);
+              grows = subst (λ (xs : List Item). Grows (s .means) xs before l) (sym (p .0)) (r .grows);
+              once = r .once;
+            }
+        by false v f on =
+            let q = lists s n id c (passing es) before l f in
+            let r = on (before ++ (q .one ∷ [])) l (once-more before (q .one) o (q .new)) (q .on) in
+            let p = own-first (s .id) not-vendor (item id c) (r .items) (q .own) in
+            record {
+              items = item id c ∷ r .items;
+              walk = ap (Raw.more id c) (r .walk);
+              own = p .0 ∙ ap (λ (xs : List Item). item id c ∷ xs) (r .own) ∙ sym (p .1);
+              grows = subst (λ (xs : List Item). Grows (s .means) xs before l) (sym (p .0)) (grows-first (s .means) (item id c) (ofId (s .id) (r .items)) (q .says) (r .grows));
+              once = r .once;
+            }
 
-  module _ (l : List A) (some : 0 < length l) (o : Once l) where
-    run-read : (n : ℕ) (xs : List Item) (before : List A) → ofId (s .id) xs ≡ xs → Grows (s .means) xs before l → listed s n (walkedAs xs end) before ≡ accepted l
-    unfolding listed walkedAs
-    run-read n [] before own g =
-        let same = grew-none (s .means) g in
-        simp (ne-eqb (length before) 0 (λ z. omega (arith, ap length same))) (ap accepted (sym same))
-    run-read n (x ∷ xs) before own g =
-        let h = first-own (s .id) x xs own in
-        let p = grew-first (s .means) x xs g in
-        let es = walkedAs xs end in
-        let new = was-new before (p .0) (p .2 .values) (subst Once (p .2 .joined) o) in
-        ap (λ (k : ℕ). listed s n (more k (x .contents) es) before) (h .0)
-        ∙ onward s n (more (s .id) (x .contents) es) (record { contents = x .contents; rest = es }) (there (s .id) (x .contents) es) before (p .1) new
-        ∙ run-read (pastElement n (x .contents)) xs (before ++ (p .0 ∷ [])) (h .1) (p .2)
+    module _ (l : List A) (o : Once l) where
+      run-read : (n : ℕ) (xs : List Item) (before : List A) → 0 < length before → ofId (s .id) xs ≡ notOfId vendorId xs → Grows (s .means) (ofId (s .id) xs) before l
+          → listed s n (passing (walkedAs xs Raw.end)) before ≡ accepted l
+      unfolding listed passing walkedAs
+      run-read n [] before some own g =
+          let none : ofId (s .id) [] ≡ [] = unfold ofId in refl in
+          let same = grew-none (s .means) (subst (λ (xs : List Item). Grows (s .means) xs before l) none g) in
+          simp (ne-eqb (length before) 0 (λ z. omega arith)) (ap accepted (sym same))
+      run-read n (x ∷ xs) before some own g = by (eqb (x .id) vendorId) refl (run-read (pastElement n (x .contents)) xs)
+        where
+          by : (t : Bool) → eqb (x .id) vendorId ≡ t
+              → ((b : List A) → 0 < length b → ofId (s .id) xs ≡ notOfId vendorId xs → Grows (s .means) (ofId (s .id) xs) b l
+              → listed s (pastElement n (x .contents)) (passing (walkedAs xs Raw.end)) b ≡ accepted l)
+              → listed s n (pick t (passed (x .contents) (passing (walkedAs xs Raw.end))) (more (x .id) (x .contents) (passing (walkedAs xs Raw.end)))) before ≡ accepted l
+          by true v on =
+              let p = vendor-first (s .id) not-vendor x xs v in
+              on before some (sym (p .0) ∙ own ∙ p .1) (subst (λ (ys : List Item). Grows (s .means) ys before l) (p .0) g)
+          by false v on =
+              let rest = passing (walkedAs xs Raw.end) in
+              let h = first-own (s .id) not-vendor x xs v own in
+              let p = own-first (s .id) not-vendor x xs (h .0) in
+              let q = grew-first (s .means) x (ofId (s .id) xs) (subst (λ (ys : List Item). Grows (s .means) ys before l) (p .0) g) in
+              let new = was-new before (q .0) (q .2 .values) (subst Once (q .2 .joined) o) in
+              ap (λ (k : ℕ). listed s n (more k (x .contents) rest) before) (h .0)
+              ∙ onward s n (more (s .id) (x .contents) rest) (record { contents = x .contents; rest = rest }) (there (s .id) (x .contents) rest) before (q .1) new
+              ∙ on (before ++ (q .0 ∷ [])) (omega (arith, length-append before (q .0 ∷ []))) (h .1) (q .2)
 
-  -- ---- a run is accepted as what its elements mean, and only so
+    -- ---- a run is accepted as what its elements mean, and only so
 
-  module _ (run : List ℕ) (l : List A) where
-    accepted-list : measurementsIn s run ≡ accepted l → ListOf s run l
-    unfolding measurementsIn ofToken
-    accepted-list e =
-        let r = read-run fixedFields (elementsIn run) [] l (λ on t. omega arith) e in
-        record {
-          items = r .items;
-          octets = walk-whole run (r .items) .0 (r .walk);
-          all-own = r .own;
-          read = grew-all (s .means) (r .grows);
-          some = r .some;
-          once-each = r .once;
-        }
+    module _ (run : List ℕ) (l : List A) where
+      from-first : (es : Elements) → elementsIn run ≡ es → listed s fixedFields (handing es) [] ≡ accepted l → ListOf s run l
+      unfolding handing ofToken walkedAs
+      from-first Raw.end w e = clash (ended s fixedFields [] l e .0)
+      from-first (Raw.cutHeader i) w e = absurd (not-cut-header s fixedFields [] l e)
+      from-first (Raw.cutContents id) w e = absurd (not-cut-contents s fixedFields id [] l e)
+      from-first (Raw.more id c es) w e =
+          let q = lists s fixedFields id c (passing es) [] l e in
+          let r = read-run (pastElement fixedFields c) es (q .one ∷ []) l (once-more [] (q .one) (λ on t. omega arith) (q .new)) (q .on) in
+          record {
+            first = c;
+            others = r .items;
+            octets =
+                walk-whole run (item (s .id) c ∷ r .items) .0
+                (w ∙ ap (λ (n : ℕ). Raw.more n c es) (q .own) ∙ ap (Raw.more (s .id) c) (r .walk));
+            all-own = r .own;
+            read = grew-all (s .means) (grows-first (s .means) (item (s .id) c) (ofId (s .id) (r .items)) (q .says) (r .grows));
+            once-each = r .once;
+          }
 
-    list-accepted : ListOf s run l → measurementsIn s run ≡ accepted l
-    unfolding measurementsIn
-    list-accepted r =
-        ap (λ (es : Elements). listed s fixedFields es []) (walk-whole run (r .items) .1 (r .octets))
-        ∙ run-read l (r .some) (r .once-each) fixedFields (r .items) [] (r .all-own) (grows-all (s .means) (r .read))
+      accepted-list : measurementsIn s run ≡ accepted l → ListOf s run l
+      unfolding measurementsIn
+      accepted-list e = from-first (elementsIn run) refl e
 
-    pub list-filtered : (measurementsIn s run ≡ accepted l) ↔ ListOf s run l
-    list-filtered = (accepted-list, list-accepted)
+      list-accepted : ListOf s run l → measurementsIn s run ≡ accepted l
+      unfolding measurementsIn handing walkedAs
+      list-accepted r =
+          let rest = passing (walkedAs (r .others) Raw.end) in
+          let q = grew-first (s .means) (item (s .id) (r .first)) (ofId (s .id) (r .others)) (grows-all (s .means) (r .read)) in
+          let new = was-new [] (q .0) (q .2 .values) (subst Once (q .2 .joined) (r .once-each)) in
+          ap (λ (es : Elements). listed s fixedFields (handing es) []) (walk-whole run (item (s .id) (r .first) ∷ r .others) .1 (r .octets))
+          ∙ onward s fixedFields (more (s .id) (r .first) rest) (record { contents = r .first; rest = rest }) (there (s .id) (r .first) rest) [] (q .1) new
+          ∙ run-read l (r .once-each) (pastElement fixedFields (r .first)) (r .others) (q .0 ∷ []) (omega arith) (r .all-own) (q .2)
+
+      pub list-filtered : (measurementsIn s run ≡ accepted l) ↔ ListOf s run l
+      list-filtered = (accepted-list, list-accepted)

@@ -8,7 +8,9 @@ use borrow.Author.Tests.{eqb-true, le-ltb, ne-eqb}
 use lib.Dec.{eqb}
 use lib.ListN.{length, length-append}
 use Rattle.action.specs.Openings.{tokenField, fixedFields, Opens, with, forbidsToken, opensWith}
-use Rattle.answer.proofs.Judged.{passed, kept}
+use Rattle.answer.proofs.Booleans.{clash}
+use Rattle.answer.proofs.Judged.{kept}
+use Rattle.answer.proofs.Judged as Judged
 use Rattle.answer.specs.Checks.{Result, Outcome, refused, accepted, pick, _⇒_, checked, judged, andThen}
 use Rattle.answer.specs.Faults.{faultAt, Placed, placedAt}
 use Rattle.answer.specs.declared.Refusal.{Refusal}
@@ -16,7 +18,8 @@ use Rattle.frame.specs.Actions.{afterOpening, actionMeans, requests, reports}
 use Rattle.measurement_body.specs.Kinds.{sortOf}
 use Rattle.measurement_body.specs.Lists.{Sort, repeats, nextIn, listed, measurementsIn}
 use Rattle.measurement_body.specs.declared.kinds.Kind.{Kind}
-use Rattle.walk.specs.Elements.{Elements, more, elementsIn, pastElement}
+use Rattle.walk.specs.Elements.{Elements, elementsIn, pastElement}
+use Rattle.walk.specs.Handed.{Handed, more, passed, vendorId, passing, handing}
 use Rattle.walk.specs.Required.{Standing, required}
 use Rattle.claims.specs.Filters.{Item, laid, walkedAs}
 use Rattle.claims.specs.Reserved.{AlikeBut, reservedIn, ItemsAlike, RunsAlike, MeasurementsAlike}
@@ -35,25 +38,25 @@ module _ {A : Type 0} (s : Sort A) where
   abbrev pub nextBy : Bool → Outcome A → List A → Outcome A
   nextBy own o before = pick own (andThen o (λ a. judged (repeats s a before ⇒ Refusal.Repeated ∷ []) a)) (refused Refusal.OtherElement)
 
-  pub next-is : (id : ℕ) (c : List ℕ) (es : Elements) (before : List A) → nextIn s (more id c es) before ≡ nextBy (eqb id (s .id)) (s .means c) before
+  pub next-is : (id : ℕ) (c : List ℕ) (hs : Handed) (before : List A) → nextIn s (more id c hs) before ≡ nextBy (eqb id (s .id)) (s .means c) before
   unfolding nextIn required checked
-  next-is id c es before = by (eqb id (s .id))
+  next-is id c hs before = by (eqb id (s .id))
     where
       by : (own : Bool)
-          → andThen {A = Standing} (checked (not own ⇒ Refusal.OtherElement ∷ []) (accepted (record { contents = c; rest = es })))
+          → andThen {A = Standing} (checked (not own ⇒ Refusal.OtherElement ∷ []) (accepted (record { contents = c; rest = hs })))
           (λ e. andThen (s .means (e .contents)) (λ a. judged (repeats s a before ⇒ Refusal.Repeated ∷ []) a))
           ≡ nextBy own (s .means c) before
       by true = refl
       by false = refl
 
 module _ {A : Type 0} (s : Sort A) (reads : (c d : List ℕ) → AlikeBut (reservedIn (s .id) c) c d → s .means c ≡ s .means d) where
-  next-alike : (x y : Item) (es fs : Elements) (before : List A) → x .id ≡ y .id
+  next-alike : (x y : Item) (hs gs : Handed) (before : List A) → x .id ≡ y .id
       → AlikeBut (reservedIn (x .id) (x .contents)) (x .contents) (y .contents)
-      → nextIn s (more (x .id) (x .contents) es) before ≡ nextIn s (more (y .id) (y .contents) fs) before
-  next-alike x y es fs before same a =
-      next-is s (x .id) (x .contents) es before ∙ by (eqb (x .id) (s .id)) refl
+      → nextIn s (more (x .id) (x .contents) hs) before ≡ nextIn s (more (y .id) (y .contents) gs) before
+  next-alike x y hs gs before same a =
+      next-is s (x .id) (x .contents) hs before ∙ by (eqb (x .id) (s .id)) refl
       ∙ ap (λ (n : ℕ). nextBy s (eqb n (s .id)) (s .means (y .contents)) before) same
-      ∙ sym (next-is s (y .id) (y .contents) fs before)
+      ∙ sym (next-is s (y .id) (y .contents) gs before)
     where
       by : (own : Bool) → eqb (x .id) (s .id) ≡ own → nextBy s own (s .means (x .contents)) before ≡ nextBy s own (s .means (y .contents)) before
       by true e =
@@ -61,24 +64,49 @@ module _ {A : Type 0} (s : Sort A) (reads : (c d : List ℕ) → AlikeBut (reser
           (reads (x .contents) (y .contents) (subst (λ (n : ℕ). AlikeBut (reservedIn n (x .contents)) (x .contents) (y .contents)) (eqb-true (x .id) (s .id) e) a))
       by false e = refl
 
-  listed-alike : (n : ℕ) (xs ys : List Item) (es : Elements) (before : List A) → ItemsAlike xs ys → listed s n (walkedAs xs es) before ≡ listed s n (walkedAs ys es) before
-  unfolding listed walkedAs
-  listed-alike n [] [] es before a = refl
-  listed-alike n [] (y ∷ ys) es before a = absurd a
-  listed-alike n (x ∷ xs) [] es before a = absurd a
-  listed-alike n (x ∷ xs) (y ∷ ys) es before a =
-      ap (λ (o : Outcome A). andThen (placedAt n o) (λ v. listed s (pastElement n (x .contents)) (walkedAs xs es) (before ++ (v ∷ []))))
-      (next-alike x y (walkedAs xs es) (walkedAs ys es) before (a .0) (a .1))
-      ∙ ap (λ (k : ℕ). andThen (placedAt n (nextIn s (more (y .id) (y .contents) (walkedAs ys es)) before)) (λ v. listed s (n + 2 + k) (walkedAs xs es) (before ++ (v ∷ [])))) (a .1 .as-long)
-      ∙ then-alike (placedAt n (nextIn s (more (y .id) (y .contents) (walkedAs ys es)) before)) _ _
-      (λ v e. listed-alike (pastElement n (y .contents)) xs ys es (before ++ (v ∷ [])) (a .2))
+  -- an element that is handed out, and what follows it read the same
+  more-alike : (n : ℕ) (x y : Item) (hs gs : Handed) (before : List A) → x .id ≡ y .id
+      → AlikeBut (reservedIn (x .id) (x .contents)) (x .contents) (y .contents)
+      → ((later : List A) → listed s (pastElement n (y .contents)) hs later ≡ listed s (pastElement n (y .contents)) gs later)
+      → listed s n (more (x .id) (x .contents) hs) before ≡ listed s n (more (y .id) (y .contents) gs) before
+  unfolding listed
+  more-alike n x y hs gs before same a rest =
+      ap (λ (o : Outcome A). andThen (placedAt n o) (λ v. listed s (pastElement n (x .contents)) hs (before ++ (v ∷ [])))) (next-alike x y hs gs before same a)
+      ∙ ap (λ (k : ℕ). andThen (placedAt n (nextIn s (more (y .id) (y .contents) gs) before)) (λ v. listed s (n + 2 + k) hs (before ++ (v ∷ [])))) (a .as-long)
+      ∙ then-alike (placedAt n (nextIn s (more (y .id) (y .contents) gs) before)) _ _ (λ v e. rest (before ++ (v ∷ [])))
+
+  listed-alike : (n : ℕ) (xs ys : List Item) (es : Elements) → ItemsAlike xs ys → (before : List A)
+      → listed s n (passing (walkedAs xs es)) before ≡ listed s n (passing (walkedAs ys es)) before
+  unfolding listed passing walkedAs
+  listed-alike n [] [] es a before = refl
+  listed-alike n [] (y ∷ ys) es a before = absurd a
+  listed-alike n (x ∷ xs) [] es a before = absurd a
+  listed-alike n (x ∷ xs) (y ∷ ys) es a before =
+      by (eqb (x .id) vendorId) (eqb (y .id) vendorId) (ap (λ (k : ℕ). eqb k vendorId) (a .0)) (listed-alike (pastElement n (y .contents)) xs ys es (a .2))
+    where
+      by : (t u : Bool) → t ≡ u
+          → ((b : List A) → listed s (pastElement n (y .contents)) (passing (walkedAs xs es)) b ≡ listed s (pastElement n (y .contents)) (passing (walkedAs ys es)) b)
+          → listed s n (pick t (passed (x .contents) (passing (walkedAs xs es))) (more (x .id) (x .contents) (passing (walkedAs xs es)))) before
+          ≡ listed s n (pick u (passed (y .contents) (passing (walkedAs ys es))) (more (y .id) (y .contents) (passing (walkedAs ys es)))) before
+      by true true e rest = ap (λ (k : ℕ). listed s (n + 2 + k) (passing (walkedAs xs es)) before) (a .1 .as-long) ∙ rest before
+      by true false e rest = clash e
+      by false true e rest = clash (sym e)
+      by false false e rest = more-alike n x y (passing (walkedAs xs es)) (passing (walkedAs ys es)) before (a .0) (a .1) rest
+
+  first-alike : (n : ℕ) (xs ys : List Item) (es : Elements) → ItemsAlike xs ys → listed s n (handing (walkedAs xs es)) [] ≡ listed s n (handing (walkedAs ys es)) []
+  unfolding handing walkedAs
+  first-alike n [] [] es a = refl
+  first-alike n [] (y ∷ ys) es a = absurd a
+  first-alike n (x ∷ xs) [] es a = absurd a
+  first-alike n (x ∷ xs) (y ∷ ys) es a =
+      more-alike n x y (passing (walkedAs xs es)) (passing (walkedAs ys es)) [] (a .0) (a .1) (listed-alike (pastElement n (y .contents)) xs ys es (a .2))
 
   runs-alike : (run other : List ℕ) → RunsAlike run other → measurementsIn s run ≡ measurementsIn s other
   unfolding measurementsIn
   runs-alike run other r =
-      ap (λ (es : Elements). listed s fixedFields es []) (ap elementsIn (r .octets) ∙ walk-front (r .items) (r .rest))
-      ∙ listed-alike fixedFields (r .items) (r .others) (elementsIn (r .rest)) [] (r .alike)
-      ∙ ap (λ (es : Elements). listed s fixedFields es []) (sym (ap elementsIn (r .other-octets) ∙ walk-front (r .others) (r .rest)))
+      ap (λ (es : Elements). listed s fixedFields (handing es) []) (ap elementsIn (r .octets) ∙ walk-front (r .items) (r .rest))
+      ∙ first-alike fixedFields (r .items) (r .others) (elementsIn (r .rest)) (r .alike)
+      ∙ ap (λ (es : Elements). listed s fixedFields (handing es) []) (sym (ap elementsIn (r .other-octets) ∙ walk-front (r .others) (r .rest)))
 
 -- ---- both kinds
 
@@ -134,7 +162,7 @@ module _ (body other : List ℕ) (m : MeasurementsAlike body other) where
 
   after : (o : Opens) → opening (m .action) (m .token) ≡ accepted o → afterOpening (withRun (m .run)) o ≡ afterOpening (withRun (m .other-run)) o
   after o e =
-      subst (λ (x : Opens). afterOpening (withRun (m .run)) x ≡ afterOpening (withRun (m .other-run)) x) (kept _ (passed _ _ _ e .1))
+      subst (λ (x : Opens). afterOpening (withRun (m .run)) x ≡ afterOpening (withRun (m .other-run)) x) (kept _ (Judged.passed _ _ _ e .1))
       (after-alike (m .action) (m .token) (m .run) (m .other-run) (m .measures) (m .alike))
 
   pub action-ignored : actionMeans body ≡ actionMeans other

@@ -2,7 +2,8 @@
 use mathlib.Core.Path.{refl}
 use Rattle.action.specs.Openings.{opensWith}
 use Rattle.single_body.specs.Singles.{single}
-use Rattle.walk.specs.Required.{required}
+use Rattle.walk.specs.Handed.{passing, handing}
+use Rattle.walk.specs.Required.{required, nothingLeft}
 use Rattle.answer.specs.Checks.{checked}
 use Rattle.beacon.specs.Beacons.{elementMeans, takes, says, beaconMeans}
 use Rattle.element.specs.ChannelSwitch.{switchMeans}
@@ -22,5 +23,5 @@ use Rattle.claims.specs.Moments.{AllRight, moments}
 use Rattle.claims.specs.Records.{recordAfter}
 
 pub all-right : AllRight moments
-unfolding recordAfter takeMeans frameMeans headerMeans managementMeans addressMeans foreignHeader foreignAddress toAll beaconMeans checked says takes elementMeans elementsIn elementsAfter quietMeans switchMeans fixed actionMeans opensWith required single announced informed latestEnd endBegun clockAdvance advanceMeans permissionOf firstOf quiet coveredBy someUnit covered densitiesOf possible fractionOf ceiling
+unfolding recordAfter takeMeans frameMeans headerMeans managementMeans addressMeans foreignHeader foreignAddress toAll beaconMeans checked says takes elementMeans elementsIn elementsAfter quietMeans switchMeans fixed actionMeans opensWith required handing passing nothingLeft single announced informed latestEnd endBegun clockAdvance advanceMeans permissionOf firstOf quiet coveredBy someUnit covered densitiesOf possible fractionOf ceiling
 all-right = (refl, (refl, (refl, (refl, (refl, (refl, (refl, (refl, (refl, (refl, (refl, (refl, (refl, (refl, (refl, (refl, ((refl, refl), tt)))))))))))))))))

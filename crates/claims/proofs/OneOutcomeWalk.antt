@@ -10,6 +10,7 @@ use Rattle.answer.proofs.Judged.{never}
 use Rattle.answer.specs.declared.Refusal.{Refusal}
 use Rattle.walk.proofs.element_at as Element-at
 use Rattle.walk.proofs.has_left_over as Has-left-over
+use Rattle.walk.proofs.pass_over as Pass-over
 use Rattle.walk.proofs.required_at as Required-at
 use Rattle.walk.specs.CodeTerms.Found.{follow, Within}
 use Rattle.walk.specs.CodeTerms.Required.{between, requiredTold, RequiredWithin}
@@ -28,19 +29,19 @@ whole run id id' start start' stop stop' a b c = cc
 
 same-place : (run : List ℕ) (at : ℕ) (x y : Found) → Within at (length run) x → Within at (length run) y → follow run x ≡ follow run y → x ≡ y
 same-place run at Found.End Found.End w v e = refl
-same-place run at Found.End Found.CutHeader w v e = absurd (let z : _≡_ {A = ℕ} 0 1 = cc in omega arith)
+same-place run at Found.End (Found.CutHeader i) w v e = absurd (let z : _≡_ {A = ℕ} 0 1 = cc in omega arith)
 same-place run at Found.End (Found.CutContents i) w v e = absurd (let z : _≡_ {A = ℕ} 0 1 = cc in omega arith)
 same-place run at Found.End (Found.Whole i s t) w v e = absurd (let z : _≡_ {A = ℕ} 0 1 = cc in omega arith)
-same-place run at Found.CutHeader Found.End w v e = absurd (let z : _≡_ {A = ℕ} 0 1 = cc in omega arith)
-same-place run at Found.CutHeader Found.CutHeader w v e = refl
-same-place run at Found.CutHeader (Found.CutContents i) w v e = absurd (let z : _≡_ {A = ℕ} 0 1 = cc in omega arith)
-same-place run at Found.CutHeader (Found.Whole i s t) w v e = absurd (let z : _≡_ {A = ℕ} 0 1 = cc in omega arith)
+same-place run at (Found.CutHeader j) Found.End w v e = absurd (let z : _≡_ {A = ℕ} 0 1 = cc in omega arith)
+same-place run at (Found.CutHeader j) (Found.CutHeader i) w v e = let z : j ≡ i = cc in ap Found.CutHeader z
+same-place run at (Found.CutHeader j) (Found.CutContents i) w v e = absurd (let z : _≡_ {A = ℕ} 0 1 = cc in omega arith)
+same-place run at (Found.CutHeader j) (Found.Whole i s t) w v e = absurd (let z : _≡_ {A = ℕ} 0 1 = cc in omega arith)
 same-place run at (Found.CutContents j) Found.End w v e = absurd (let z : _≡_ {A = ℕ} 0 1 = cc in omega arith)
-same-place run at (Found.CutContents j) Found.CutHeader w v e = absurd (let z : _≡_ {A = ℕ} 0 1 = cc in omega arith)
+same-place run at (Found.CutContents j) (Found.CutHeader i) w v e = absurd (let z : _≡_ {A = ℕ} 0 1 = cc in omega arith)
 same-place run at (Found.CutContents j) (Found.CutContents i) w v e = let z : j ≡ i = cc in ap Found.CutContents z
 same-place run at (Found.CutContents j) (Found.Whole i s t) w v e = absurd (let z : _≡_ {A = ℕ} 0 1 = cc in omega arith)
 same-place run at (Found.Whole j a b) Found.End w v e = absurd (let z : _≡_ {A = ℕ} 0 1 = cc in omega arith)
-same-place run at (Found.Whole j a b) Found.CutHeader w v e = absurd (let z : _≡_ {A = ℕ} 0 1 = cc in omega arith)
+same-place run at (Found.Whole j a b) (Found.CutHeader i) w v e = absurd (let z : _≡_ {A = ℕ} 0 1 = cc in omega arith)
 same-place run at (Found.Whole j a b) (Found.CutContents i) w v e = absurd (let z : _≡_ {A = ℕ} 0 1 = cc in omega arith)
 same-place run at (Found.Whole j a b) (Found.Whole i s t) w v e =
     let k : j ≡ i = cc in
@@ -71,6 +72,9 @@ required-at κs a e f x y p q = same-required (now (a .0)) (a .1 .0) x y (p .1) 
 
 pub has-left-over : OneResult 1 Has-left-over.Kinds.ps Has-left-over.Kinds.r Has-left-over.Reads.Post
 has-left-over κs a e f x y p q = once p q
+
+pub pass-over : OneResult 1 Pass-over.Kinds.ps Pass-over.Kinds.r Pass-over.Reads.Post
+pass-over κs a e f x y p q = once p q
 
 pub element-at : OneResult 1 Element-at.Kinds.ps Element-at.Kinds.r Element-at.Reads.Post
 element-at κs a e f x y p q = same-place (now (a .0)) (a .1 .0) x y (p .1) (q .1) (sym (p .0) ∙ q .0)

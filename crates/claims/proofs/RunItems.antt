@@ -48,28 +48,28 @@ left (x ∷ xs) run ending e =
 
 -- ---- how a run without a whole element in front ends
 
-half : (o : ℕ) → elementsIn (o ∷ []) ≡ cutHeader
+half : (o : ℕ) → elementsIn (o ∷ []) ≡ cutHeader o
 unfolding elementsIn elementsAfter
 half o = refl
 
-is-half : (run : List ℕ) → elementsIn run ≡ cutHeader → (o : ℕ) × (run ≡ o ∷ [])
+pub is-half : (run : List ℕ) (o : ℕ) → elementsIn run ≡ cutHeader o → run ≡ o ∷ []
 unfolding elementsIn elementsAfter
-is-half [] e = absurd (let z : _≡_ {A = ℕ} 0 1 = cc in omega arith)
-is-half (o ∷ []) e = (o, refl)
-is-half (i ∷ n ∷ os) e = by (leb n (length os)) (sym (headed i n os) ∙ e)
+is-half [] o e = absurd (let z : _≡_ {A = ℕ} 0 1 = cc in omega arith)
+is-half (i ∷ []) o e = ap (λ (n : ℕ). n ∷ []) (let same : i ≡ o = cc in same)
+is-half (i ∷ n ∷ os) o e = by (leb n (length os)) (sym (headed i n os) ∙ e)
   where
-    by : (u : Bool) → pick u (more i (take n os) (elementsIn (drop n os))) (cutContents i) ≡ cutHeader → (o : ℕ) × (i ∷ n ∷ os ≡ o ∷ [])
+    by : (u : Bool) → pick u (more i (take n os) (elementsIn (drop n os))) (cutContents i) ≡ cutHeader o → i ∷ n ∷ os ≡ o ∷ []
     by true f = absurd (let z : _≡_ {A = ℕ} 0 1 = cc in omega arith)
     by false f = absurd (let z : _≡_ {A = ℕ} 0 1 = cc in omega arith)
 
 -- a header whose length is more than what follows it
-abbrev CutFrom : ℕ → List ℕ → Type 0
+abbrev pub CutFrom : ℕ → List ℕ → Type 0
 CutFrom id run = (n : ℕ) × (os : List ℕ) × (run ≡ id ∷ n ∷ os) × (length os < n)
 
 cut : (id n : ℕ) (os : List ℕ) → length os < n → elementsIn (id ∷ n ∷ os) ≡ cutContents id
 cut id n os h = headed id n os ∙ simp (lt-leb n (length os) h)
 
-is-cut : (run : List ℕ) (id : ℕ) → elementsIn run ≡ cutContents id → CutFrom id run
+pub is-cut : (run : List ℕ) (id : ℕ) → elementsIn run ≡ cutContents id → CutFrom id run
 unfolding elementsIn elementsAfter
 is-cut [] id e = absurd (let z : _≡_ {A = ℕ} 0 1 = cc in omega arith)
 is-cut (o ∷ []) id e = absurd (let z : _≡_ {A = ℕ} 0 1 = cc in omega arith)
@@ -81,18 +81,18 @@ is-cut (i ∷ n ∷ os) id e = by (leb n (length os)) refl (sym (headed i n os) 
 
 -- a walk gives so many whole elements, and then ends
 abbrev Ends : Elements → Type 0
-Ends es = (xs : List Item) × ((es ≡ walkedAs xs end) ⊎ ((es ≡ walkedAs xs cutHeader) ⊎ ((id : ℕ) × (es ≡ walkedAs xs (cutContents id)))))
+Ends es = (xs : List Item) × ((es ≡ walkedAs xs end) ⊎ (((o : ℕ) × (es ≡ walkedAs xs (cutHeader o))) ⊎ ((id : ℕ) × (es ≡ walkedAs xs (cutContents id)))))
 
 walk-ends : (es : Elements) → Ends es
 unfolding walkedAs
 walk-ends end = ([], inl refl)
-walk-ends cutHeader = ([], inr (inl refl))
+walk-ends (cutHeader o) = ([], inr (inl (o, refl)))
 walk-ends (cutContents id) = ([], inr (inr (id, refl)))
 walk-ends (more id c es) = by (walk-ends es)
   where
     by : Ends es → Ends (more id c es)
     by (xs, inl e) = (item id c ∷ xs, inl (ap (more id c) e))
-    by (xs, inr (inl e)) = (item id c ∷ xs, inr (inl (ap (more id c) e)))
+    by (xs, inr (inl (o, e))) = (item id c ∷ xs, inr (inl (o, ap (more id c) e)))
     by (xs, inr (inr (i, e))) = (item id c ∷ xs, inr (inr (i, ap (more id c) e)))
 
 -- ---- the walk, and the octets
@@ -107,15 +107,14 @@ module _ (run : List ℕ) (xs : List Item) where
           let l = left xs run end e in
           l .octets ∙ ap (λ (os : List ℕ). laid xs ++ os) (empty (l .rest) (l .after)) ∙ append-nil (laid xs)
 
-  -- it gives these elements and then half a header: one octet is left after them
-  pub walk-half : (elementsIn run ≡ walkedAs xs cutHeader) ↔ HalfAfter xs run
-  walk-half = (there, λ (o, e). ap elementsIn e ∙ walk-front xs (o ∷ []) ∙ ap (walkedAs xs) (half o))
+  -- it gives these elements and then half a header: that octet is left after them
+  pub walk-half : (o : ℕ) → (elementsIn run ≡ walkedAs xs (cutHeader o)) ↔ HalfAfter xs o run
+  walk-half o = (there, λ e. ap elementsIn e ∙ walk-front xs (o ∷ []) ∙ ap (walkedAs xs) (half o))
     where
-      there : elementsIn run ≡ walkedAs xs cutHeader → HalfAfter xs run
+      there : elementsIn run ≡ walkedAs xs (cutHeader o) → HalfAfter xs o run
       there e =
-          let l = left xs run cutHeader e in
-          let h = is-half (l .rest) (l .after) in
-          (h .0, l .octets ∙ ap (λ (os : List ℕ). laid xs ++ os) (h .1))
+          let l = left xs run (cutHeader o) e in
+          l .octets ∙ ap (λ (os : List ℕ). laid xs ++ os) (is-half (l .rest) o (l .after))
 
   -- it gives these elements and then cut contents: a header is left after them, whose length is more than what follows it
   pub walk-cut : (id : ℕ) → (elementsIn run ≡ walkedAs xs (cutContents id)) ↔ CutAfter xs id run
@@ -128,12 +127,12 @@ module _ (run : List ℕ) (xs : List Item) where
           (c .0, c .1, l .octets ∙ ap (λ (os : List ℕ). laid xs ++ os) (c .2), c .3)
 
 -- every run is made up in one of these three ways
-pub every-run : (run : List ℕ) → (xs : List Item) × ((run ≡ laid xs) ⊎ (HalfAfter xs run ⊎ ((id : ℕ) × CutAfter xs id run)))
+pub every-run : (run : List ℕ) → (xs : List Item) × ((run ≡ laid xs) ⊎ (((o : ℕ) × HalfAfter xs o run) ⊎ ((id : ℕ) × CutAfter xs id run)))
 every-run run = by (walk-ends (elementsIn run))
   where
-    by : Ends (elementsIn run) → (xs : List Item) × ((run ≡ laid xs) ⊎ (HalfAfter xs run ⊎ ((id : ℕ) × CutAfter xs id run)))
+    by : Ends (elementsIn run) → (xs : List Item) × ((run ≡ laid xs) ⊎ (((o : ℕ) × HalfAfter xs o run) ⊎ ((id : ℕ) × CutAfter xs id run)))
     by (xs, inl e) = (xs, inl (walk-whole run xs .0 e))
-    by (xs, inr (inl e)) = (xs, inr (inl (walk-half run xs .0 e)))
+    by (xs, inr (inl (o, e))) = (xs, inr (inl (o, walk-half run xs o .0 e)))
     by (xs, inr (inr (id, e))) = (xs, inr (inr (id, walk-cut run xs id .0 e)))
 
 same-walk : (xs ys : List Item) → walkedAs xs end ≡ walkedAs ys end → xs ≡ ys

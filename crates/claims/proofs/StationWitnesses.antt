@@ -6,7 +6,8 @@ use Prim.Native.Nat.{ℕ}
 use lib.ListN.{replicate}
 use Rattle.action.specs.Openings.{opensWith}
 use Rattle.single_body.specs.Singles.{single}
-use Rattle.walk.specs.Required.{required}
+use Rattle.walk.specs.Handed.{passing, handing}
+use Rattle.walk.specs.Required.{required, nothingLeft}
 use Rattle.answer.specs.Checks.{checked}
 use Rattle.beacon.specs.Beacons.{elementMeans, takes, says, beaconMeans}
 use Rattle.beacon.specs.declared.MaybePower.{MaybePower}
@@ -87,7 +88,7 @@ witnesses =
     ∷ []
 
 pub witnesses-right : AllRight witnesses
-unfolding recordAfter takeMeans frameMeans headerMeans managementMeans addressMeans foreignHeader foreignAddress toAll beaconMeans checked says takes elementMeans elementsIn elementsAfter quietMeans switchMeans fixed actionMeans opensWith required single announced informed latestEnd endBegun clockAdvance advanceMeans permissionOf firstOf Asking.quiet coveredBy someUnit covered
+unfolding recordAfter takeMeans frameMeans headerMeans managementMeans addressMeans foreignHeader foreignAddress toAll beaconMeans checked says takes elementMeans elementsIn elementsAfter quietMeans switchMeans fixed actionMeans opensWith required handing passing nothingLeft single announced informed latestEnd endBegun clockAdvance advanceMeans permissionOf firstOf Asking.quiet coveredBy someUnit covered
 witnesses-right = (refl, (refl, (refl, (refl, (refl, (refl, (refl, (refl, (refl, (refl, (refl, (refl, (refl, (refl, (refl, (refl, (refl, (refl, (refl, tt)))))))))))))))))))
 
 -- ---- the record
@@ -99,15 +100,15 @@ constraint-kept = refl
 
 -- and does not outlive a switch
 pub constraint-gone : recordAfter ours (advance 100 ∷ announcement 0 ∷ beaconOf constraint ∷ []) .power ≡ MaybePower.Absent
-unfolding recordAfter takeMeans frameMeans headerMeans managementMeans addressMeans foreignHeader foreignAddress toAll beaconMeans checked says takes elementMeans elementsIn elementsAfter powerMeans switchMeans fixed actionMeans opensWith required single announced informed clockAdvance advanceMeans
+unfolding recordAfter takeMeans frameMeans headerMeans managementMeans addressMeans foreignHeader foreignAddress toAll beaconMeans checked says takes elementMeans elementsIn elementsAfter powerMeans switchMeans fixed actionMeans opensWith required handing passing nothingLeft single announced informed clockAdvance advanceMeans
 constraint-gone = refl
 
 -- a switch is for the next TBTT, wherever in the interval it was announced
 pub counted-from-tbtt : recordAfter ours (announcement 0 ∷ advance 99 ∷ []) .pending ≡ Pending.Switch (record { at = 100; mode = 0; channel = 40 })
-unfolding recordAfter takeMeans frameMeans headerMeans managementMeans addressMeans foreignHeader foreignAddress toAll checked elementsIn elementsAfter switchMeans fixed actionMeans opensWith required single announced informed clockAdvance advanceMeans
+unfolding recordAfter takeMeans frameMeans headerMeans managementMeans addressMeans foreignHeader foreignAddress toAll checked elementsIn elementsAfter switchMeans fixed actionMeans opensWith required handing passing nothingLeft single announced informed clockAdvance advanceMeans
 counted-from-tbtt = refl
 
 -- and when it comes, the channel is the new one
 pub channel-new : recordAfter ours (advance 1 ∷ announcement 0 ∷ advance 99 ∷ []) .channel ≡ 40
-unfolding recordAfter takeMeans frameMeans headerMeans managementMeans addressMeans foreignHeader foreignAddress toAll checked elementsIn elementsAfter switchMeans fixed actionMeans opensWith required single announced informed clockAdvance advanceMeans
+unfolding recordAfter takeMeans frameMeans headerMeans managementMeans addressMeans foreignHeader foreignAddress toAll checked elementsIn elementsAfter switchMeans fixed actionMeans opensWith required handing passing nothingLeft single announced informed clockAdvance advanceMeans
 channel-new = refl

@@ -3,7 +3,7 @@
 use mathlib.Core.Bool.{true}
 use mathlib.Core.List.{List, [], _∷_}
 use mathlib.Core.Path.{_≡_}
-use Prim.Native.Nat.{ℕ, _≤_, _<_}
+use Prim.Native.Nat.{ℕ, _≤_}
 use lib.Dec.{eqb}
 use lib.ListN.{length, drop}
 use Rattle.action.specs.Openings.{fixedFields, switchFixedFields}
@@ -26,7 +26,8 @@ use Rattle.measurement_body.specs.Lists.{Sort}
 use Rattle.measurement_body.specs.Reports.{reportSort}
 use Rattle.measurement_body.specs.Requests.{requestSort}
 use Rattle.octets.specs.Numbers.{number}
-use Rattle.claims.specs.Filters.{Item, item, laid, ofId, ReadAs}
+use Rattle.walk.specs.Handed.{vendorId}
+use Rattle.claims.specs.Filters.{Item, item, laid, ofId, notOfId, ReadAs}
 
 -- ---- beacons and probe responses. `b` is the beacon interval
 
@@ -64,9 +65,10 @@ pub record NoticeOf (b : ℕ) (body : List ℕ) (t : Told) : Type 0 where
 
 -- ---- bodies of one element
 
--- the one element of this ID, and what its contents mean
+-- the one element of this ID, and what its contents mean; after it there are none but vendors' elements (02, Four)
 abbrev pub AloneOf : {A : Type 0} → ℕ → (List ℕ → Outcome A) → List ℕ → A → Type 0
-AloneOf id means run a = (c : List ℕ) × (run ≡ laid (item id c ∷ [])) × (means c ≡ accepted a)
+AloneOf id means run a =
+    (c : List ℕ) × (vendors : List Item) × (run ≡ laid (item id c ∷ vendors)) × (ofId vendorId vendors ≡ vendors) × (means c ≡ accepted a)
 
 -- ---- bodies of one or more measurement elements
 
@@ -75,13 +77,14 @@ unfoldable pub ofToken : {A : Type 0} → (A → ℕ) → ℕ → List A → Lis
 ofToken token t [] = []
 ofToken token t (a ∷ l) = pick (eqb (token a) t) (a ∷ ofToken token t l) (ofToken token t l)
 
--- one or more elements side by side, all of this ID, each with what its contents mean; of requests no two have the same token
+-- one or more elements of this ID side by side, each with what its contents mean, and after the first of them also vendors' elements (02, Four); of requests no two
+-- have the same token
 pub record ListOf {A : Type 0} (s : Sort A) (run : List ℕ) (l : List A) : Type 0 where
-  pub items : List Item
-  pub octets : run ≡ laid items
-  pub all-own : ofId (s .id) items ≡ items
-  pub read : ReadAs (s .means) items l
-  pub some : 0 < length l
+  pub first : List ℕ
+  pub others : List Item
+  pub octets : run ≡ laid (item (s .id) first ∷ others)
+  pub all-own : ofId (s .id) others ≡ notOfId vendorId others
+  pub read : ReadAs (s .means) (item (s .id) first ∷ ofId (s .id) others) l
   pub once-each : s .once ≡ true → (t : ℕ) → length (ofToken (s .token) t l) ≤ 1
 
 -- ---- the body of a frame, by its kind

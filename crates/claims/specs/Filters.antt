@@ -21,9 +21,9 @@ unfoldable pub laid : List Item → List ℕ
 laid [] = []
 laid (x ∷ xs) = element (x .id) (x .contents) ++ laid xs
 
--- after these elements one octet is left, which is no header
-abbrev pub HalfAfter : List Item → List ℕ → Type 0
-HalfAfter xs run = (o : ℕ) × (run ≡ laid xs ++ (o ∷ []))
+-- after these elements this one octet is left, which is no header
+abbrev pub HalfAfter : List Item → ℕ → List ℕ → Type 0
+HalfAfter xs o run = run ≡ laid xs ++ (o ∷ [])
 
 -- after these elements a header with this ID is left, whose length is more than what follows it
 abbrev pub CutAfter : List Item → ℕ → List ℕ → Type 0
@@ -33,6 +33,11 @@ CutAfter xs id run = (n : ℕ) × (os : List ℕ) × (run ≡ laid xs ++ (id ∷
 unfoldable pub ofId : ℕ → List Item → List Item
 ofId id [] = []
 ofId id (x ∷ xs) = pick (eqb (x .id) id) (x ∷ ofId id xs) (ofId id xs)
+
+-- all but those of one ID, in their order
+unfoldable pub notOfId : ℕ → List Item → List Item
+notOfId id [] = []
+notOfId id (x ∷ xs) = pick (eqb (x .id) id) (notOfId id xs) (x ∷ notOfId id xs)
 
 -- elements are read as these values: as many, in the same order, each what the contents of its element mean
 abbrev pub ReadAs : {A : Type 0} → (List ℕ → Outcome A) → List Item → List A → Type 0

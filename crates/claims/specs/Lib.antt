@@ -11,6 +11,7 @@ pub mod HistoryLines
 pub mod Moments
 pub mod Numbered
 pub mod OpenUnits
+pub mod PassedOver
 pub mod Places
 pub mod PossibleReadings
 pub mod QuietRuns
@@ -21,4 +22,5 @@ pub mod Reserved
 pub mod Runs
 pub mod SoundBefore
 pub mod Standing
+pub mod TakenOut
 pub mod Tbtts

@@ -21,7 +21,7 @@ use Rattle.measurement_body.specs.Lists.{measurementsIn}
 use Rattle.measurement_body.specs.Reports.{reportSort}
 use Rattle.measurement_body.specs.Requests.{requestSort}
 use Rattle.octets.specs.Numbers.{octet}
-use Rattle.walk.specs.Elements.{elementsIn}
+use Rattle.walk.specs.Handed.{handedIn}
 use Rattle.frame.specs.Actions.{Body, requests, reports, tpcRequest, tpcReport, switch, afterOpening, actionMeans}
 
 -- the fixed fields of a body
@@ -36,9 +36,9 @@ lead (switch s) = 0 ∷ 4 ∷ []
 abbrev pub Holds : Body → List ℕ → Type 0
 Holds (requests token rs) run = (not (eqb token 0) ≡ true) × (measurementsIn requestSort run ≡ accepted rs)
 Holds (reports token rs) run = measurementsIn reportSort run ≡ accepted rs
-Holds (tpcRequest token) run = (not (eqb token 0) ≡ true) × (single fixedFields 34 tpcRequestMeans (elementsIn run) ≡ accepted tt)
-Holds (tpcReport token t) run = single fixedFields 35 tpcReportMeans (elementsIn run) ≡ accepted t
-Holds (switch s) run = single switchFixedFields 37 switchMeans (elementsIn run) ≡ accepted s
+Holds (tpcRequest token) run = (not (eqb token 0) ≡ true) × (single fixedFields 34 tpcRequestMeans (handedIn run) ≡ accepted tt)
+Holds (tpcReport token t) run = single fixedFields 35 tpcReportMeans (handedIn run) ≡ accepted t
+Holds (switch s) run = single switchFixedFields 37 switchMeans (handedIn run) ≡ accepted s
 
 module _ (run : List ℕ) where
   pub opens : (action token : ℕ) → action ≤ 3 → forbidsToken action token ≡ false → opensWith (0 ∷ action ∷ token ∷ run) ≡ accepted (with action token)

@@ -23,25 +23,25 @@ use Rattle.measurement_body.proofs.MeasurementLists.{measurements-trip}
 use Rattle.measurement_body.specs.declared.kinds.Kind.{Kind}
 use Rattle.walk.proofs.RunLaws.{octets-after}
 use Rattle.octets.specs.Numbers.{Octets}
-use Rattle.walk.specs.Elements.{elementsIn}
+use Rattle.walk.specs.Handed.{handedIn, vendorless}
 use Rattle.frame.specs.Actions.{Body, requests, reports, tpcRequest, tpcReport, switch, actionMeans, actionOctets, actionMay, actionInterpreted, actionClear, ActionFits}
 use Rattle.frame.proofs.ActionParts.{lead, Holds, reads, parts}
 use Rattle.frame.proofs.SingleTrip.{single-trip}
 
-request-list : RoundTrip (measurementsIn requestSort) (allOctets requestSort) (mayList requestSort) (AllFit RequestFits) (allInterpreted requestSort) (λ run. allClear requestSort (elementsIn run))
+request-list : RoundTrip (measurementsIn requestSort) (allOctets requestSort) (mayList requestSort) (AllFit RequestFits) (allInterpreted requestSort) (λ run. allClear requestSort (handedIn run))
 request-list = measurements-trip Kind.Requests
 
-report-list : RoundTrip (measurementsIn reportSort) (allOctets reportSort) (mayList reportSort) (AllFit ReportFits) (allInterpreted reportSort) (λ run. allClear reportSort (elementsIn run))
+report-list : RoundTrip (measurementsIn reportSort) (allOctets reportSort) (mayList reportSort) (AllFit ReportFits) (allInterpreted reportSort) (λ run. allClear reportSort (handedIn run))
 report-list = measurements-trip Kind.Reports
 
-one-request : RoundTrip (λ run. single fixedFields 34 tpcRequestMeans (elementsIn run)) (λ u. tpcRequestOctets) (λ u. true) (λ u. Unit {0}) (λ u. true) (λ run. true)
+one-request : RoundTrip (λ run. single fixedFields 34 tpcRequestMeans (handedIn run)) (λ u. tpcRequestOctets) (λ u. true) (λ u. Unit {0}) (λ u. true) (λ run. vendorless (handedIn run))
 one-request = single-trip fixedFields 34 tpcRequestMeans (λ u. []) (λ u. true) (λ u. Unit {0}) tpc-request-trip
 
-one-report : RoundTrip (λ run. single fixedFields 35 tpcReportMeans (elementsIn run)) tpcReportOctets tpcReportMay TpcReportFits (λ t. true) (λ run. true)
+one-report : RoundTrip (λ run. single fixedFields 35 tpcReportMeans (handedIn run)) tpcReportOctets tpcReportMay TpcReportFits (λ t. true) (λ run. vendorless (handedIn run))
 unfolding tpcReportOctets
 one-report = single-trip fixedFields 35 tpcReportMeans tpcReportContents tpcReportMay TpcReportFits tpc-report-trip
 
-one-switch : RoundTrip (λ run. single switchFixedFields 37 switchMeans (elementsIn run)) switchOctets switchMay (λ s. Unit {0}) (λ s. true) (λ run. true)
+one-switch : RoundTrip (λ run. single switchFixedFields 37 switchMeans (handedIn run)) switchOctets switchMay (λ s. Unit {0}) (λ s. true) (λ run. vendorless (handedIn run))
 unfolding switchOctets
 one-switch = single-trip switchFixedFields 37 switchMeans switchContents switchMay (λ s. Unit {0}) switch-trip
 
@@ -80,9 +80,9 @@ written (requests token rs) run o h i c =
     let p = request-list .back run rs o (h .1) i c in
     (simp (h .0, p .0), p .1)
 written (reports token rs) run o h i c = report-list .back run rs o h i c
-written (tpcRequest token) run o h i c = (h .0, one-request .back run tt o (h .1) refl refl .1)
-written (tpcReport token t) run o h i c = one-report .back run t o h refl refl
-written (switch s) run o h i c = one-switch .back run s o h refl refl
+written (tpcRequest token) run o h i c = (h .0, one-request .back run tt o (h .1) refl c .1)
+written (tpcReport token t) run o h i c = one-report .back run t o h refl c
+written (switch s) run o h i c = one-switch .back run s o h refl c
 
 allowed : (body : Body) → ActionFits body → Holds body (elements body) → actionInterpreted body ≡ true → actionMay body ≡ true
 unfolding ActionFits actionMay actionInterpreted

@@ -23,7 +23,8 @@ use Rattle.header.specs.declared.management.Subtype.{Subtype}
 use Rattle.measurement_body.specs.Lists.{measurementsIn}
 use Rattle.measurement_body.specs.Reports.{reportSort}
 use Rattle.measurement_body.specs.Requests.{requestSort}
-use Rattle.walk.specs.Elements.{Elements, end, cutHeader, cutContents, more, elementsIn, pastElement}
+use Rattle.walk.specs.Elements.{pastElement}
+use Rattle.walk.specs.Handed.{Handed, end, cutHeader, cutContents, more, passed, cutPassed, handedIn}
 use Rattle.walk.specs.Required.{required, nothingLeft}
 use Rattle.frame.specs.Actions.{Body, afterOpening, actionMeans}
 use Rattle.frame.specs.Allowed.{FrameAllowed, KindAllowed, ReceivedAllowed}
@@ -35,16 +36,19 @@ use Rattle.frame.specs.Laid.{frameOf, quietsOf, frameLaid}
 Allowed-switch : ChannelSwitch → Type 0
 Allowed-switch w = switchForbids w ≡ false
 
-left-allowed : (n : ℕ) (es : Elements) (w : ChannelSwitch) → Allowed-switch w → Yields Allowed-switch (nothingLeft n es w)
+left-allowed : (n : ℕ) (hs : Handed) (w : ChannelSwitch) → Allowed-switch w → Yields Allowed-switch (nothingLeft n hs w)
+unfolding nothingLeft
 left-allowed n end w h = of-value Allowed-switch h
 left-allowed n cutHeader w h = of-refusal Allowed-switch _
 left-allowed n (cutContents id) w h = of-refusal Allowed-switch _
-left-allowed n (more id c es) w h = of-refusal Allowed-switch _
+left-allowed n (more id c hs) w h = of-refusal Allowed-switch _
+left-allowed n (passed c hs) w h = left-allowed (pastElement n c) hs w h
+left-allowed n cutPassed w h = of-refusal Allowed-switch _
 
-single-allowed : (n : ℕ) (es : Elements) → Yields Allowed-switch (single n 37 switchMeans es)
+single-allowed : (n : ℕ) (hs : Handed) → Yields Allowed-switch (single n 37 switchMeans hs)
 unfolding single Allowed-switch
-single-allowed n es =
-    after-value _ (placedAt n (required 37 es)) _
+single-allowed n hs =
+    after-value _ (placedAt n (required 37 hs)) _
     (λ s e. after-value _ (placedAt n (switchMeans (s .contents))) _
     (λ w f. left-allowed (pastElement n (s .contents)) (s .rest) w (switch-allowed (s .contents) w (placed-value n (switchMeans (s .contents)) f))))
 
@@ -57,12 +61,12 @@ module _ (b : ℕ) where
   after-allowed : (body : List ℕ) (o : Opens) → Yields BodyAllowed (afterOpening body o)
   unfolding Allowed-switch BodyAllowed
   after-allowed body switching =
-      after-value BodyAllowed (single switchFixedFields 37 switchMeans (elementsIn (drop switchFixedFields body))) _ (λ w e. of-value BodyAllowed (single-allowed switchFixedFields (elementsIn (drop switchFixedFields body)) w e))
+      after-value BodyAllowed (single switchFixedFields 37 switchMeans (handedIn (drop switchFixedFields body))) _ (λ w e. of-value BodyAllowed (single-allowed switchFixedFields (handedIn (drop switchFixedFields body)) w e))
   after-allowed body (with k token) =
       either-way BodyAllowed (eqb k 0) _ _ (after-value BodyAllowed (measurementsIn requestSort (drop fixedFields body)) _ (λ rs e. of-value BodyAllowed tt))
       (either-way BodyAllowed (eqb k 1) _ _ (after-value BodyAllowed (measurementsIn reportSort (drop fixedFields body)) _ (λ rs e. of-value BodyAllowed tt))
-      (either-way BodyAllowed (eqb k 2) _ _ (after-value BodyAllowed (single fixedFields 34 tpcRequestMeans (elementsIn (drop fixedFields body))) _ (λ u e. of-value BodyAllowed tt))
-      (after-value BodyAllowed (single fixedFields 35 tpcReportMeans (elementsIn (drop fixedFields body))) _ (λ t e. of-value BodyAllowed tt))))
+      (either-way BodyAllowed (eqb k 2) _ _ (after-value BodyAllowed (single fixedFields 34 tpcRequestMeans (handedIn (drop fixedFields body))) _ (λ u e. of-value BodyAllowed tt))
+      (after-value BodyAllowed (single fixedFields 35 tpcReportMeans (handedIn (drop fixedFields body))) _ (λ t e. of-value BodyAllowed tt))))
 
   body-allowed : (body : List ℕ) → Yields BodyAllowed (actionMeans body)
   unfolding actionMeans

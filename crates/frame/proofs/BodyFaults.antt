@@ -31,8 +31,11 @@ use Rattle.octets.specs.Elements.{fixed, element}
 use Rattle.octets.specs.Numbers.{octet}
 use Rattle.single_body.specs.Singles.{single}
 use Rattle.walk.proofs.Requiring.{whole}
-use Rattle.walk.proofs.RunLaws.{none, split, empty}
-use Rattle.walk.specs.Elements.{Elements, end, cutHeader, cutContents, more, elementsIn, pastElement}
+use Rattle.walk.proofs.RunLaws.{none, split}
+use Rattle.walk.proofs.Passing.{Walks, walks-more, walks-passed, walks-end, walks-some}
+use Rattle.walk.specs.Elements.{Elements, elementsIn, pastElement}
+use Rattle.walk.specs.Elements as Raw
+use Rattle.walk.specs.Handed.{Handed, end, cutHeader, cutContents, more, passed, cutPassed, vendorId, handedIn}
 use Rattle.walk.specs.Required.{Standing, required, nothingLeft}
 use Rattle.frame.specs.Actions.{afterOpening, actionMeans}
 use Rattle.frame.proofs.ActionParts.{Begins, begins}
@@ -79,18 +82,22 @@ report-misread c =
 -- ---- a run: so many octets stand before it, and so many there are in all
 
 -- a run that does not end at once has an octet
-some : (run : List ℕ) → (elementsIn run ≡ end → ⊥) → 0 < length run
+some : (run : List ℕ) → (elementsIn run ≡ Raw.end → ⊥) → 0 < length run
 some [] h = absurd (h none)
 some (x ∷ run) h = omega arith
 
-cut-has : (run : List ℕ) → elementsIn run ≡ cutHeader → 0 < length run
+cut-has : (run : List ℕ) {o : ℕ} → elementsIn run ≡ Raw.cutHeader o → 0 < length run
 cut-has run e = some run (λ f. let g = sym e ∙ f in let z : _≡_ {A = ℕ} 0 1 = cc in omega arith)
 
-contents-cut-has : (run : List ℕ) {id : ℕ} → elementsIn run ≡ cutContents id → 0 < length run
+contents-cut-has : (run : List ℕ) {id : ℕ} → elementsIn run ≡ Raw.cutContents id → 0 < length run
 contents-cut-has run e = some run (λ f. let g = sym e ∙ f in let z : _≡_ {A = ℕ} 0 1 = cc in omega arith)
 
-whole-has : (run : List ℕ) {id : ℕ} {c : List ℕ} {es : Elements} → elementsIn run ≡ more id c es → 0 < length run
+whole-has : (run : List ℕ) {id : ℕ} {c : List ℕ} {es : Elements} → elementsIn run ≡ Raw.more id c es → 0 < length run
 whole-has run e = some run (λ f. let g = sym e ∙ f in let z : _≡_ {A = ℕ} 0 1 = cc in omega arith)
+
+-- and so has one of which the walk hands something out
+given : (run : List ℕ) (id : ℕ) (c : List ℕ) (hs : Handed) → Walks run (more id c hs) → 0 < length run
+given run id c hs w = walks-some run (more id c hs) w (λ e. let z : _≡_ {A = ℕ} 0 1 = cc in omega arith)
 
 -- after its first element
 rest-long : (n size : ℕ) (run : List ℕ) (id : ℕ) (c rest : List ℕ) → n + length run ≡ size → run ≡ element id c ++ rest → pastElement n c + length rest ≡ size
@@ -112,67 +119,85 @@ module _ (P : Fault → Type 0) (size : ℕ) (f : ElementFaults P size) where
   misread n h r (inr e) = subst (λ (x : Refusal). P (faultAt n x)) (sym e) (f .value n h)
 
   -- the element that has to be there
-  required-by : (n id : ℕ) (run : List ℕ) → n + length run ≡ size → (es : Elements) → elementsIn run ≡ es → Refuses P (placedAt n (required id es))
+  required-by : (n id : ℕ) (run : List ℕ) → n + length run ≡ size → (hs : Handed) → Walks run hs → Refuses P (placedAt n (required id hs))
   unfolding required
-  required-by n id run s end e =
-      let all : size ≡ n = omega (arith, s, ap length (empty run e)) in
+  required-by n id run s end w =
+      let all : size ≡ n = omega (arith, s, ap length (walks-end run w)) in
       by-refusal P (subst (λ (k : ℕ). P (faultAt k Refusal.ElementAbsent)) all (f .absent))
-  required-by n id run s cutHeader e = by-refusal P (f .cut n (omega (arith, s, cut-has run e)))
-  required-by n id run s (cutContents i) e =
-      let h : n < size = omega (arith, s, contents-cut-has run e) in
+  required-by n id run s cutHeader w =
+      by-refusal P (f .cut n (omega (arith, s, walks-some run cutHeader w (λ e. let z : _≡_ {A = ℕ} 0 1 = cc in omega arith))))
+  required-by n id run s (cutContents i) w =
+      let h : n < size = omega (arith, s, walks-some run (cutContents i) w (λ e. let z : _≡_ {A = ℕ} 0 1 = cc in omega arith)) in
       by-place P n _ (by-check _ _ _ _ (f .other n h) (λ k. by-none _ _ (by-refusal _ (f .cut n h))))
-  required-by n id run s (more i c es) e =
-      by-place P n _ (by-check _ _ _ _ (f .other n (omega (arith, s, whole-has run e))) (λ k. by-none _ _ (by-value _ _)))
+  required-by n id run s (more i c hs) w =
+      by-place P n _ (by-check _ _ _ _ (f .other n (omega (arith, s, given run i c hs w))) (λ k. by-none _ _ (by-value _ _)))
+  required-by n id run s (passed c hs) w =
+      by-refusal P (f .other n (omega (arith, s, walks-some run (passed c hs) w (λ e. let z : _≡_ {A = ℕ} 0 1 = cc in omega arith))))
+  required-by n id run s cutPassed w =
+      by-refusal P (f .cut n (omega (arith, s, walks-some run cutPassed w (λ e. let z : _≡_ {A = ℕ} 0 1 = cc in omega arith))))
 
-  nothing-by : {A : Type 0} (n : ℕ) (run : List ℕ) → n + length run ≡ size → (es : Elements) → elementsIn run ≡ es → (a : A) → Refuses P (nothingLeft n es a)
-  nothing-by n run s end e a = by-value P a
-  nothing-by n run s cutHeader e a = by-refusal P (f .over n (omega (arith, s, cut-has run e)))
-  nothing-by n run s (cutContents i) e a = by-refusal P (f .over n (omega (arith, s, contents-cut-has run e)))
-  nothing-by n run s (more i c es) e a = by-refusal P (f .over n (omega (arith, s, whole-has run e)))
+  nothing-by : {A : Type 0} (hs : Handed) (n : ℕ) (run : List ℕ) → n + length run ≡ size → Walks run hs → (a : A) → Refuses P (nothingLeft n hs a)
+  unfolding nothingLeft
+  nothing-by end n run s w a = by-value P a
+  nothing-by cutHeader n run s w a =
+      by-refusal P (f .over n (omega (arith, s, walks-some run cutHeader w (λ e. let z : _≡_ {A = ℕ} 0 1 = cc in omega arith))))
+  nothing-by (cutContents i) n run s w a =
+      by-refusal P (f .over n (omega (arith, s, walks-some run (cutContents i) w (λ e. let z : _≡_ {A = ℕ} 0 1 = cc in omega arith))))
+  nothing-by (more i c hs) n run s w a = by-refusal P (f .over n (omega (arith, s, given run i c hs w)))
+  nothing-by (passed c hs) n run s w a =
+      let y = walks-passed run c hs w in
+      nothing-by hs (pastElement n c) (y .rest) (rest-long n size run vendorId c (y .rest) s (y .octets)) (inr (y .after)) a
+  nothing-by cutPassed n run s w a =
+      by-refusal P (f .cut n (omega (arith, s, walks-some run cutPassed w (λ e. let z : _≡_ {A = ℕ} 0 1 = cc in omega arith))))
 
   single-by : {A : Type 0} (n id : ℕ) (means : List ℕ → Outcome A) → ((c : List ℕ) → Refuses Misread (means c)) → (run : List ℕ) → n + length run ≡ size
-      → Refuses P (single n id means (elementsIn run))
+      → Refuses P (single n id means (handedIn run))
   unfolding single
   single-by n id means m run s =
-      by-then P (placedAt n (required id (elementsIn run))) _ (required-by n id run s (elementsIn run) refl)
-      (λ x e. after x (whole id (elementsIn run) x (placed-value n (required id (elementsIn run)) e)))
+      by-then P (placedAt n (required id (handedIn run))) _ (required-by n id run s (handedIn run) (inl refl))
+      (λ x e. after x (whole id (handedIn run) x (placed-value n (required id (handedIn run)) e)))
     where
-      after : (x : Standing) → elementsIn run ≡ more id (x .contents) (x .rest)
+      after : (x : Standing) → handedIn run ≡ more id (x .contents) (x .rest)
           → Refuses P (andThen (placedAt n (means (x .contents))) (nothingLeft (pastElement n (x .contents)) (x .rest)))
       after x e =
-          let y = split run id (x .contents) (x .rest) e in
-          by-then P (placedAt n (means (x .contents))) _ (by-place P n (means (x .contents)) (λ r g. misread n (omega (arith, s, whole-has run e)) r (m (x .contents) r g)))
-          (λ a g. nothing-by (pastElement n (x .contents)) (y .rest) (rest-long n size run id (x .contents) (y .rest) s (y .octets)) (x .rest) (y .after) a)
+          let y = walks-more run id (x .contents) (x .rest) (inl e) in
+          by-then P (placedAt n (means (x .contents))) _
+          (by-place P n (means (x .contents)) (λ r g. misread n (omega (arith, s, given run id (x .contents) (x .rest) (inl e))) r (m (x .contents) r g)))
+          (λ a g. nothing-by (x .rest) (pastElement n (x .contents)) (y .rest) (rest-long n size run id (x .contents) (y .rest) s (y .octets)) (inr (y .after)) a)
 
   -- one element after the other
   module _ {A : Type 0} (s : Sort A) (m : (c : List ℕ) → Refuses Misread (s .means c)) where
-    next-by : (n : ℕ) (run : List ℕ) → n + length run ≡ size → (es : Elements) → elementsIn run ≡ es → (before : List A) → Refuses P (placedAt n (nextIn s es before))
+    next-by : (n : ℕ) (run : List ℕ) → n + length run ≡ size → (hs : Handed) → Walks run hs → (before : List A) → Refuses P (placedAt n (nextIn s hs before))
     unfolding nextIn
-    next-by n run z es e before =
+    next-by n run z hs w before =
         by-place P n _
-        (by-then At (required (s .id) es) _ (of-place P n (required (s .id) es) (required-by n (s .id) run z es e))
+        (by-then At (required (s .id) hs) _ (of-place P n (required (s .id) hs) (required-by n (s .id) run z hs w))
         (λ x g.
-        let h : n < size = omega (arith, z, whole-has run (e ∙ whole (s .id) es x g)) in
+        let h : n < size = omega (arith, z, given run (s .id) (x .contents) (x .rest) (subst (Walks run) (whole (s .id) hs x g) w)) in
         by-then At (s .means (x .contents)) _ (λ r k. misread n h r (m (x .contents) r k))
         (λ a k. by-check At _ _ _ (f .repeat n h) (λ l. by-none At _ (by-value At _)))))
       where
         At : Refusal → Type 0
         At r = P (faultAt n r)
 
-    listed-by : (es : Elements) (n : ℕ) (run : List ℕ) → n + length run ≡ size → elementsIn run ≡ es → (before : List A) → Refuses P (listed s n es before)
+    listed-by : (hs : Handed) (n : ℕ) (run : List ℕ) → n + length run ≡ size → Walks run hs → (before : List A) → Refuses P (listed s n hs before)
     unfolding listed
-    listed-by end n run z e before =
-        by-either P (eqb (length before) 0) _ _ (by-then P (placedAt n (nextIn s end before)) _ (next-by n run z end e before) (λ a g. by-value P _)) (by-value P before)
-    listed-by cutHeader n run z e before = by-then P (placedAt n (nextIn s cutHeader before)) _ (next-by n run z cutHeader e before) (λ a g. by-value P _)
-    listed-by (cutContents id) n run z e before = by-then P (placedAt n (nextIn s (cutContents id) before)) _ (next-by n run z (cutContents id) e before) (λ a g. by-value P _)
-    listed-by (more id c es) n run z e before =
-        let y = split run id c es e in
-        by-then P (placedAt n (nextIn s (more id c es) before)) _ (next-by n run z (more id c es) e before)
-        (λ a g. listed-by es (pastElement n c) (y .rest) (rest-long n size run id c (y .rest) z (y .octets)) (y .after) (before ++ (a ∷ [])))
+    listed-by end n run z w before =
+        by-either P (eqb (length before) 0) _ _ (by-then P (placedAt n (nextIn s end before)) _ (next-by n run z end w before) (λ a g. by-value P _)) (by-value P before)
+    listed-by cutHeader n run z w before = by-then P (placedAt n (nextIn s cutHeader before)) _ (next-by n run z cutHeader w before) (λ a g. by-value P _)
+    listed-by (cutContents id) n run z w before = by-then P (placedAt n (nextIn s (cutContents id) before)) _ (next-by n run z (cutContents id) w before) (λ a g. by-value P _)
+    listed-by (more id c hs) n run z w before =
+        let y = walks-more run id c hs w in
+        by-then P (placedAt n (nextIn s (more id c hs) before)) _ (next-by n run z (more id c hs) w before)
+        (λ a g. listed-by hs (pastElement n c) (y .rest) (rest-long n size run id c (y .rest) z (y .octets)) (inr (y .after)) (before ++ (a ∷ [])))
+    listed-by (passed c hs) n run z w before =
+        let y = walks-passed run c hs w in
+        listed-by hs (pastElement n c) (y .rest) (rest-long n size run vendorId c (y .rest) z (y .octets)) (inr (y .after)) before
+    listed-by cutPassed n run z w before = by-then P (placedAt n (nextIn s cutPassed before)) _ (next-by n run z cutPassed w before) (λ a g. by-value P _)
 
     measurements-by : (run : List ℕ) → fixedFields + length run ≡ size → Refuses P (measurementsIn s run)
     unfolding measurementsIn
-    measurements-by run z = listed-by (elementsIn run) fixedFields run z refl []
+    measurements-by run z = listed-by (handedIn run) fixedFields run z (inl refl) []
 
 -- ---- an action body
 
@@ -207,7 +232,7 @@ module _ (P : Fault → Type 0) (body : List ℕ) (f : ActionFaults P (length bo
   -- what follows the fixed fields has the rest of the octets
   after-by : (o : Opens) → Begins body o → Refuses P (afterOpening body o)
   after-by switching b =
-      by-then P (single switchFixedFields 37 switchMeans (elementsIn (drop switchFixedFields body))) _
+      by-then P (single switchFixedFields 37 switchMeans (handedIn (drop switchFixedFields body))) _
       (single-by P (length body) (f .elements) switchFixedFields 37 switchMeans switch-misread (drop switchFixedFields body) (omega (arith, ap length b)))
       (λ s e. by-value P _)
   after-by (with k token) b =
@@ -219,9 +244,9 @@ module _ (P : Fault → Type 0) (body : List ℕ) (f : ActionFaults P (length bo
       (by-then P (measurementsIn reportSort (drop fixedFields body)) _
       (measurements-by P (length body) (f .elements) reportSort report-misread (drop fixedFields body) long) (λ rs e. by-value P _))
       (by-either P (eqb k 2) _ _
-      (by-then P (single fixedFields 34 tpcRequestMeans (elementsIn (drop fixedFields body))) _
+      (by-then P (single fixedFields 34 tpcRequestMeans (handedIn (drop fixedFields body))) _
       (single-by P (length body) (f .elements) fixedFields 34 tpcRequestMeans tpc-request-misread (drop fixedFields body) long) (λ u e. by-value P _))
-      (by-then P (single fixedFields 35 tpcReportMeans (elementsIn (drop fixedFields body))) _
+      (by-then P (single fixedFields 35 tpcReportMeans (handedIn (drop fixedFields body))) _
       (single-by P (length body) (f .elements) fixedFields 35 tpcReportMeans tpc-report-misread (drop fixedFields body) long) (λ t e. by-value P _))))
 
   pub action-faults : Refuses P (actionMeans body)
@@ -273,10 +298,10 @@ module _ (P : Fault → Type 0) (size : ℕ) (f : NoticeFaults P size) (b : ℕ)
 
   says-by : (es : Elements) (n : ℕ) (run : List ℕ) → n + length run ≡ size → elementsIn run ≡ es → (t : Told) → Refuses P (says b n es t)
   unfolding says
-  says-by end n run s e t = by-value P t
-  says-by cutHeader n run s e t = by-refusal P (f .cut n (omega (arith, s, cut-has run e)))
-  says-by (cutContents id) n run s e t = by-refusal P (f .cut n (omega (arith, s, contents-cut-has run e)))
-  says-by (more id c es) n run s e t =
+  says-by Raw.end n run s e t = by-value P t
+  says-by (Raw.cutHeader o) n run s e t = by-refusal P (f .cut n (omega (arith, s, cut-has run e)))
+  says-by (Raw.cutContents id) n run s e t = by-refusal P (f .cut n (omega (arith, s, contents-cut-has run e)))
+  says-by (Raw.more id c es) n run s e t =
       let y = split run id c es e in
       by-then P (placedAt n (takes b id c t)) _ (takes-by n (omega (arith, s, whole-has run e)) id c t)
       (λ next g. says-by es (pastElement n c) (y .rest) (rest-long n size run id c (y .rest) s (y .octets)) (y .after) next)

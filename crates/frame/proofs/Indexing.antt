@@ -27,7 +27,7 @@ use Rattle.measurement_element.specs.declared.measurement_request.Request.{Requ
 use Rattle.single_body.proofs.Singling as Singling
 use Rattle.single_body.specs.Singles.{single}
 use Rattle.single_body.specs.declared.kinds.Single.{Single}
-use Rattle.walk.specs.Elements.{Elements}
+use Rattle.walk.specs.Handed.{Handed}
 use Rattle.frame.specs.Actions.{Body, requests, reports, tpcRequest, tpcReport, switch, afterOpening, actionMeans}
 use Rattle.frame.specs.CodeTerms.Located.{readingPast, unplaced, placed, located, locatedIn, kindMeans, PlaceWithin, meansAt, readThere}
 use Rattle.frame.specs.CodeTerms.SingleFrames.{singleFrame, singleReading}
@@ -50,7 +50,7 @@ module _ (body : List ℕ) (i : ℕ) where
   located-frame (accepted (switch s)) = refl
 
   -- a body of one element has no place
-  pub one-element : {X : Type 0} (n id : ℕ) (means : List ℕ → Outcome X) (es : Elements) (token : ℕ) (says : X → Single) (make : X → Body)
+  pub one-element : {X : Type 0} (n id : ℕ) (means : List ℕ → Outcome X) (es : Handed) (token : ℕ) (says : X → Single) (make : X → Body)
       → ((a : X) → unplaced (Reading.Is (singleFrame token (says a))) ≡ located i body (accepted (make a)))
       → unplaced (singleReading token (single n id (λ c. andThen (means c) (λ a. accepted (says a))) es))
       ≡ located i body (andThen (single n id means es) (λ a. accepted (make a)))

@@ -29,7 +29,8 @@ use Rattle.element.specs.declared.quiet.Quiet.{Quiet}
 use Rattle.header.specs.Headers.{foreignHeader, foreignAddress, toAll, headerMeans, managementMeans, addressMeans}
 use Rattle.measurement_body.specs.Lists.{used, nextIn, listed, measurementsIn, nth}
 use Rattle.walk.specs.Elements.{elementsAfter, elementsIn}
-use Rattle.walk.specs.Required.{required}
+use Rattle.walk.specs.Handed.{passing, handing}
+use Rattle.walk.specs.Required.{required, nothingLeft}
 use Rattle.frame.specs.Actions.{requests, reports, tpcRequest, tpcReport, switch, actionMeans}
 use Rattle.frame.specs.Frames.{Kind, beacon, probeResponse, action, Sent, frameMeans, requestIn, reportIn, elementOf}
 
@@ -77,7 +78,7 @@ abbrev asks : ℕ → Request
 asks token = record { token = token; kind = 0; matter = Requests.Matter.Enable true false }
 
 pub a-measurement-request : heard (actionFrame (0 ∷ 0 ∷ 7 ∷ asked 1)) ≡ to-own (action (requests 7 (asks 1 ∷ [])))
-unfolding frameMeans headerMeans managementMeans addressMeans foreignHeader foreignAddress toAll checked actionMeans opensWith measurementsIn listed nextIn required elementsIn elementsAfter requestMeans used
+unfolding frameMeans headerMeans managementMeans addressMeans foreignHeader foreignAddress toAll checked actionMeans opensWith measurementsIn listed nextIn required passing handing elementsIn elementsAfter requestMeans used
 a-measurement-request = refl
 
 -- a report of "incapable"
@@ -88,17 +89,17 @@ abbrev says-unable : ℕ → Report
 says-unable token = record { token = token; kind = 1; matter = Reports.Matter.NotMeasured Reason.Incapable; densities = noDensities }
 
 pub a-measurement-report : heard (actionFrame (0 ∷ 1 ∷ 7 ∷ unable 1)) ≡ to-own (action (reports 7 (says-unable 1 ∷ [])))
-unfolding frameMeans headerMeans managementMeans addressMeans foreignHeader foreignAddress toAll checked actionMeans opensWith measurementsIn listed nextIn required elementsIn elementsAfter reportMeans
+unfolding frameMeans headerMeans managementMeans addressMeans foreignHeader foreignAddress toAll checked actionMeans opensWith measurementsIn listed nextIn required passing handing elementsIn elementsAfter reportMeans
 a-measurement-report = refl
 
 pub a-tpc-request : heard (actionFrame (0 ∷ 2 ∷ 7 ∷ 34 ∷ 0 ∷ [])) ≡ to-own (action (tpcRequest 7))
-unfolding frameMeans headerMeans managementMeans addressMeans foreignHeader foreignAddress toAll checked actionMeans opensWith single required elementsIn elementsAfter tpcRequestMeans fixed
+unfolding frameMeans headerMeans managementMeans addressMeans foreignHeader foreignAddress toAll checked actionMeans opensWith single required nothingLeft passing handing elementsIn elementsAfter tpcRequestMeans fixed
 a-tpc-request = refl
 
 -- 20 dBm, and a margin of −1 dB
 pub a-tpc-report : heard (actionFrame (0 ∷ 3 ∷ 0 ∷ 35 ∷ 2 ∷ 20 ∷ 255 ∷ []))
     ≡ to-own (action (tpcReport 0 (record { power = pos 20; margin = negsuc 0 })))
-unfolding frameMeans headerMeans managementMeans addressMeans foreignHeader foreignAddress toAll checked actionMeans opensWith single required elementsIn elementsAfter tpcReportMeans fixed
+unfolding frameMeans headerMeans managementMeans addressMeans foreignHeader foreignAddress toAll checked actionMeans opensWith single required nothingLeft passing handing elementsIn elementsAfter tpcReportMeans fixed
 a-tpc-report = refl
 
 -- a switch to channel 44, by its count
@@ -109,7 +110,7 @@ abbrev to-switch : ℕ → ChannelSwitch
 to-switch count = record { mode = 1; channel = 44; count = count }
 
 pub a-switch : (count : ℕ) → heard (switched count) ≡ to-own (action (switch (to-switch count)))
-unfolding frameMeans headerMeans managementMeans addressMeans foreignHeader foreignAddress toAll checked actionMeans opensWith single required elementsIn elementsAfter switchMeans fixed
+unfolding frameMeans headerMeans managementMeans addressMeans foreignHeader foreignAddress toAll checked actionMeans opensWith single required nothingLeft passing handing elementsIn elementsAfter switchMeans fixed
 a-switch count = refl
 
 -- ---- told apart
@@ -125,12 +126,12 @@ count-counts m n e =
 
 -- one element, two, or three
 pub two-requests : heard (actionFrame ((0 ∷ 0 ∷ 7 ∷ []) ++ asked 5 ++ asked 1)) ≡ to-own (action (requests 7 (asks 5 ∷ asks 1 ∷ [])))
-unfolding frameMeans headerMeans managementMeans addressMeans foreignHeader foreignAddress toAll checked actionMeans opensWith measurementsIn listed nextIn required elementsIn elementsAfter requestMeans used
+unfolding frameMeans headerMeans managementMeans addressMeans foreignHeader foreignAddress toAll checked actionMeans opensWith measurementsIn listed nextIn required passing handing elementsIn elementsAfter requestMeans used
 two-requests = refl
 
 pub three-requests : heard (actionFrame ((0 ∷ 0 ∷ 7 ∷ []) ++ asked 5 ++ asked 1 ++ asked 3))
     ≡ to-own (action (requests 7 (asks 5 ∷ asks 1 ∷ asks 3 ∷ [])))
-unfolding frameMeans headerMeans managementMeans addressMeans foreignHeader foreignAddress toAll checked actionMeans opensWith measurementsIn listed nextIn required elementsIn elementsAfter requestMeans used
+unfolding frameMeans headerMeans managementMeans addressMeans foreignHeader foreignAddress toAll checked actionMeans opensWith measurementsIn listed nextIn required passing handing elementsIn elementsAfter requestMeans used
 three-requests = refl
 
 -- by index: the last, one past it, and one that is no report
@@ -152,7 +153,7 @@ no-report = simp two-requests
 
 -- a token used twice: the second element is at fault, after the header, the fixed fields and one element of five octets
 pub used-twice : heard (actionFrame ((0 ∷ 0 ∷ 7 ∷ []) ++ asked 5 ++ asked 5)) ≡ refused (faultAt 32 Refusal.Repeated)
-unfolding frameMeans headerMeans managementMeans addressMeans foreignHeader foreignAddress toAll checked actionMeans opensWith measurementsIn listed nextIn required elementsIn elementsAfter requestMeans used
+unfolding frameMeans headerMeans managementMeans addressMeans foreignHeader foreignAddress toAll checked actionMeans opensWith measurementsIn listed nextIn required passing handing elementsIn elementsAfter requestMeans used
 used-twice = refl
 
 -- two Quiet elements of a beacon: both are kept, in their order
@@ -169,5 +170,5 @@ two-quiets = refl
 
 -- the same frame to all ones is told from one to the station
 pub to-all : heard (frame 208 (replicate 6 255) (0 ∷ 2 ∷ 7 ∷ 34 ∷ 0 ∷ [])) ≡ accepted (record { toAll = true; kind = action (tpcRequest 7) })
-unfolding frameMeans headerMeans managementMeans addressMeans foreignHeader foreignAddress toAll checked actionMeans opensWith single required elementsIn elementsAfter tpcRequestMeans fixed
+unfolding frameMeans headerMeans managementMeans addressMeans foreignHeader foreignAddress toAll checked actionMeans opensWith single required nothingLeft passing handing elementsIn elementsAfter tpcRequestMeans fixed
 to-all = refl

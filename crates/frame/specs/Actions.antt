@@ -1,5 +1,6 @@
 -- What an action body means (01, "Octets": 0, action, token, elements for actions 0 (one or more 38), 1 (one or more 39), 2 (one 34)
--- and 3 (one 35); action 4 has no token and one 37), and the octets of each. Places are counted from the body's first octet.
+-- and 3 (one 35); action 4 has no token and one 37), and the octets of each. Vendors' elements after the first are passed over (02, Four). Places are counted from
+-- the body's first octet.
 use mathlib.Core.Bool.{Bool, true, not, _&&_}
 use mathlib.Core.List.{List}
 use Prim.Native.Nat.{ℕ}
@@ -23,7 +24,7 @@ use Rattle.measurement_body.specs.Lists.{AllFit, measurementsIn, mayList, allIn
 use Rattle.measurement_body.specs.Reports.{reportSort}
 use Rattle.measurement_body.specs.Requests.{requestSort}
 use Rattle.octets.specs.Numbers.{octet}
-use Rattle.walk.specs.Elements.{elementsIn}
+use Rattle.walk.specs.Handed.{handedIn, vendorless}
 
 -- the five bodies, with their tokens and records
 pub data Body : Type 0 where
@@ -35,12 +36,12 @@ pub data Body : Type 0 where
 
 -- what follows the fixed fields
 abbrev pub afterOpening : List ℕ → Opens → Placed Body
-afterOpening body switching = andThen (single switchFixedFields 37 switchMeans (elementsIn (drop switchFixedFields body))) (λ s. accepted (switch s))
+afterOpening body switching = andThen (single switchFixedFields 37 switchMeans (handedIn (drop switchFixedFields body))) (λ s. accepted (switch s))
 afterOpening body (with action token) =
     pick (eqb action 0) (andThen (measurementsIn requestSort (drop fixedFields body)) (λ rs. accepted (requests token rs)))
     (pick (eqb action 1) (andThen (measurementsIn reportSort (drop fixedFields body)) (λ rs. accepted (reports token rs)))
-    (pick (eqb action 2) (andThen (single fixedFields 34 tpcRequestMeans (elementsIn (drop fixedFields body))) (λ u. accepted (tpcRequest token)))
-    (andThen (single fixedFields 35 tpcReportMeans (elementsIn (drop fixedFields body))) (λ t. accepted (tpcReport token t)))))
+    (pick (eqb action 2) (andThen (single fixedFields 34 tpcRequestMeans (handedIn (drop fixedFields body))) (λ u. accepted (tpcRequest token)))
+    (andThen (single fixedFields 35 tpcReportMeans (handedIn (drop fixedFields body))) (λ t. accepted (tpcReport token t)))))
 
 unfoldable pub actionMeans : List ℕ → Placed Body
 actionMeans body = andThen (opensWith body) (afterOpening body)
@@ -69,11 +70,12 @@ actionInterpreted (tpcRequest token) = true
 actionInterpreted (tpcReport token t) = true
 actionInterpreted (switch s) = true
 
--- no reserved bit is set: only measurement elements have any
+-- no reserved bit is set, which only measurement elements have, and no vendor's element is there: "Write-back of octets holds for frames without them" (02, Four)
 unfoldable pub actionClear : List ℕ → Bool
 actionClear body =
-    pick (eqb (octet 1 body) 0) (allClear requestSort (elementsIn (drop fixedFields body)))
-    (pick (eqb (octet 1 body) 1) (allClear reportSort (elementsIn (drop fixedFields body))) true)
+    pick (eqb (octet 1 body) 0) (allClear requestSort (handedIn (drop fixedFields body)))
+    (pick (eqb (octet 1 body) 1) (allClear reportSort (handedIn (drop fixedFields body)))
+    (pick (eqb (octet 1 body) 4) (vendorless (handedIn (drop switchFixedFields body))) (vendorless (handedIn (drop fixedFields body)))))
 
 -- ---- the fields fit their types
 

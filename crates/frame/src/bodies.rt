@@ -9,7 +9,7 @@ ghost use Rattle.frame.specs.Laid.{frameTold, bodyFrame};
 ghost use Rattle.measurement_body.specs.Kinds.{sortOf};
 ghost use Rattle.single_body.specs.Kinds.{contentsMean, idOf, fieldsBefore};
 ghost use Rattle.single_body.specs.Singles.{single};
-ghost use Rattle.walk.specs.Elements.{elementsIn};
+ghost use Rattle.walk.specs.Handed.{handedIn};
 use crate::Frame;
 use crate::Reading;
 use action::Opening;
@@ -81,7 +81,7 @@ fn single_frame(said: Single, token: u8) -> Frame
 
 // Actions 2, 3 and 4: one element. Action 4 has no token, so that the one given is not looked at.
 fn read_single(body: &[u8], kind: single_body::Kind, token: u8) -> Located
-    ensures { λ r. ⌜ r ≡ unplaced (singleReading token (single (fieldsBefore kind) (idOf kind) (contentsMean kind) (elementsIn (drop (fieldsBefore kind) (now (body .entry)))))) ⌝ }
+    ensures { λ r. ⌜ r ≡ unplaced (singleReading token (single (fieldsBefore kind) (idOf kind) (contentsMean kind) (handedIn (drop (fieldsBefore kind) (now (body .entry)))))) ⌝ }
 {
     match single_body::read(body, kind) {
         single_body::Reading::Refused(fault) => unplaced(Reading::Refused(fault)),

@@ -15,7 +15,7 @@ use Rattle.answer.proofs.Booleans.{clash, both}
 use Rattle.octets.specs.Numbers.{Octets}
 use Rattle.octets.specs.Writing.{wrote, left, filled}
 use Rattle.octets.proofs.Storing.{after-answer, after-left}
-use Rattle.walk.specs.Elements.{elementsIn}
+use Rattle.walk.specs.Handed.{handedIn}
 use Rattle.measurement_body.specs.Bodies.{longestBody, bodyOctets, begins, mayOpen, mayAppend, appended}
 use Rattle.measurement_body.specs.Calls.{Buffer, afterPut, mayPut, appends}
 use Rattle.measurement_body.specs.Lists.{AllFit, Sort, repeats, measurementsIn, allClear, allInterpreted, allOctets, mayAll, mayList}
@@ -151,7 +151,7 @@ module _ {A : Type 0} (s : Sort A) (Fits : A → Type 0) (t : Trip s Fits) (toke
 
     -- so the records of an accepted run, with nothing uninterpreted and no reserved bit set, are written back octet for octet
     pub append-back : (run : List ℕ) (xs : List A) → Octets run → measurementsIn s run ≡ accepted xs → allInterpreted s xs ≡ true
-        → allClear s (elementsIn run) ≡ true → length (0 ∷ s .action ∷ token ∷ run) ≤ longestBody
+        → allClear s (handedIn run) ≡ true → length (0 ∷ s .action ∷ token ∷ run) ≤ longestBody
         → length (0 ∷ s .action ∷ token ∷ run) ≤ length buffer → appends s token xs 0 buffer
         ≡ record { used = accepted (length (0 ∷ s .action ∷ token ∷ run)); octets = filled (0 ∷ s .action ∷ token ∷ run) buffer }
     append-back run xs o h i c short room =

@@ -21,6 +21,14 @@ and-swap true false true d = refl
 and-swap true false false d = refl
 and-swap false b c d = refl
 
+-- the last two change places
+pub and-last : (a b c : Bool) → (a && b && c) ≡ (a && c && b)
+and-last true true true = refl
+and-last true true false = refl
+and-last true false true = refl
+and-last true false false = refl
+and-last false b c = refl
+
 -- after three tests that hold, the fourth decides
 pub last-test : (a b c d : Bool) → a ≡ true → b ≡ true → c ≡ true → d ≡ (a && (b && (c && d)))
 last-test a b c d p q r = simp (p, q, r)

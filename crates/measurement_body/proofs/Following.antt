@@ -16,7 +16,7 @@ use Rattle.octets.proofs.Overwriting.{written-as}
 use Rattle.octets.proofs.Storing.{room-left}
 use Rattle.octets.specs.Writing.{Written, left}
 use Rattle.octets.specs.declared.writing.Wrote.{Wrote}
-use Rattle.walk.specs.Elements.{elementsIn}
+use Rattle.walk.specs.Handed.{handedIn}
 use Rattle.measurement_body.specs.Bodies.{longestBody, opening, begins, mayOpen, joins, appended, mayAppend}
 use Rattle.measurement_body.specs.CodeTerms.Appending.{Fronts, longestElement, mayFollow, following}
 use Rattle.measurement_body.specs.Lists.{Sort, used, measurementsIn, allClear, allInterpreted}
@@ -37,14 +37,14 @@ module _ {A : Type 0} (s : Sort A) (token : ℕ) (a : A) (there : List ℕ) wher
       by false e = refl
 
   -- what the survey says of a record that is to join those that are there
-  joined : (allClear s (elementsIn (drop fixedFields there)) && joins s a (measurementsIn s (drop fixedFields there)))
+  joined : (allClear s (handedIn (drop fixedFields there)) && joins s a (measurementsIn s (drop fixedFields there)))
       ≡ (surveyed s 0 (s .token a) there .plain && not (s .once && surveyed s 0 (s .token a) there .hit))
   joined = by (measurementsIn s (drop fixedFields there))
     where
-      by : (o : Placed (List A)) → (allClear s (elementsIn (drop fixedFields there)) && joins s a o)
+      by : (o : Placed (List A)) → (allClear s (handedIn (drop fixedFields there)) && joins s a o)
           ≡ (surveyedAs s 0 (s .token a) there o .plain && not (s .once && surveyedAs s 0 (s .token a) there o .hit))
-      by (refused r) = and-false (allClear s (elementsIn (drop fixedFields there)))
-      by (accepted l) = and-assoc (allClear s (elementsIn (drop fixedFields there))) (allInterpreted s l) (not (s .once && used s (s .token a) l))
+      by (refused r) = and-false (allClear s (handedIn (drop fixedFields there)))
+      by (accepted l) = and-assoc (allClear s (handedIn (drop fixedFields there))) (allInterpreted s l) (not (s .once && used s (s .token a) l))
 
   pub may-follow : mayFollow s token (s .token a) (length (s .octets a)) (s .may a) there ≡ mayAppend s token a there
   unfolding mayFollow mayAppend

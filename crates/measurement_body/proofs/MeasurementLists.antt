@@ -10,7 +10,7 @@ use Rattle.measurement_element.specs.MeasurementRequest.{RequestFits}
 use Rattle.octets.specs.Elements.{RoundTrip}
 use Rattle.octets.specs.Numbers.{Octets}
 use Rattle.octets.specs.Writing.{filled}
-use Rattle.walk.specs.Elements.{elementsIn}
+use Rattle.walk.specs.Handed.{handedIn}
 use Rattle.measurement_body.specs.Bodies.{longestBody, opening, bodyOctets, mayOpen}
 use Rattle.measurement_body.specs.Calls.{appends}
 use Rattle.measurement_body.specs.Kinds.{Measurement, sortOf}
@@ -32,7 +32,7 @@ one Kind.Reports = reports-trip
 
 module _ (k : Kind) where
   -- what may be written reads back the same, and what was read, with nothing uninterpreted and no reserved bit set, is written back
-  pub measurements-trip : RoundTrip (measurementsIn (sortOf k)) (allOctets (sortOf k)) (mayList (sortOf k)) (AllFit (MeasurementFits k)) (allInterpreted (sortOf k)) (λ run. allClear (sortOf k) (elementsIn run))
+  pub measurements-trip : RoundTrip (measurementsIn (sortOf k)) (allOctets (sortOf k)) (mayList (sortOf k)) (AllFit (MeasurementFits k)) (allInterpreted (sortOf k)) (λ run. allClear (sortOf k) (handedIn run))
   measurements-trip = list-trip (sortOf k) (MeasurementFits k) (one k)
 
   -- by one call of `append` for each, in a body with a token that it may have
@@ -44,7 +44,7 @@ module _ (k : Kind) where
     measurements-append-all = append-all (sortOf k) (MeasurementFits k) (one k) token allowed buffer
 
     pub measurements-append-back : (run : List ℕ) (xs : List (Measurement k)) → Octets run → measurementsIn (sortOf k) run ≡ accepted xs
-        → allInterpreted (sortOf k) xs ≡ true → allClear (sortOf k) (elementsIn run) ≡ true
+        → allInterpreted (sortOf k) xs ≡ true → allClear (sortOf k) (handedIn run) ≡ true
         → length (opening (sortOf k .action) token ++ run) ≤ longestBody → length (opening (sortOf k .action) token ++ run) ≤ length buffer
         → appends (sortOf k) token xs 0 buffer
         ≡ record { used = accepted (length (opening (sortOf k .action) token ++ run)); octets = filled (opening (sortOf k .action) token ++ run) buffer }

@@ -13,6 +13,7 @@ reports-trip =
       contents = reportContents;
       trip = report-trip;
       laid = λ r. refl;
+      own = refl;
       known = written-interpreted;
       clean = written-clear;
     }

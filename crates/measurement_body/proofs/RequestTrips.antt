@@ -47,6 +47,7 @@ requests-trip =
       contents = requestContents;
       trip = request-trip;
       laid = λ r. refl;
+      own = refl;
       known = known;
       clean = λ r h. clean (r .matter) (r .token) (r .kind) (leb (r .kind) 2) refl (agreeing r h);
     }

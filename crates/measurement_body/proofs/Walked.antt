@@ -15,21 +15,26 @@ use Rattle.answer.specs.Faults.{faultAt}
 use Rattle.answer.specs.declared.Fault.{Fault}
 use Rattle.answer.specs.declared.Refusal.{Refusal}
 use Rattle.answer.specs.declared.Verdict.{Verdict}
+use Rattle.walk.proofs.Passing.{onward-at, no-further-back}
 use Rattle.walk.proofs.Requiring.{Lies, whole, long, past}
 use Rattle.walk.proofs.RunLaws.{empty}
 use Rattle.walk.proofs.Walking.{at-end}
 use Rattle.walk.specs.CodeTerms.Required.{between}
-use Rattle.walk.specs.Elements.{Elements, end, more, elementsIn}
+use Rattle.walk.specs.CodeTerms.Next.{nextAfter}
+use Rattle.walk.specs.Elements.{elementsIn}
+use Rattle.walk.specs.Elements as Raw
+use Rattle.walk.specs.Handed.{Handed, end, passingIn, handing, handedIn}
+use Rattle.walk.specs.declared.Next.{Next}
 use Rattle.walk.specs.Required.{required}
 use Rattle.measurement_body.specs.Lists.{Sort, used, repeats, listed, measurementsIn, allClear, allInterpreted}
 use Rattle.measurement_body.specs.Surveys.{placeIn, notSurveyed, surveyedAs, surveyed}
 use Rattle.measurement_body.specs.declared.surveying.Place.{Place}
 use Rattle.measurement_body.specs.declared.surveying.Surveyed.{Surveyed}
-use Rattle.measurement_body.proofs.Conjunctions.{and-true, and-assoc, and-swap}
+use Rattle.measurement_body.proofs.Conjunctions.{and-true, and-assoc, and-swap, and-last}
 use Rattle.measurement_body.proofs.Judgements.{Holds}
-use Rattle.measurement_body.proofs.Listing.{stops, misread, repeated, onward, clear-in-front}
+use Rattle.measurement_body.proofs.Listing.{stops, misread, repeated, onward, clear-in-front, listed-onward, listed-cut, clear-onward}
 use Rattle.measurement_body.proofs.Marking.{Marked, none, one-more}
-use Rattle.measurement_body.proofs.Placing.{Placed, unmet, final, placed-on}
+use Rattle.measurement_body.proofs.Placing.{Placed, unmet, final, placed-on, placed-onward}
 
 interpreted-snoc : {A : Type 0} (s : Sort A) (l : List A) (a : A) → allInterpreted s (l ++ (a ∷ [])) ≡ (allInterpreted s l && s .interpreted a)
 unfolding allInterpreted
@@ -40,13 +45,13 @@ interpreted-snoc s (x ∷ l) a =
 -- where the walk stands: the records in front of `at` are those before, and their tokens are marked
 pub record Walked {A : Type 0} (s : Sort A) (body : List ℕ) (index : ℕ) (marks : List Bool) (count at : ℕ) (place : Place) (plain more : Bool) : Type 0 where
   pub before : List A
-  pub same : listed s at (elementsIn (drop at body)) before ≡ measurementsIn s (drop fixedFields body)
+  pub same : listed s at (handedIn (drop at body)) before ≡ measurementsIn s (drop fixedFields body)
   pub marked : Marked s marks before
   pub counted : count ≡ length before
   pub few : count ≤ at
-  pub placed : Placed (placeIn index body) (elementsIn (drop at body)) index count at place
+  pub placed : Placed (placeIn index body) (handedIn (drop at body)) index count at place
   pub clear : Bool
-  pub cleared : allClear s (elementsIn (drop fixedFields body)) ≡ (clear && allClear s (elementsIn (drop at body)))
+  pub cleared : allClear s (handedIn (drop fixedFields body)) ≡ (clear && allClear s (handedIn (drop at body)))
   pub plainly : plain ≡ (clear && allInterpreted s before)
   -- one element has to come, and others may
   pub goes : more ≡ (eqb count 0 || ltb at (length body))
@@ -60,7 +65,7 @@ start s body index =
       marked = none s;
       counted = refl;
       few = omega arith;
-      placed = unmet (elementsIn (drop fixedFields body)) index fixedFields;
+      placed = unmet (handedIn (drop fixedFields body)) index fixedFields;
       clear = true;
       cleared = refl;
       plainly = refl;
@@ -69,19 +74,19 @@ start s body index =
 
 module _ {A : Type 0} {s : Sort A} {body : List ℕ} {index : ℕ} {marks : List Bool} {count at : ℕ} {place : Place} {plain more : Bool}
     (w : Walked s body index marks count at place plain more) where
-  as-whole : {o : Faults.Placed (List A)} → listed s at (elementsIn (drop at body)) (w .before) ≡ o → measurementsIn s (drop fixedFields body) ≡ o
+  as-whole : {o : Faults.Placed (List A)} → listed s at (handedIn (drop at body)) (w .before) ≡ o → measurementsIn s (drop fixedFields body) ≡ o
   as-whole e = sym (w .same) ∙ e
 
   -- ---- an element that has to be there
 
-  pub absent : (id : ℕ) → id ≡ s .id → more ≡ true → {r : Refusal} → required id (elementsIn (drop at body)) ≡ refused r
+  pub absent : (id : ℕ) → id ≡ s .id → more ≡ true → {r : Refusal} → required id (handedIn (drop at body)) ≡ refused r
       → measurementsIn s (drop fixedFields body) ≡ refused (faultAt at r)
   absent id own m e =
       as-whole
       (stops s at (elementsIn (drop at body)) (w .before) (λ h. none-before (over h))
-      (ap (λ (n : ℕ). required n (elementsIn (drop at body))) (sym own) ∙ e))
+      (ap (λ (n : ℕ). required n (handedIn (drop at body))) (sym own) ∙ e))
     where
-      over : elementsIn (drop at body) ≡ end → length body ≤ at
+      over : elementsIn (drop at body) ≡ Raw.end → length body ≤ at
       over h = omega (arith, length-drop at body, ap length (empty (drop at body) h))
 
       none-before : length body ≤ at → length (w .before) ≡ 0
@@ -100,7 +105,7 @@ module _ {A : Type 0} {s : Sort A} {body : List ℕ} {index : ℕ} {marks : List
     contents = take (stop - start) (drop start body)
 
     pub unfit : {r : Refusal} → s .means contents ≡ refused r → measurementsIn s (drop fixedFields body) ≡ refused (faultAt at r)
-    unfit m = as-whole (misread s at (elementsIn (drop at body)) (between body start stop) (l .stands) (w .before) m)
+    unfit m = as-whole (misread s at (handedIn (drop at body)) (between body start stop) (l .stands) (w .before) m)
 
     module _ {token : ℕ} {is-plain : Bool} (h : Holds s contents token is-plain) (small : token < 256) where
       -- whether it repeats one before it, by its mark
@@ -111,35 +116,58 @@ module _ {A : Type 0} {s : Sort A} {body : List ℕ} {index : ℕ} {marks : List
           ∙ e
 
       pub again : (s .once && getD marks token false) ≡ true → measurementsIn s (drop fixedFields body) ≡ refused (faultAt at Refusal.Repeated)
-      again e = as-whole (repeated s at (elementsIn (drop at body)) (between body start stop) (l .stands) (w .before) (h .says) (marked-by e))
+      again e = as-whole (repeated s at (handedIn (drop at body)) (between body start stop) (l .stands) (w .before) (h .says) (marked-by e))
 
-      pub further : (s .once && getD marks token false) ≡ false
-          → Walked s body index (set marks token true) (count + 1) stop (pick (eqb count index) (Place.Contents start stop) place) (plain && is-plain) (ltb stop (length body))
-      further e =
-          let es = elementsIn (drop at body) in
+      -- after it, past what is passed over
+      abbrev next : Next
+      next = nextAfter stop (passingIn (drop stop body))
+
+      listed-after : (s .once && getD marks token false) ≡ false
+          → listed s stop (passingIn (drop stop body)) (w .before ++ (h .one ∷ [])) ≡ measurementsIn s (drop fixedFields body)
+      listed-after e =
+          ap (λ (n : ℕ). listed s n (passingIn (drop stop body)) (w .before ++ (h .one ∷ []))) (sym (past l))
+          ∙ sym (onward s at (handedIn (drop at body)) (between body start stop) (l .stands) (w .before) (h .says) (marked-by e)) ∙ w .same
+
+      pub cut-after : (s .once && getD marks token false) ≡ false → next .cut ≡ true
+          → measurementsIn s (drop fixedFields body) ≡ refused (faultAt (next .at) Refusal.ElementCut)
+      cut-after e cut = sym (listed-after e) ∙ listed-cut s (w .before ++ (h .one ∷ [])) (passingIn (drop stop body)) stop cut
+
+      pub further : (s .once && getD marks token false) ≡ false → next .cut ≡ false
+          → Walked s body index (set marks token true) (count + 1) (next .at) (pick (eqb count index) (Place.Contents start stop) place) (plain && is-plain && eqb (next .at) stop)
+          (ltb (next .at) (length body))
+      further e whole-ones =
+          let hs = handedIn (drop at body) in
           let here = between body start stop in
+          let rest = passingIn (drop stop body) in
           let a = h .one in
           let c = s .clear contents in
+          let own = eqb (next .at) stop in
+          let stands = onward-at body stop whole-ones in
           record {
             before = w .before ++ (a ∷ []);
             same =
-                ap (λ (n : ℕ). listed s n (elementsIn (drop stop body)) (w .before ++ (a ∷ []))) (sym (past l))
-                ∙ sym (onward s at es here (l .stands) (w .before) (h .says) (marked-by e)) ∙ w .same;
+                ap (λ (x : Handed). listed s (next .at) x (w .before ++ (a ∷ []))) (sym stands)
+                ∙ sym (listed-onward s (w .before ++ (a ∷ [])) rest stop whole-ones) ∙ listed-after e;
             marked = one-more s (w .marked) a token (h .tokened) small;
             counted = simp length-append (omega (arith, w .counted));
-            few = omega (arith, w .few, l .begins, l .ordered);
+            few = omega (arith, w .few, l .begins, l .ordered, no-further-back rest stop);
             placed =
-                placed-on (l .begins) (omega (arith, long l, l .begins, l .ordered))
-                (subst (λ (x : Elements). Placed (placeIn index body) x index count at place) (whole (s .id) es here (l .stands)) (w .placed));
-            clear = w .clear && c;
+                subst (λ (x : Handed). Placed (placeIn index body) x index (count + 1) (next .at) (pick (eqb count index) (Place.Contents start stop) place)) stands
+                (placed-onward rest
+                (placed-on (l .begins) (omega (arith, long l, l .begins, l .ordered))
+                (subst (λ (x : Handed). Placed (placeIn index body) x index count at place) (whole (s .id) hs here (l .stands)) (w .placed))));
+            clear = w .clear && c && own;
             cleared =
-                w .cleared ∙ ap (λ (b : Bool). w .clear && b) (clear-in-front s es here (l .stands))
-                ∙ and-assoc (w .clear) c (allClear s (elementsIn (drop stop body)));
+                w .cleared ∙ ap (λ (b : Bool). w .clear && b) (clear-in-front s hs here (l .stands))
+                ∙ and-assoc (w .clear) c (allClear s rest)
+                ∙ ap (λ (b : Bool). w .clear && c && b) (clear-onward s rest stop ∙ ap (λ (x : Handed). own && allClear s x) stands)
+                ∙ and-assoc (w .clear && c) own (allClear s (handedIn (drop (next .at) body)));
             plainly =
-                ap (λ (b : Bool). b && is-plain) (w .plainly)
-                ∙ ap (λ (b : Bool). w .clear && allInterpreted s (w .before) && b) (h .plainly)
-                ∙ and-swap (w .clear) (allInterpreted s (w .before)) c (s .interpreted a)
-                ∙ ap (λ (b : Bool). w .clear && c && b) (sym (interpreted-snoc s (w .before) a));
+                ap (λ (b : Bool). b && is-plain && own) (w .plainly)
+                ∙ ap (λ (b : Bool). w .clear && allInterpreted s (w .before) && b && own) (h .plainly)
+                ∙ ap (λ (b : Bool). b && own) (and-swap (w .clear) (allInterpreted s (w .before)) c (s .interpreted a))
+                ∙ ap (λ (b : Bool). w .clear && c && b && own) (sym (interpreted-snoc s (w .before) a))
+                ∙ and-last (w .clear && c) (allInterpreted s (w .before ++ (a ∷ []))) own;
             goes = sym (simp (ne-eqb (count + 1) 0 (λ z. omega arith)));
           }
 
@@ -149,22 +177,23 @@ module _ {A : Type 0} {s : Sort A} {body : List ℕ} {index : ℕ} {marks : List
     tests : (eqb count 0 ≡ false) × (ltb at (length body) ≡ false)
     tests = neither (eqb count 0) (ltb at (length body)) (sym (w .goes) ∙ over)
 
-    none-left : elementsIn (drop at body) ≡ end
-    none-left = at-end body at (ltb-false at (length body) (tests .1))
+    none-left : handedIn (drop at body) ≡ end
+    unfolding handing
+    none-left = ap handing (at-end body at (ltb-false at (length body) (tests .1)))
 
     all-read : measurementsIn s (drop fixedFields body) ≡ accepted (w .before)
     unfolding listed
     all-read =
         as-whole
-        (ap (λ (es : Elements). listed s at es (w .before)) none-left
+        (ap (λ (hs : Handed). listed s at hs (w .before)) none-left
         ∙ simp (ne-eqb (length (w .before)) 0 (λ e. eqb-false count 0 (tests .0) (w .counted ∙ e))))
 
-    all-clear : allClear s (elementsIn (drop fixedFields body)) ≡ w .clear
+    all-clear : allClear s (handedIn (drop fixedFields body)) ≡ w .clear
     unfolding allClear
-    all-clear = w .cleared ∙ ap (λ (es : Elements). w .clear && allClear s es) none-left ∙ and-true (w .clear)
+    all-clear = w .cleared ∙ ap (λ (hs : Handed). w .clear && allClear s hs) none-left ∙ and-true (w .clear)
 
     found : place ≡ placeIn index body
-    found = final (subst (λ (x : Elements). Placed (placeIn index body) x index count at place) none-left (w .placed))
+    found = final (subst (λ (x : Handed). Placed (placeIn index body) x index count at place) none-left (w .placed))
 
     pub read : (token : ℕ) → token < 256
         → record { verdict = Verdict.Accepted; count = count; place = place; hit = getD marks token false; plain = plain } ≡ surveyed s index token body

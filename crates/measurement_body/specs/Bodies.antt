@@ -1,5 +1,5 @@
 -- Bodies of one or more measurement elements, written one element at a time (01, "Octets": 0, action, token, elements). What is
--- there already is a body of the same action and token with nothing uninterpreted and no reserved bit set, or nothing.
+-- there already is a body of the same action and token with nothing uninterpreted, no reserved bit set and no vendor's element, or nothing.
 use mathlib.Core.Bool.{Bool, false, not, _&&_, _||_}
 use mathlib.Core.List.{List, [], _∷_, _++_}
 use Prim.Native.Nat.{ℕ, _+_}
@@ -9,7 +9,7 @@ use Rattle.action.specs.Openings.{fixedFields, forbidsToken}
 use Rattle.answer.specs.Checks.{refused, accepted, pick}
 use Rattle.answer.specs.Faults.{Placed}
 use Rattle.octets.specs.Numbers.{octet}
-use Rattle.walk.specs.Elements.{elementsIn}
+use Rattle.walk.specs.Handed.{handedIn}
 use Rattle.measurement_body.specs.Lists.{Sort, repeats, measurementsIn, allClear, allInterpreted, allOctets}
 
 -- how many octets a body may have (01, "Answer numbers": a frame has at most 2,336 octets, and 24 of them are the header)
@@ -49,4 +49,4 @@ module _ {A : Type 0} (s : Sort A) where
     mayAppend =
         s .may a && (mayOpen token && (leb (length there + length appended) longestBody &&
         (eqb (length there) 0 || (begins (s .action) token there
-        && (allClear s (elementsIn (drop fixedFields there)) && joins a (measurementsIn s (drop fixedFields there)))))))
+        && (allClear s (handedIn (drop fixedFields there)) && joins a (measurementsIn s (drop fixedFields there)))))))

@@ -1,5 +1,6 @@
 -- One or more elements of one ID, in a run (01, "Octets": actions 0 and 1 have one or more of 38 or 39). For each element: the one that
--- has to be there (7, 6, 21), its length and value (8, 9), repeat (10). The place of an element's fault is its ID octet (02, One).
+-- has to be there (7, 6, 21), its length and value (8, 9), repeat (10). The place of an element's fault is its ID octet (02, One). Vendors' elements between and
+-- after them are passed over, and count neither as elements nor in the index (02, Four).
 use mathlib.Core.Bool.{Bool, true, false, not, _&&_, _||_}
 use mathlib.Core.List.{List, [], _∷_, _++_}
 use Prim.Native.Nat.{ℕ, zero, suc}
@@ -9,7 +10,8 @@ use Rattle.action.specs.Openings.{fixedFields}
 use Rattle.answer.specs.Checks.{Outcome, refused, accepted, pick, _⇒_, judged, andThen}
 use Rattle.answer.specs.Faults.{Placed, placedAt}
 use Rattle.answer.specs.declared.Refusal.{Refusal}
-use Rattle.walk.specs.Elements.{Elements, end, cutHeader, cutContents, more, elementsIn, pastElement}
+use Rattle.walk.specs.Elements.{pastElement}
+use Rattle.walk.specs.Handed.{Handed, end, cutHeader, cutContents, more, passed, cutPassed, handedIn}
 use Rattle.walk.specs.Required.{required}
 
 -- what a list of such elements goes by
@@ -39,29 +41,33 @@ module _ {A : Type 0} (s : Sort A) where
   repeats a before = s .once && used (s .token a) before
 
   -- the record that has to come next, after those that came before
-  unfoldable pub nextIn : Elements → List A → Outcome A
-  nextIn es before =
-      andThen (required (s .id) es)
+  unfoldable pub nextIn : Handed → List A → Outcome A
+  nextIn hs before =
+      andThen (required (s .id) hs)
       (λ e. andThen (s .means (e .contents))
       (λ a. judged (repeats a before ⇒ Refusal.Repeated ∷ []) a))
 
   -- the records in the run, n octets before it, after those that came before: where there is none yet, one has to come
-  unfoldable pub listed : ℕ → Elements → List A → Placed (List A)
+  unfoldable pub listed : ℕ → Handed → List A → Placed (List A)
   listed n end before = pick (eqb (length before) 0) (andThen (placedAt n (nextIn end before)) (λ a. accepted (a ∷ []))) (accepted before)
   listed n cutHeader before = andThen (placedAt n (nextIn cutHeader before)) (λ a. accepted (before ++ (a ∷ [])))
   listed n (cutContents id) before = andThen (placedAt n (nextIn (cutContents id) before)) (λ a. accepted (before ++ (a ∷ [])))
-  listed n (more id c es) before = andThen (placedAt n (nextIn (more id c es) before)) (λ a. listed (pastElement n c) es (before ++ (a ∷ [])))
+  listed n (more id c hs) before = andThen (placedAt n (nextIn (more id c hs) before)) (λ a. listed (pastElement n c) hs (before ++ (a ∷ [])))
+  listed n (passed c hs) before = listed (pastElement n c) hs before
+  listed n cutPassed before = andThen (placedAt n (nextIn cutPassed before)) (λ a. accepted (before ++ (a ∷ [])))
 
   -- the records in the run after a body's fixed fields
   unfoldable pub measurementsIn : List ℕ → Placed (List A)
-  measurementsIn run = listed fixedFields (elementsIn run) []
+  measurementsIn run = listed fixedFields (handedIn run) []
 
-  -- no reserved bit is set in any of the elements
-  unfoldable pub allClear : Elements → Bool
+  -- the elements are as a writer writes them: no reserved bit is set in any, and none of a vendor stands among them
+  unfoldable pub allClear : Handed → Bool
   allClear end = true
   allClear cutHeader = true
   allClear (cutContents id) = true
-  allClear (more id c es) = s .clear c && allClear es
+  allClear (more id c hs) = s .clear c && allClear hs
+  allClear (passed c hs) = false
+  allClear cutPassed = true
 
   unfoldable pub allInterpreted : List A → Bool
   allInterpreted [] = true

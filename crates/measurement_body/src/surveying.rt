@@ -30,7 +30,7 @@ pub struct Surveyed {
     pub place: Place,
     // whether one has the token that was asked for
     pub hit: bool,
-    // whether nothing is uninterpreted and no reserved bit is set
+    // whether nothing is uninterpreted, no reserved bit is set and no vendor's element is there
     pub plain: bool,
 }
 
@@ -99,11 +99,15 @@ pub fn survey(body: &[u8], kind: Kind, index: usize, token: u8) -> Surveyed
                             return refused(Refusal::Repeated, at);
                         }
                         marks[mark] = true;
+                        let next = walk::pass_over(body, end);
+                        if next.cut {
+                            return refused(Refusal::ElementCut, next.at);
+                        }
+                        at = next.at;
                         place = keep(place, count, index, start, end);
-                        plain = both(plain, is_plain);
+                        plain = both(both(plain, is_plain), at == end);
                         count += 1;
-                        at = end;
-                        more = walk::has_left_over(body, end);
+                        more = walk::has_left_over(body, at);
                     }
                 }
             }

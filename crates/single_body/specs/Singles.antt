@@ -1,5 +1,6 @@
 -- Bodies of one element (01, "Octets": actions 2, 3 and 4 have one 34, 35 or 37). The element that has to be there (7, 6, 21), its length
--- and value (8, 9), and left-over octets last (22). The place of the element's fault is its ID octet (02, One).
+-- and value (8, 9), and left-over octets last (22), but for vendors' elements, which are passed over (02, Four). The place of an element's fault is its ID octet
+-- (02, One).
 use mathlib.Core.List.{List, [], _∷_, _++_}
 use Prim.Native.Nat.{ℕ}
 use Rattle.answer.specs.Checks.{Outcome, andThen}
@@ -9,13 +10,14 @@ use Rattle.element.specs.TpcReport.{tpcReportOctets}
 use Rattle.element.specs.TpcRequest.{tpcRequestOctets}
 use Rattle.element.specs.declared.channel_switch.ChannelSwitch.{ChannelSwitch}
 use Rattle.element.specs.declared.tpc_report.TpcReport.{TpcReport}
-use Rattle.walk.specs.Elements.{Elements, pastElement}
+use Rattle.walk.specs.Elements.{pastElement}
+use Rattle.walk.specs.Handed.{Handed}
 use Rattle.walk.specs.Required.{required, nothingLeft}
 
--- one element of this ID with n octets before it, what its contents mean, and nothing after it
-unfoldable pub single : {A : Type 0} → ℕ → ℕ → (List ℕ → Outcome A) → Elements → Placed A
-single n id means es =
-    andThen (placedAt n (required id es))
+-- one element of this ID with n octets before it, what its contents mean, and nothing after it but what is passed over
+unfoldable pub single : {A : Type 0} → ℕ → ℕ → (List ℕ → Outcome A) → Handed → Placed A
+single n id means hs =
+    andThen (placedAt n (required id hs))
     (λ s. andThen (placedAt n (means (s .contents)))
     (nothingLeft (pastElement n (s .contents)) (s .rest)))
 

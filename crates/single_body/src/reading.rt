@@ -1,8 +1,9 @@
-// The element of a body that has one, of each kind by the same steps: the element that has to be there, what it says, and nothing after it.
+// The element of a body that has one, of each kind by the same steps: the element that has to be there, what it says, and nothing after it but vendors'
+// elements.
 ghost use mathlib.Core.Path.{_≡_};
 ghost use lib.ListN.{drop};
 ghost use Rattle.answer.specs.Faults.{placedAt};
-ghost use Rattle.walk.specs.Elements.{elementsIn};
+ghost use Rattle.walk.specs.Handed.{handedIn};
 ghost use Rattle.single_body.specs.Kinds.{singleTold, contentsMean, idOf, fieldsBefore};
 ghost use Rattle.single_body.specs.Singles.{single};
 use crate::kinds::Kind;
@@ -41,7 +42,7 @@ fn read_contents(kind: Kind, contents: &[u8], at: usize) -> Reading
 
 // The one element of a body, after its fixed fields.
 pub fn read(body: &[u8], kind: Kind) -> Reading
-    ensures { λ r. ⌜ singleTold r ≡ single (fieldsBefore kind) (idOf kind) (contentsMean kind) (elementsIn (drop (fieldsBefore kind) (now (body .entry)))) ⌝ }
+    ensures { λ r. ⌜ singleTold r ≡ single (fieldsBefore kind) (idOf kind) (contentsMean kind) (handedIn (drop (fieldsBefore kind) (now (body .entry)))) ⌝ }
 {
     let at = kind.fixed_fields();
     let id = kind.id();
@@ -50,8 +51,12 @@ pub fn read(body: &[u8], kind: Kind) -> Reading
         Required::Contents { start, end } => match read_contents(kind, &body[start..end], at) {
             Reading::Refused(fault) => Reading::Refused(fault),
             Reading::Is(said) => {
-                if walk::has_left_over(body, end) {
-                    return Reading::Refused(Fault::at(Refusal::LeftOver, end));
+                let next = walk::pass_over(body, end);
+                if next.cut {
+                    return Reading::Refused(Fault::at(Refusal::ElementCut, next.at));
+                }
+                if walk::has_left_over(body, next.at) {
+                    return Reading::Refused(Fault::at(Refusal::LeftOver, next.at));
                 }
                 Reading::Is(said)
             }

@@ -1,3 +1,4 @@
+pub mod Passing
 pub mod Requiring
 pub mod RunLaws
 pub mod Walking

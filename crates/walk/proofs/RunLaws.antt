@@ -2,16 +2,16 @@
 use mathlib.Core.Path.{_≡_, refl, sym, ap, _∙_}
 use mathlib.Core.Bool.{Bool, true, false}
 use mathlib.Core.List.{List, [], _∷_, _++_}
-use Prim.Native.Nat.{ℕ, zero, suc}
+use Prim.Native.Nat.{ℕ, zero, suc, _+_, _-_, _≤_}
 use native.Mathlib.Omega.{arith}
 use borrow.Author.Tests.{le-leb, leb-true}
 use lib.Dec.{leb}
-use lib.ListN.{length, take, drop, length-append, take-append-drop}
-use lib.Seq.{length-take-le, take-append-seam, drop-append-seam}
+use lib.ListN.{length, take, drop, length-append, length-drop, take-append-drop}
+use lib.Seq.{length-take-le, drop-drop, take-append-seam, drop-append-seam}
 use Rattle.answer.specs.Checks.{pick}
 use Rattle.octets.specs.Elements.{element}
 use Rattle.octets.specs.Numbers.{Octets}
-use Rattle.walk.specs.Elements.{Elements, end, cutContents, more, elementsAfter, elementsIn}
+use Rattle.walk.specs.Elements.{Elements, end, cutContents, more, elementsAfter, elementsIn, pastElement}
 use Rattle.walk.proofs.Walking.{headed}
 
 -- an element's octets in front of others
@@ -50,6 +50,22 @@ unfolding elementsIn elementsAfter
 split [] id c es e = absurd (let z : _≡_ {A = ℕ} 0 1 = cc in omega arith)
 split (i ∷ []) id c es e = absurd (let z : _≡_ {A = ℕ} 0 1 = cc in omega arith)
 split (i ∷ n ∷ os) id c es e = split-by i n os id c es (leb n (length os)) refl (sym (headed i n os) ∙ e)
+
+-- an element's octets in front, from a place on: its contents, and where the rest begins
+pub record Lying (body : List ℕ) (at : ℕ) (x rest : List ℕ) : Type 0 where
+  pub inside : pastElement at x ≤ length body
+  pub contents : take (pastElement at x - (at + 2)) (drop (at + 2) body) ≡ x
+  pub after : drop (pastElement at x) body ≡ rest
+
+pub lying : (body : List ℕ) (at id : ℕ) (x rest : List ℕ) → drop at body ≡ element id x ++ rest → Lying body at x rest
+lying body at id x rest e =
+    let tail : drop (at + 2) body ≡ x ++ rest = sym (drop-drop 2 at body) ∙ ap (drop 2) e in
+    let size : at + 2 + length x - (at + 2) ≡ length x = omega arith in
+    record {
+      inside = omega (arith, ap length e, length-drop at body, length-append x rest);
+      contents = ap (λ (n : ℕ). take n (drop (at + 2) body)) size ∙ ap (take (length x)) tail ∙ take-append-seam x rest;
+      after = sym (drop-drop (length x) (at + 2) body) ∙ ap (drop (length x)) tail ∙ drop-append-seam x rest;
+    }
 
 empty-by : (i n : ℕ) (os : List ℕ) (u : Bool) → pick u (more i (take n os) (elementsIn (drop n os))) (cutContents i) ≡ end → i ∷ n ∷ os ≡ []
 empty-by i n os true e = absurd (let z : _≡_ {A = ℕ} 0 1 = cc in omega arith)

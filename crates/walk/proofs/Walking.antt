@@ -39,7 +39,7 @@ module _ (s : List ℕ) (at : ℕ) where
   unfolding elementsIn elementsAfter
   at-end h = simp (drop-of-length-le s h)
 
-  pub at-cut-header : at < length s → length s - at < 2 → elementsIn (drop at s) ≡ cutHeader
+  pub at-cut-header : at < length s → length s - at < 2 → elementsIn (drop at s) ≡ cutHeader (octet at s)
   unfolding elementsIn elementsAfter
   at-cut-header h k = simp (drop-cons s at 0 h, drop-of-length-le s {i = suc at} (omega arith))
 

@@ -9,8 +9,8 @@ use Rattle.answer.specs.Checks.{pick}
 pub data Elements : Type 0 where
   -- nothing is left
   end : Elements
-  -- one octet is left, which is no header
-  cutHeader : Elements
+  -- this one octet is left, which is no header
+  cutHeader : ℕ → Elements
   -- a header with this ID, whose contents run past the end
   cutContents : ℕ → Elements
   -- a whole element, with its ID and its contents, and what follows it
@@ -19,7 +19,7 @@ pub data Elements : Type 0 where
 -- the elements after the first `skip` octets, which are the contents of the element before
 unfoldable pub elementsAfter : ℕ → List ℕ → Elements
 elementsAfter zero [] = end
-elementsAfter zero (id ∷ []) = cutHeader
+elementsAfter zero (id ∷ []) = cutHeader id
 elementsAfter zero (id ∷ n ∷ os) = pick (leb n (length os)) (more id (take n os) (elementsAfter n os)) (cutContents id)
 elementsAfter (suc skip) [] = end
 elementsAfter (suc skip) (o ∷ os) = elementsAfter skip os

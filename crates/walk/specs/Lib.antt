@@ -1,3 +1,4 @@
 pub mod CodeTerms
 pub mod Elements
+pub mod Handed
 pub mod Required

@@ -11,6 +11,9 @@ pub const PROBE_RESPONSE: u8 = 5;
 pub const BEACON: u8 = 8;
 pub const ACTION: u8 = 13;
 
+/// The ID of vendors' elements, which an action body may have after its own.
+pub const VENDOR: u8 = 221;
+
 /// Octets of a header, and of the longest frame and body that are read.
 pub const HEADER: usize = 24;
 pub const LONGEST: usize = 2336;
@@ -20,9 +23,9 @@ pub const NOTICE: usize = HEADER + 12;
 
 /// Octets that mean something somewhere in a frame: element IDs, lengths,
 /// limits. A change to one of them does more than one to any other octet.
-const TELLING: [u8; 32] = [
+const TELLING: [u8; 34] = [
     0, 1, 2, 3, 4, 5, 6, 7, 8, 9, 13, 14, 15, 16, 22, 23, 31, 32, 34, 35, 37, 38, 39, 40, 127, 128,
-    199, 200, 201, 202, 254, 255,
+    199, 200, 201, 202, 221, 222, 254, 255,
 ];
 
 /// The station that hears the frame.
@@ -133,6 +136,15 @@ pub fn measured(head: [u8; 3], channel: u8, start: u64, duration: u16) -> Vec<u8
 /// Elements that a beacon or probe response skips, so many octets of them in
 /// all (none for a single octet, which can hold no element).
 pub fn padding(rng: &mut Rng, length: usize) -> Vec<u8> {
+    filling(rng, length, skipped)
+}
+
+/// As many octets of vendors' elements.
+pub fn vendors(rng: &mut Rng, length: usize) -> Vec<u8> {
+    filling(rng, length, |_| VENDOR)
+}
+
+fn filling(rng: &mut Rng, length: usize, id: impl Fn(&mut Rng) -> u8) -> Vec<u8> {
     let mut elements = Vec::new();
     while length - elements.len() >= 2 {
         let left = length - elements.len();
@@ -141,7 +153,7 @@ pub fn padding(rng: &mut Rng, length: usize) -> Vec<u8> {
             most if left - 2 - most == 1 => most - 1,
             most => most,
         };
-        elements.extend_from_slice(&element(skipped(rng), &rng.octets(contents)));
+        elements.extend_from_slice(&element(id(rng), &rng.octets(contents)));
     }
     elements
 }
@@ -169,7 +181,7 @@ pub fn measurements(rng: &mut Rng, id: u8, length: usize) -> Vec<u8> {
 pub fn skipped(rng: &mut Rng) -> u8 {
     loop {
         let id = if rng.one_in(2) {
-            rng.pick(&[0, 1, 3, 5, 7, 31, 33, 34, 36, 38, 39, 41, 221, 255])
+            rng.pick(&[0, 1, 3, 5, 7, 31, 33, 34, 36, 38, 39, 41, VENDOR, 255])
         } else {
             rng.octet()
         };
@@ -455,6 +467,27 @@ impl Builder<'_> {
         self.rng.between(1, 255) as u8
     }
 
+    /// Vendors' elements now and then, any number of them.
+    fn vendors(&mut self, frame: &mut Vec<u8>) {
+        if !self.rng.one_in(4) {
+            return;
+        }
+        for _ in 0..self.rng.pick(&[1, 1, 2, 5]) {
+            let most = self.rng.pick(&[1, 4, 20, 256]);
+            let length = self.rng.place(most);
+            let contents = self.rng.octets(length);
+            let id = self.id(VENDOR);
+            self.put(frame, id, contents);
+        }
+    }
+
+    /// In front of the first element they are wrong.
+    fn vendors_in_front(&mut self, frame: &mut Vec<u8>) {
+        if self.wrong() {
+            self.vendors(frame);
+        }
+    }
+
     /// What can be wrong at the end of an action body.
     fn close(&mut self, frame: &mut Vec<u8>) {
         if self.wrong() {
@@ -469,7 +502,7 @@ impl Builder<'_> {
     /// The ID that belongs in this place, or another.
     fn id(&mut self, id: u8) -> u8 {
         if self.wrong() {
-            return self.rng.pick(&[0, 32, 34, 35, 37, 38, 39, 40, 255]);
+            return self.rng.pick(&[0, 32, 34, 35, 37, 38, 39, 40, 220, 221, 222, 255]);
         }
         id
     }
@@ -477,8 +510,10 @@ impl Builder<'_> {
     pub fn tpc_request(&mut self) -> Vec<u8> {
         let token = self.token();
         let mut frame = self.opening(2, Some(token));
+        self.vendors_in_front(&mut frame);
         let id = self.id(34);
         self.put(&mut frame, id, Vec::new());
+        self.vendors(&mut frame);
         self.close(&mut frame);
         frame
     }
@@ -486,6 +521,7 @@ impl Builder<'_> {
     fn tpc_report(&mut self) -> Vec<u8> {
         let token = self.rng.octet();
         let mut frame = self.opening(3, Some(token));
+        self.vendors_in_front(&mut frame);
         let id = self.id(35);
         let contents = if self.rng.one_in(2) {
             vec![
@@ -496,15 +532,18 @@ impl Builder<'_> {
             self.rng.octets(2)
         };
         self.put(&mut frame, id, contents);
+        self.vendors(&mut frame);
         self.close(&mut frame);
         frame
     }
 
     pub fn channel_switch(&mut self) -> Vec<u8> {
         let mut frame = self.opening(4, None);
+        self.vendors_in_front(&mut frame);
         let id = self.id(37);
         let contents = self.switch_contents();
         self.put(&mut frame, id, contents);
+        self.vendors(&mut frame);
         self.close(&mut frame);
         frame
     }
@@ -523,6 +562,7 @@ impl Builder<'_> {
     pub fn measurement_request(&mut self) -> Vec<u8> {
         let token = self.token();
         let mut frame = self.opening(0, Some(token));
+        self.vendors_in_front(&mut frame);
         let many = self.many();
         // A step that has no divisor in common with 255 passes all tokens from
         // 1 to 255 before one comes again.
@@ -538,6 +578,9 @@ impl Builder<'_> {
             }
             let id = self.id(38);
             self.put(&mut frame, id, contents);
+            if many.is_some() {
+                self.vendors(&mut frame);
+            }
         }
         self.close(&mut frame);
         frame
@@ -588,6 +631,7 @@ impl Builder<'_> {
     pub fn measurement_report(&mut self) -> Vec<u8> {
         let token = self.rng.octet();
         let mut frame = self.opening(1, Some(token));
+        self.vendors_in_front(&mut frame);
         let many = self.many();
         for _ in 0..many.unwrap_or(LONGEST) {
             let contents = self.report_contents();
@@ -596,6 +640,9 @@ impl Builder<'_> {
             }
             let id = self.id(39);
             self.put(&mut frame, id, contents);
+            if many.is_some() {
+                self.vendors(&mut frame);
+            }
         }
         self.close(&mut frame);
         frame

@@ -2,8 +2,8 @@
 //! lists of both sides show whether their stations go the same way.
 
 use crate::builder::{
-    action, element, measurements, mutate, notice, padding, quiet, soup, Builder, Stage, ALL_ONES,
-    BEACON, HEADER, NOTICE, PROBE_RESPONSE,
+    action, element, measurements, mutate, notice, padding, quiet, soup, vendors, Builder, Stage,
+    ALL_ONES, BEACON, HEADER, NOTICE, PROBE_RESPONSE,
 };
 use crate::count::{Call, Count};
 use crate::lend::{hex, lend, Left};
@@ -366,6 +366,12 @@ fn places(count: &mut Count, rng: &mut Rng) {
             let body = [&[0, 1, 0][..], &before, &[38, 0]].concat();
             broken.push((21, place, action(&stage, &body)));
         }
+        let after = HEADER + 5;
+        if place == after || place >= after + 2 {
+            let before = vendors(rng, place - after);
+            let body = [&[0, 2, 7, 34, 0][..], &before, &[34]].concat();
+            broken.push((22, place, action(&stage, &body)));
+        }
     }
     let mut interval = notice(&stage, BEACON, &[]);
     interval[HEADER + 8] ^= 1;
@@ -379,7 +385,6 @@ fn places(count: &mut Count, rng: &mut Rng) {
         (10, NOTICE + 3, notice(&stage, BEACON, &[32, 1, 3, 32, 1, 3])),
         (11, NOTICE + 64, notice(&stage, BEACON, &nine)),
         (12, HEADER + 8, interval),
-        (22, HEADER + 5, action(&stage, &[0, 2, 7, 34, 0, 0])),
     ]);
     let first = sound(&[start(&stage, 36)]);
     for (number, place, frame) in broken {

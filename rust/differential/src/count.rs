@@ -121,8 +121,8 @@ const PLACED: [Placed; 10] = [
     Placed(12, HEADER + 8, HEADER + 8),
     // As with 6, but with a whole header: half a header is 6.
     Placed(21, HEADER + 2, LONGEST - 2),
-    // After the elements of actions 2, and 3 and 4.
-    Placed(22, HEADER + 5, HEADER + 7),
+    // After the element of action 2; one octet after vendors' elements.
+    Placed(22, HEADER + 5, LONGEST - 1),
 ];
 
 /// What a subject has compared so far.

@@ -2,8 +2,9 @@
 //! refusals with the place where the frame broke.
 
 use crate::builder::{
-    action, element, header, measured, measurements, mutate, notice, padding, quiet, soup, Builder,
-    Stage, ACTION, ALL_ONES, BEACON, HEADER, LONGEST, LONGEST_BODY, NOTICE, PROBE_RESPONSE,
+    action, element, header, measured, measurements, mutate, notice, padding, quiet, soup, vendors,
+    Builder, Stage, ACTION, ALL_ONES, BEACON, HEADER, LONGEST, LONGEST_BODY, NOTICE,
+    PROBE_RESPONSE, VENDOR,
 };
 use crate::count::{Call, Count};
 use crate::lend::hex;
@@ -30,6 +31,7 @@ pub fn run(count: &mut Count) {
     sizes(count, &mut rng);
     full_frames(count, &mut rng);
     last_places(count, &mut rng);
+    passed_over(count, &mut rng);
     built(count, &mut rng);
     soups(count, &mut rng);
 }
@@ -511,11 +513,74 @@ fn last_places(count: &mut Count, rng: &mut Rng) {
                 compare(count, &stage, &action(&stage, &body));
             }
         }
-        // As much left over as there can be.
-        for body in [&[0, 2, 1, 34, 0][..], &[0, 3, 0, 35, 2, 0, 0], &[0, 4, 37, 3, 0, 36, 1]] {
-            let mut body = body.to_vec();
-            body.resize(LONGEST_BODY + length - LONGEST, 34);
-            compare(count, &stage, &action(&stage, &body));
+        // As much left over as there can be, and as many vendors' elements.
+        let most = LONGEST_BODY + length - LONGEST;
+        for body in SOUND {
+            let mut left = body.to_vec();
+            left.resize(most, 34);
+            compare(count, &stage, &action(&stage, &left));
+            for tail in VENDOR_TAILS {
+                let pad = vendors(rng, most - body.len() - tail.len());
+                compare(count, &stage, &action(&stage, &[body, &pad, tail].concat()));
+            }
+        }
+    }
+}
+
+/// An action body of each kind.
+const SOUND: [&[u8]; 5] = [
+    &[0, 0, 1, 38, 3, 1, 2, 0],
+    &[0, 1, 0, 39, 3, 0, 1, 0],
+    &[0, 2, 1, 34, 0],
+    &[0, 3, 0, 35, 2, 0, 0],
+    &[0, 4, 37, 3, 0, 36, 1],
+];
+
+/// What can stand last, after vendors' elements.
+const VENDOR_TAILS: [&[u8]; 9] = [
+    &[],
+    &[VENDOR],
+    &[VENDOR, 0],
+    &[VENDOR, 1],
+    &[VENDOR + 1],
+    &[VENDOR + 1, 0],
+    &[38, 3, 2, 2, 0],
+    &[39, 3, 1, 1, 0],
+    &[34],
+];
+
+/// Each ID, whole, cut in its contents and in its header, before, between and
+/// after the elements of each action body; and vendors' elements between
+/// measurements, by every index.
+fn passed_over(count: &mut Count, rng: &mut Rng) {
+    let stage = Stage::usual(100);
+    for body in SOUND {
+        let fields = if body[1] == 4 { 2 } else { 3 };
+        let (fixed, own) = body.split_at(fields);
+        for id in 0..=255 {
+            for other in [&[id, 2, 34, 0][..], &[id, 0], &[id, 1], &[id]] {
+                for run in [
+                    [other, own].concat(),
+                    [own, other].concat(),
+                    [own, other, own].concat(),
+                    [own, other, other].concat(),
+                    [own, &[VENDOR, 0], other].concat(),
+                ] {
+                    compare(count, &stage, &action(&stage, &[fixed, &run].concat()));
+                }
+            }
+        }
+    }
+    for (kind, id) in [(0, 38), (1, 39)] {
+        for most in [0, 2, 3, 40, 300] {
+            let mut body = vec![0, kind, 1];
+            for token in 1..=20 {
+                body.extend_from_slice(&element(id, &[token, 2, token]));
+                let length = rng.place(most + 1);
+                body.extend_from_slice(&vendors(rng, length));
+            }
+            body.truncate(LONGEST_BODY);
+            every_element(count, &stage, &action(&stage, &body));
         }
     }
 }

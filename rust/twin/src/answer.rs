@@ -75,7 +75,8 @@ pub const NO_STATION: u8 = 19;
 pub const MALFORMED_RECORD: u8 = 20;
 /// In an action frame: another element where one of the action's own must stand.
 pub const ANOTHER_ELEMENT: u8 = 21;
-/// In an action frame of one element: octets left over after it.
+/// In an action frame of one element: octets left over after it and the
+/// vendors' elements after it.
 pub const LEFT_OVER: u8 = 22;
 
 /// Ask: granted.

@@ -12,9 +12,9 @@ use crate::answer::{
 };
 use crate::element::{
     channel_switch_octets, cut_any, cut_required, read_channel_switch, read_power_constraint,
-    read_quiet, read_tpc_report, read_tpc_request, tpc_report_octets, tpc_request_octets, Cut,
-    Switch, CHANNEL_SWITCH, MEASUREMENT_REPORT, MEASUREMENT_REQUEST, POWER_CONSTRAINT, QUIET,
-    TPC_REPORT, TPC_REQUEST,
+    read_quiet, read_tpc_report, read_tpc_request, skip_vendors, tpc_report_octets,
+    tpc_request_octets, Cut, Switch, CHANNEL_SWITCH, MEASUREMENT_REPORT, MEASUREMENT_REQUEST,
+    POWER_CONSTRAINT, QUIET, TPC_REPORT, TPC_REQUEST,
 };
 use crate::frame::{Frame, Notice};
 use crate::header::{FRAME_LIMIT, HEADER};
@@ -170,8 +170,8 @@ fn token_not_0(octets: &[u8], at: usize) -> Result<u8, Refusal> {
     Ok(token)
 }
 
-/// Reads exactly one element, at `at`; left-over octets come last (22), told
-/// at the first of them.
+/// Reads exactly one element, at `at`, and skips the vendors' elements after
+/// it (02, Four); left-over octets come last (22), told at the first of them.
 fn read_single<T>(
     octets: &[u8],
     at: usize,
@@ -180,14 +180,16 @@ fn read_single<T>(
 ) -> Result<T, Refusal> {
     let cut = cut_required(octets, at, id)?;
     let record = read(cut.contents).map_err(|number| cut.refused(number))?;
-    if cut.end < octets.len() {
-        return Err(Refusal::at(LEFT_OVER, cut.end));
+    let end = skip_vendors(octets, cut.end)?;
+    if end < octets.len() {
+        return Err(Refusal::at(LEFT_OVER, end));
     }
     Ok(record)
 }
 
 /// Reads one or more Measurement Requests, from `first` on, with tokens that
-/// all differ. What follows an element is a further one.
+/// all differ. What follows an element, and the vendors' elements skipped
+/// after it (02, Four), is a further one.
 fn read_requests(octets: &[u8], first: usize) -> Result<Vec<Request>, Refusal> {
     let mut requests = Vec::new();
     let mut used = [false; 256];
@@ -201,13 +203,14 @@ fn read_requests(octets: &[u8], first: usize) -> Result<Vec<Request>, Refusal> {
             return Err(cut.refused(REPEATED));
         }
         requests.push(request);
-        at = cut.end;
+        at = skip_vendors(octets, cut.end)?;
     }
     Ok(requests)
 }
 
 /// Reads one or more Measurement Reports, from `first` on. What follows an
-/// element is a further one.
+/// element, and the vendors' elements skipped after it (02, Four), is a
+/// further one.
 fn read_reports(octets: &[u8], first: usize) -> Result<Vec<Report>, Refusal> {
     let mut reports = Vec::new();
     let mut at = first;
@@ -215,7 +218,7 @@ fn read_reports(octets: &[u8], first: usize) -> Result<Vec<Report>, Refusal> {
         let cut = cut_required(octets, at, MEASUREMENT_REPORT)?;
         let report = read_measurement_report(cut.contents).map_err(|number| cut.refused(number))?;
         reports.push(report);
-        at = cut.end;
+        at = skip_vendors(octets, cut.end)?;
     }
     Ok(reports)
 }
@@ -254,9 +257,9 @@ pub fn write_measurement_report_body(
 /// first three octets are put before it.
 ///
 /// What `out` has of the `used` octets is judged first: it must be a request
-/// body of this dialog token with nothing uninterpreted and no reserved bit
-/// set, and with `request` a body that can be written, else 16. Fewer octets
-/// than `used`, or too few after them: 13.
+/// body of this dialog token with nothing uninterpreted, no reserved bit set
+/// and no vendor's element, and with `request` a body that can be written,
+/// else 16. Fewer octets than `used`, or too few after them: 13.
 pub fn append_measurement_request(
     token: u8,
     request: Request,
@@ -321,9 +324,9 @@ fn held_reports(body: &[u8], token: u8) -> Result<Vec<Report>, u8> {
 /// Puts what `body` has more than `out` holds after the `used` octets.
 ///
 /// `body` is what `out` holds, read and written again, and one element more.
-/// Reserved bits are written as 0, so where one is set the two differ: 16. "A
-/// buffer that has fewer octets than are said to be in use is too short", and
-/// that comes after every 16.
+/// Reserved bits are written as 0 and vendors' elements not at all (02, Four),
+/// so where `out` has one the two differ: 16. "A buffer that has fewer octets
+/// than are said to be in use is too short", and that comes after every 16.
 fn lay_rest(body: &[u8], used: usize, out: &mut [u8]) -> Result<usize, u8> {
     let rest = body.strip_prefix(held(out, used)).ok_or(IMPOSSIBLE)?;
     let free = out.get_mut(used..).ok_or(BUFFER_SHORT)?;
@@ -414,7 +417,7 @@ mod tests {
     use crate::element::element_octets;
     use crate::measurement::{Asks, Says};
     use crate::read_frame;
-    use crate::sample::{action, Dice, AP, OWN};
+    use crate::sample::{action, vendor, Dice, AP, OWN};
 
     /// Reads back what a writer put into the front of `out`.
     fn back(out: &[u8]) -> Frame {
@@ -809,6 +812,69 @@ mod tests {
         // A report may use a token again, its dialog token may be 0.
         let mut out = [0, 1, 0, 39, 3, 1, 1, 0, 0, 0, 0, 0, 0];
         assert_eq!(append_measurement_report(0, late(1), 8, &mut out), Ok(5));
+    }
+
+    #[test]
+    fn no_vendors_element_is_appended_to() {
+        let request = [0, 0, 9, 38, 3, 1, 2, 0];
+        let report = [0, 1, 9, 39, 3, 1, 1, 0];
+        let more_requests = [38, 3, 2, 2, 0];
+        let more_reports = [39, 3, 2, 1, 0];
+        assert_eq!(append_request_to(&request), 0);
+        assert_eq!(append_report_to(&report), 0);
+        // Contents that are what would be appended are no better.
+        let longest = vendor(&[7; 255]);
+        let alike = vendor(&[38, 3, 200, 2 | 8, 1]);
+        for vendors in [&[221, 0][..], &[221, 1, 7, 221, 0], &longest, &alike] {
+            for (body, more) in [(request, more_requests), (report, more_reports)] {
+                for broken in [
+                    [&body, vendors].concat(),
+                    [&body, vendors, &more].concat(),
+                    [&body, &more[..], vendors].concat(),
+                    [&body, vendors, &more, vendors].concat(),
+                    // In front of the first, and cut, the reader refuses it.
+                    [&body[..3], vendors, &body[3..]].concat(),
+                    [&body, &vendors[..vendors.len() - 1]].concat(),
+                ] {
+                    assert_eq!(append_request_to(&broken), 16, "{:?}", broken);
+                    assert_eq!(append_report_to(&broken), 16, "{:?}", broken);
+                }
+                assert_eq!(append_request_to(&[&body[..3], vendors].concat()), 16);
+                assert_eq!(append_report_to(&[&body[..3], vendors].concat()), 16);
+            }
+        }
+        // It is seen in what the buffer has, and not past it; 16 before 13.
+        let mut out = [&request[..], &[221, 0]].concat();
+        for (length, used, refusal) in [(8, 10, 13), (9, 10, 16), (10, 10, 16), (10, 11, 16)] {
+            let refused = append_measurement_request(9, enable(2), used, &mut out[..length]);
+            assert_eq!(refused, Err(refusal));
+        }
+        // Where it is past the octets in use, it is written over.
+        let mut out = [&request[..], &[221, 3, 7, 7, 7]].concat();
+        assert_eq!(append_measurement_request(9, enable(2), 8, &mut out), Ok(5));
+        assert_eq!(out[8..], [38, 3, 2, 2 | 8, 1]);
+    }
+
+    #[test]
+    fn vendors_elements_are_not_written_again() {
+        // Each body, with where the element that they stand after ends.
+        let bodies: [(&[u8], usize); 5] = [
+            (&[0, 0, 9, 38, 3, 1, 2, 0, 38, 3, 2, 2, 0], 8),
+            (&[0, 1, 9, 39, 3, 1, 1, 0, 39, 3, 1, 1, 0], 8),
+            (&[0, 2, 9, 34, 0], 5),
+            (&[0, 3, 9, 35, 2, 0x80, 0x7F], 7),
+            (&[0, 4, 37, 3, 1, 200, 2], 7),
+        ];
+        for (body, end) in bodies {
+            for vendors in [&[221, 0][..], &[221, 1, 7, 221, 0]] {
+                let (front, back_part) = body.split_at(end);
+                let frame = back(&[front, vendors, back_part, vendors].concat());
+                let mut out = [0xEE; 14];
+                assert_eq!(rewrite(&frame, &mut out), Ok(body.len()));
+                assert_eq!(&out[..body.len()], body);
+                assert!(out[body.len()..].iter().all(|&octet| octet == 0xEE));
+            }
+        }
     }
 
     #[test]

@@ -440,6 +440,38 @@ mod tests {
     }
 
     #[test]
+    fn vendors_elements_in_the_list() {
+        // 02, Four: the document's example with vendors' elements after the
+        // announcement, and places that count the skipped octets.
+        let frame = |body: &[u8]| record(2, &action(OWN, body));
+        let first = block(&[
+            started(),
+            frame(&[0, 4, 37, 3, 1, 44, 2, 221, 0, 221, 3, 1, 2, 3]),
+            ask(1),
+            advance(100),
+            ask(1),
+            advance(100),
+            ask(1),
+        ]);
+        let second = block(&[
+            frame(&[0, 4, 37, 3, 1, 48, 0, 221, 0, 221]),
+            frame(&[0, 4, 37, 3, 1, 48, 0, 221, 1, 7, 0]),
+            frame(&[0, 4, 221, 0, 37, 3, 1, 48, 0]),
+            frame(&[0, 0, 9, 38, 3, 1, 2, 0, 221, 0, 38, 3, 1, 2, 0]),
+            frame(&[0, 0, 9, 38, 3, 1, 2, 0, 221, 0, 38, 3, 2, 2, 0, 221, 0]),
+            frame(&[0, 1, 9, 39, 3, 1, 1, 0, 221, 2, 7]),
+            frame(&[0, 2, 9, 34, 0, 221, 2, 7, 7]),
+            ask(1),
+        ]);
+        assert_eq!(
+            text(&[first, second].concat()),
+            "1 start 0\n2 frame 0\n3 ask 1\n4 advance 0\n5 ask 1\n6 advance 0\n7 ask 0\n\
+             8 frame 6 33\n9 frame 22 34\n10 frame 21 26\n11 frame 10 34\n12 frame 0\n\
+             13 frame 6 32\n14 frame 0\n15 ask 0\nblocks 2 damaged 0\n"
+        );
+    }
+
+    #[test]
     fn the_last_place_in_a_block() {
         // 36 + 257 + 211 = 504 octets, and with an ID the 505 of a block.
         let mut elements = vec![0, 255];

@@ -22,6 +22,8 @@ pub const MEASUREMENT_REQUEST: u8 = 38;
 pub const MEASUREMENT_REPORT: u8 = 39;
 /// Quiet (802.11h 7.3.2.23).
 pub const QUIET: u8 = 40;
+/// A vendor's own element (02, Four); 802.11h has its ID reserved.
+const VENDOR: u8 = 221;
 
 /// An element's ID and length octets.
 const HEAD: usize = 2;
@@ -68,8 +70,8 @@ impl Cut<'_> {
     }
 }
 
-/// Cuts the element of a beacon or probe response that begins at `at`,
-/// whatever its ID. `at` is not past the end of the octets.
+/// Cuts the element that begins at `at`, whatever its ID. `at` is not past the
+/// end of the octets.
 pub(crate) fn cut_any(octets: &[u8], at: usize) -> Result<Cut<'_>, Refusal> {
     let contents = at + HEAD;
     if octets.len() < contents {
@@ -90,7 +92,9 @@ pub(crate) fn cut_any(octets: &[u8], at: usize) -> Result<Cut<'_>, Refusal> {
 
 /// Cuts an element that must begin at `at` and have this ID, in an action
 /// frame: "absent (7), header cut (6), wrong element" (21), "contents cut (6)".
-/// `at` is not past the end of the octets.
+/// A vendor's element is a wrong one here, since those are skipped after an
+/// element, not in front of it (02, Four). `at` is not past the end of the
+/// octets.
 pub(crate) fn cut_required(octets: &[u8], at: usize, id: u8) -> Result<Cut<'_>, Refusal> {
     if octets.len() == at {
         // "Absent gives the frame's length" (02, One).
@@ -103,6 +107,18 @@ pub(crate) fn cut_required(octets: &[u8], at: usize, id: u8) -> Result<Cut<'_>, 
         return Err(Refusal::at(ANOTHER_ELEMENT, at));
     }
     cut_any(octets, at)
+}
+
+/// Where what follows the vendors' elements at `at` begins: whole ones are
+/// skipped after an element of an action frame, however many there are, and
+/// "a cut one is refusal 6", in its header or its contents, told at its ID
+/// octet (02, Four).
+pub(crate) fn skip_vendors(octets: &[u8], at: usize) -> Result<usize, Refusal> {
+    let mut end = at;
+    while octets.get(end) == Some(&VENDOR) {
+        end = cut_any(octets, end)?.end;
+    }
+    Ok(end)
 }
 
 /// An element in octets. No element written here has over 22 contents octets.
@@ -260,6 +276,29 @@ mod tests {
         let cut = cut_any(out, 0).unwrap();
         assert_eq!(cut.id, id);
         cut.contents
+    }
+
+    #[test]
+    fn vendors_are_skipped_whole() {
+        let octets = [221, 0, 221, 2, 221, 9, 38, 221, 1, 7, 221, 1];
+        let cut = |place| Err(Refusal::at(6, place));
+        // From each octet that is a vendor's ID, up to one that is not.
+        assert_eq!(skip_vendors(&octets, 0), Ok(6));
+        assert_eq!(skip_vendors(&octets, 2), Ok(6));
+        assert_eq!(skip_vendors(&octets[..10], 7), Ok(10));
+        assert_eq!(skip_vendors(&octets, 7), cut(10));
+        assert_eq!(skip_vendors(&octets[..11], 7), cut(10));
+        assert_eq!(skip_vendors(&octets[..5], 0), cut(2));
+        assert_eq!(skip_vendors(&octets[..3], 0), cut(2));
+        assert_eq!(skip_vendors(&octets[..1], 0), cut(0));
+        assert_eq!(skip_vendors(&octets[..2], 0), Ok(2));
+        // From other octets, and from the end, nothing.
+        assert_eq!(skip_vendors(&octets, 6), Ok(6));
+        assert_eq!(skip_vendors(&octets, 12), Ok(12));
+        for id in (0..=255u8).filter(|&id| id != 221) {
+            assert_eq!(skip_vendors(&[id], 0), Ok(0));
+            assert_eq!(skip_vendors(&[id, 0], 0), Ok(0));
+        }
     }
 
     #[test]

@@ -28,14 +28,14 @@ pub enum Frame {
     MeasurementRequest {
         /// The dialog token; never 0.
         token: u8,
-        /// One or more elements, in their order.
+        /// One or more elements, in their order; no vendor's (02, Four).
         requests: Vec<Request>,
     },
     /// Action 1.
     MeasurementReport {
         /// The dialog token.
         token: u8,
-        /// One or more elements, in their order.
+        /// One or more elements, in their order; no vendor's (02, Four).
         reports: Vec<Report>,
     },
     /// Action 2.
@@ -133,7 +133,7 @@ pub fn read_frame(
 mod tests {
     use super::*;
     use crate::measurement::{Asks, Says};
-    use crate::sample::{action, measure, notice, quiet, ALL, AP, OWN};
+    use crate::sample::{action, measure, notice, quiet, vendor, Dice, ALL, AP, OWN};
 
     fn read(frame: &[u8]) -> Result<Received, Refusal> {
         read_frame(frame, OWN, AP, 100)
@@ -811,7 +811,14 @@ mod tests {
         for id in 0..=255u8 {
             // An ID is judged before its contents are found cut.
             let first = |right| if id == right { at(6, 27) } else { at(21, 27) };
-            let further = |right| if id == right { at(6, 32) } else { at(21, 32) };
+            // A vendor's element may stand there, so it is cut (02, Four).
+            let further = |right| {
+                if id == right || id == 221 {
+                    at(6, 32)
+                } else {
+                    at(21, 32)
+                }
+            };
             check_bodies(&[
                 (&[0, 0, 5, id, 9], first(38)),
                 (&[0, 1, 5, id, 9], first(39)),
@@ -835,7 +842,8 @@ mod tests {
 
     #[test]
     fn the_place_of_22_is_the_first_left_over() {
-        for octet in 0..=255u8 {
+        // But for a vendor's element (02, Four).
+        for octet in (0..=255u8).filter(|&octet| octet != 221) {
             check_bodies(&[
                 (&[0, 2, 7, 34, 0, octet], at(22, 29)),
                 (&[0, 2, 7, 34, 0, octet, 0], at(22, 29)),
@@ -911,6 +919,477 @@ mod tests {
         }
     }
 
+    /// Bodies of the actions 2, 3 and 4 with their one element.
+    const SINGLES: [&[u8]; 3] = [
+        &[0, 2, 7, 34, 0],
+        &[0, 3, 0, 35, 2, 3, 4],
+        &[0, 4, 37, 3, 1, 200, 0],
+    ];
+
+    /// Bodies of the actions 0 and 1 with one element, of the token 1, and a
+    /// further element, of the token 2.
+    const MEASUREMENTS: [(&[u8], &[u8]); 2] = [
+        (&[0, 0, 5, 38, 3, 1, 2, 0], &[38, 3, 2, 2, 9]),
+        (&[0, 1, 0, 39, 3, 1, 1, 0], &[39, 3, 2, 4, 9]),
+    ];
+
+    /// A fault whose place is counted from the end of this body, with its place
+    /// in the frame.
+    fn after(body: &[u8], fault: (u8, Option<usize>)) -> (u8, Option<usize>) {
+        (fault.0, fault.1.map(|place| 24 + body.len() + place))
+    }
+
+    /// Each run of octets with the fault it makes after the element of each
+    /// of these bodies; the place is counted from the run's first octet.
+    fn check_after(bodies: &[&[u8]], cases: &[(&[u8], (u8, Option<usize>))]) {
+        for body in bodies {
+            for (run, expected) in cases {
+                let whole = [*body, run].concat();
+                check_bodies(&[(&whole, after(body, *expected))]);
+                if *expected == ACCEPTED {
+                    assert_eq!(read(&action(OWN, &whole)), read(&action(OWN, body)));
+                }
+            }
+        }
+    }
+
+    #[test]
+    fn vendors_after_the_one_element() {
+        let longest = vendor(&[221; 255]);
+        let some = [vendor(&[]), vendor(&[34, 0]), longest.clone(), vendor(&[0])].concat();
+        check_after(
+            &SINGLES,
+            &[
+                (&[], ACCEPTED),
+                (&[221, 0], ACCEPTED),
+                (&[221, 1, 7], ACCEPTED),
+                (&[221, 5, 37, 3, 0, 36, 0], ACCEPTED),
+                (&[221, 0, 221, 0], ACCEPTED),
+                (&[221, 2, 221, 9, 221, 0, 221, 1, 221], ACCEPTED),
+                (&longest, ACCEPTED),
+                (&some, ACCEPTED),
+                (&some.repeat(8), ACCEPTED),
+                (&vendor(&[]).repeat(1000), ACCEPTED),
+            ],
+        );
+    }
+
+    #[test]
+    fn a_cut_vendor_after_the_one_element() {
+        let longest = vendor(&[34; 255]);
+        check_after(
+            &SINGLES,
+            &[
+                // In its header, and in its contents.
+                (&[221], at(6, 0)),
+                (&[221, 1], at(6, 0)),
+                (&[221, 2, 7], at(6, 0)),
+                (&[221, 2, 7, 7], ACCEPTED),
+                (&[221, 221], at(6, 0)),
+                (&longest[..256], at(6, 0)),
+                // After a whole one, and after several.
+                (&[221, 0, 221], at(6, 2)),
+                (&[221, 0, 221, 1], at(6, 2)),
+                (&[221, 2, 7, 7, 221, 3, 0, 0], at(6, 4)),
+                (&[&longest[..], &[221]].concat(), at(6, 257)),
+                (&[&longest[..], &[221, 0, 221, 3, 37]].concat(), at(6, 259)),
+                // What looks like an element in its contents is none.
+                (&[221, 3, 221, 0], at(6, 0)),
+                (&[221, 6, 37, 3, 0, 36, 0], at(6, 0)),
+            ],
+        );
+    }
+
+    #[test]
+    fn what_is_left_over_after_vendors() {
+        for id in (0..=255u8).filter(|&id| id != 221) {
+            // Cut or whole, and whatever follows it: 22 at its first octet.
+            check_after(
+                &SINGLES,
+                &[
+                    (&[id], at(22, 0)),
+                    (&[id, 0], at(22, 0)),
+                    (&[id, 221], at(22, 0)),
+                    (&[id, 0, 221, 0], at(22, 0)),
+                    (&[221, 0, id], at(22, 2)),
+                    (&[221, 0, id, 9], at(22, 2)),
+                    (&[221, 1, 221, id, 0], at(22, 3)),
+                    (&[221, 1, id, id, 0, 221, 0], at(22, 3)),
+                    (&[221, 0, 221, 2, id, id, id, 1, 221], at(22, 6)),
+                ],
+            );
+        }
+        // A real element is left over as any other is.
+        check_bodies(&[
+            (&[0, 2, 7, 34, 0, 221, 0, 34, 0], at(22, 31)),
+            (&[0, 3, 0, 35, 2, 0, 0, 221, 1, 7, 35, 2, 0, 0], at(22, 34)),
+            (
+                &[0, 4, 37, 3, 0, 36, 0, 221, 0, 37, 3, 0, 36, 0],
+                at(22, 33),
+            ),
+            (&[0, 2, 7, 34, 0, 220, 0], at(22, 29)),
+            (&[0, 2, 7, 34, 0, 221, 0], ACCEPTED),
+            (&[0, 2, 7, 34, 0, 222, 0], at(22, 29)),
+        ]);
+    }
+
+    #[test]
+    fn a_vendor_in_front_is_another_element() {
+        for (body, id, place) in [
+            (&[0, 0, 5][..], 38, 27),
+            (&[0, 1, 0], 39, 27),
+            (&[0, 2, 7], 34, 27),
+            (&[0, 3, 0], 35, 27),
+            (&[0, 4], 37, 26),
+        ] {
+            let with = |octets: &[u8]| [body, octets].concat();
+            check_bodies(&[
+                (&with(&[]), at(7, place)),
+                // Half a header, whatever it is.
+                (&with(&[220]), at(6, place)),
+                (&with(&[221]), at(6, place)),
+                // Whole, cut, and before a real one.
+                (&with(&[221, 0]), at(21, place)),
+                (&with(&[221, 1]), at(21, place)),
+                (&with(&[221, 2, 7]), at(21, place)),
+                (&with(&[221, 1, 7]), at(21, place)),
+                (&with(&[221, 0, 221]), at(21, place)),
+                (&with(&[221, 0, 221, 0]), at(21, place)),
+                (&with(&[221, 0, id]), at(21, place)),
+                (&with(&[221, 0, id, 0]), at(21, place)),
+            ]);
+        }
+        for body in SINGLES {
+            let element_at = if body[1] == 4 { 2 } else { 3 };
+            let (front, element) = body.split_at(element_at);
+            let place = 24 + element_at;
+            let later = [front, &[221, 0], element].concat();
+            let around = [front, &[221, 0], element, &[221, 0]].concat();
+            check_bodies(&[(&later, at(21, place)), (&around, at(21, place))]);
+        }
+    }
+
+    #[test]
+    fn the_one_element_is_judged_before_what_is_after_it() {
+        for vendors in [&[221][..], &[221, 0], &[221, 1], &[221, 0, 0]] {
+            let with = |body: &[u8]| [body, vendors].concat();
+            check_bodies(&[
+                (&with(&[0, 2, 0, 34, 0]), at(9, 26)),
+                (&with(&[0, 2, 7, 34, 1, 0]), at(8, 27)),
+                (&with(&[0, 2, 7, 34, 9]), at(6, 27)),
+                (&with(&[0, 2, 7, 35, 0]), at(21, 27)),
+                (&with(&[0, 3, 7, 35, 1, 0]), at(8, 27)),
+                (&with(&[0, 3, 7, 35, 9, 0]), at(6, 27)),
+                (&with(&[0, 3, 7, 34, 0]), at(21, 27)),
+                (&with(&[0, 4, 37, 2, 0, 36]), at(8, 26)),
+                (&with(&[0, 4, 37, 3, 2, 36, 0]), at(9, 26)),
+                (&with(&[0, 4, 37, 3, 0, 201, 0]), at(9, 26)),
+                (&with(&[0, 4, 37, 9, 0, 36, 0]), at(6, 26)),
+                (&with(&[0, 4, 38, 3, 0, 36, 0]), at(21, 26)),
+            ]);
+        }
+    }
+
+    #[test]
+    fn vendors_between_and_after_measurements() {
+        for (body, further) in MEASUREMENTS {
+            let plain = read(&action(OWN, &[body, further].concat()));
+            assert!(plain.is_ok());
+            let longest = vendor(&[body[3]; 255]);
+            let some = [vendor(&[]), vendor(further), longest, vendor(&[221])].concat();
+            for between in [&[][..], &[221, 0], &[221, 1, 7, 221, 0], &some] {
+                for after in [&[][..], &[221, 0], &[221, 2, 221, 9, 221, 0], &some] {
+                    let mixed = [body, between, further, after].concat();
+                    assert_eq!(read(&action(OWN, &mixed)), plain);
+                }
+                check_after(&[body], &[(between, ACCEPTED)]);
+            }
+        }
+    }
+
+    #[test]
+    fn a_cut_vendor_among_measurements() {
+        for (body, further) in MEASUREMENTS {
+            let two = [body, &[221, 1, 7], further].concat();
+            check_after(
+                &[body, &two],
+                &[
+                    (&[221], at(6, 0)),
+                    (&[221, 1], at(6, 0)),
+                    (&[221, 2, 7], at(6, 0)),
+                    (&[221, 2, 7, 7], ACCEPTED),
+                    (&[221, 0, 221], at(6, 2)),
+                    (&[221, 0, 221, 1], at(6, 2)),
+                    (&[221, 2, 7, 7, 221, 3, 0, 0], at(6, 4)),
+                    (&vendor(&[7; 255])[..256], at(6, 0)),
+                    // A real element in its contents is none.
+                    (&[&[221, 6][..], further].concat(), at(6, 0)),
+                    (&[&[221, 5][..], further].concat(), ACCEPTED),
+                ],
+            );
+        }
+    }
+
+    #[test]
+    fn other_elements_among_measurements() {
+        for (body, further) in MEASUREMENTS {
+            let right = further[0];
+            for id in (0..=255u8).filter(|&id| id != 221) {
+                let another = |place| {
+                    if id == right {
+                        at(8, place)
+                    } else {
+                        at(21, place)
+                    }
+                };
+                check_after(
+                    &[body],
+                    &[
+                        (&[id], at(6, 0)),
+                        (&[id, 0], another(0)),
+                        (&[221, 0, id], at(6, 2)),
+                        (&[221, 0, id, 0], another(2)),
+                        (&[221, 1, id, id, 0, 221], another(3)),
+                        (&[221, 0, 221, 1, 7, id, 0], another(5)),
+                    ],
+                );
+                let cut = if id == right { at(6, 2) } else { at(21, 2) };
+                check_after(&[body], &[(&[221, 0, id, 9], cut)]);
+            }
+        }
+        check_bodies(&[
+            (&[0, 0, 5, 38, 3, 1, 2, 0, 220, 0], at(21, 32)),
+            (&[0, 0, 5, 38, 3, 1, 2, 0, 221, 0], ACCEPTED),
+            (&[0, 0, 5, 38, 3, 1, 2, 0, 222, 0], at(21, 32)),
+        ]);
+    }
+
+    #[test]
+    fn faults_after_vendors_count_the_skipped_octets() {
+        let requests = [0, 0, 5, 38, 3, 1, 2, 0, 221, 2, 38, 3];
+        let reports = [0, 1, 0, 39, 3, 1, 1, 0, 221, 2, 39, 3];
+        check_after(
+            &[&requests],
+            &[
+                (&[38, 2, 2, 2], at(8, 0)),
+                (&[38, 3, 0, 2, 0], at(9, 0)),
+                (&measure(2, 0, 201, 0, 1), at(9, 0)),
+                (&[38, 3, 2, 2], at(6, 0)),
+                (&[39, 3, 2, 1, 0], at(21, 0)),
+                // An element is judged before the vendor's after it.
+                (&[38, 3, 0, 2, 0, 221], at(9, 0)),
+                (&[38, 4, 2, 2, 0, 0, 221, 1], at(8, 0)),
+            ],
+        );
+        check_after(
+            &[&reports],
+            &[
+                (&[39, 2, 2, 1], at(8, 0)),
+                (&[39, 3, 2, 3, 0], at(9, 0)),
+                (&[39, 3, 2, 1], at(6, 0)),
+                (&[38, 3, 2, 2, 0], at(21, 0)),
+                (&[39, 3, 2, 3, 0, 221], at(9, 0)),
+                (&[39, 4, 2, 1, 0, 0, 221, 1], at(8, 0)),
+            ],
+        );
+        assert_eq!(24 + requests.len(), 36);
+    }
+
+    #[test]
+    fn a_repeat_after_vendors() {
+        let one = [0, 0, 5, 38, 3, 1, 2, 0];
+        check_after(
+            &[&one],
+            &[
+                (&[38, 3, 1, 2, 0], at(10, 0)),
+                (&[221, 0, 38, 3, 1, 2, 0], at(10, 2)),
+                (&[221, 0, 221, 1, 7, 38, 3, 1, 2, 0], at(10, 5)),
+                // The repeat comes before what is after it.
+                (&[221, 0, 38, 3, 1, 2, 0, 221], at(10, 2)),
+                (&[221, 0, 38, 3, 1, 2, 0, 0, 0], at(10, 2)),
+                // And a cut vendor's element before the repeat after it.
+                (&[221, 6, 38, 3, 1, 2, 0], at(6, 0)),
+                // A token in a vendor's contents is not used.
+                (&[221, 5, 38, 3, 1, 2, 0], ACCEPTED),
+            ],
+        );
+        let mixed = |token| {
+            let third = [38, 3, token, 2, 0];
+            [&one[..], &[221, 0, 38, 3, 2, 2, 0, 221, 1, 7], &third].concat()
+        };
+        check_bodies(&[
+            (&mixed(1), at(10, 42)),
+            (&mixed(2), at(10, 42)),
+            (&mixed(3), ACCEPTED),
+        ]);
+        // In reports a token may be used again, with a vendor's element or not.
+        check_bodies(&[(&[0, 1, 0, 39, 3, 1, 1, 0, 221, 0, 39, 3, 1, 1, 0], ACCEPTED)]);
+    }
+
+    #[test]
+    fn vendors_do_not_count_in_the_index() {
+        let vendors = [221, 0, 221, 1, 38];
+        let token = |request: Request| request.token;
+        let mut body = vec![0, 0, 5];
+        for token in 1..=3 {
+            body.extend_from_slice(&[38, 3, token, 2, 0]);
+            body.extend_from_slice(&vendors);
+        }
+        let frame = read(&action(OWN, &body)).unwrap().frame;
+        for index in 0..3 {
+            assert_eq!(frame.request(index).map(token), Ok(index as u8 + 1));
+            assert_eq!(frame.report(index), Err(16));
+        }
+        for past in [3, 4, 8, usize::MAX] {
+            assert_eq!(frame.request(past), Err(16));
+        }
+        assert!(matches!(
+            frame,
+            Frame::MeasurementRequest { requests, .. } if requests.len() == 3
+        ));
+        let token = |report: Report| report.token;
+        let mut body = vec![0, 1, 5];
+        for token in 1..=3 {
+            body.extend_from_slice(&[39, 3, token, 1, 0]);
+            body.extend_from_slice(&vendors);
+        }
+        let frame = read(&action(OWN, &body)).unwrap().frame;
+        for index in 0..3 {
+            assert_eq!(frame.report(index).map(token), Ok(index as u8 + 1));
+            assert_eq!(frame.request(index), Err(16));
+        }
+        for past in [3, 4, 8, usize::MAX] {
+            assert_eq!(frame.report(past), Err(16));
+        }
+        assert!(matches!(
+            frame,
+            Frame::MeasurementReport { reports, .. } if reports.len() == 3
+        ));
+    }
+
+    #[test]
+    fn vendors_up_to_the_longest_frame() {
+        let bodies = [
+            SINGLES[0],
+            SINGLES[1],
+            SINGLES[2],
+            MEASUREMENTS[0].0,
+            MEASUREMENTS[1].0,
+        ];
+        for body in bodies {
+            // The longest ones, and one that ends two octets before the limit.
+            let mut whole = action(OWN, body);
+            while whole.len() + 257 + 2 <= 2334 {
+                whole.extend_from_slice(&vendor(&[7; 255]));
+            }
+            let left = 2334 - whole.len() - 2;
+            whole.extend_from_slice(&vendor(&vec![7; left]));
+            assert_eq!(whole.len(), 2334);
+            let other = if body[1] < 2 { 21 } else { 22 };
+            let half = if body[1] < 2 { 6 } else { 22 };
+            for (more, expected) in [
+                (&[][..], ACCEPTED),
+                (&[221], at(6, 2334)),
+                (&[221, 0], ACCEPTED),
+                (&[221, 1], at(6, 2334)),
+                (&[222], at(half, 2334)),
+                (&[222, 0], at(other, 2334)),
+                (&[221, 0, 0], (2, None)),
+                (&[221, 1, 0], (2, None)),
+            ] {
+                assert_eq!(fault(&[&whole[..], more].concat()), expected);
+            }
+        }
+    }
+
+    #[test]
+    fn vendors_in_a_notice_as_before() {
+        check_elements(&[
+            (&[221], at(6, 36)),
+            (&[221, 0], ACCEPTED),
+            (&[221, 1], at(6, 36)),
+            (&[221, 1, 7], ACCEPTED),
+            (&[221, 0, 221], at(6, 38)),
+            (&[221, 1, 7, 32, 1, 3, 221, 0, 222, 0], ACCEPTED),
+            (&[221, 1, 7, 32, 1, 3, 221, 0, 32, 1, 3], at(10, 44)),
+            (&[32, 1, 3, 221, 2, 7], at(6, 39)),
+        ]);
+    }
+
+    /// Some element, often a right one of this ID and never a vendor's.
+    fn some_element(dice: &mut Dice, right: u8) -> Vec<u8> {
+        let id = match dice.roll(12) {
+            0 => 220 + 2 * dice.roll(2) as u8,
+            1 => 34 + dice.roll(6) as u8,
+            _ => right,
+        };
+        let mut contents: Vec<u8> = match id {
+            34 => vec![],
+            35 => vec![dice.roll(256) as u8, dice.roll(256) as u8],
+            37 => vec![0, dice.roll(210) as u8, 221],
+            38 => vec![1 + dice.roll(6) as u8, 2, 221],
+            _ => vec![221, 1 + dice.roll(3) as u8, 0],
+        };
+        if dice.roll(12) == 0 {
+            contents.push(221);
+        }
+        let head = vec![id, contents.len() as u8];
+        [head, contents].concat()
+    }
+
+    #[test]
+    fn vendors_change_nothing_but_places() {
+        let mut dice = Dice(221);
+        // How often each number was met with a vendor's element in the body.
+        let mut met = [0; 23];
+        for _ in 0..100_000 {
+            let number = dice.roll(5) as u8;
+            let mut plain = vec![0, number, 1 + dice.roll(5) as u8];
+            if number == 4 {
+                plain.pop();
+            }
+            let mut mixed = plain.clone();
+            // Where each element begins, without and with the vendors'.
+            let mut begins = Vec::new();
+            let right = [38, 39, 34, 35, 37][usize::from(number)];
+            let most = if number < 2 { 4 } else { 2 };
+            for _ in 0..dice.roll(most + 1) {
+                if !begins.is_empty() {
+                    for _ in 0..dice.roll(3) {
+                        let contents = some_element(&mut dice, right);
+                        mixed.append(&mut vendor(&contents));
+                    }
+                }
+                begins.push((24 + plain.len(), 24 + mixed.len()));
+                let element = some_element(&mut dice, right);
+                plain.extend_from_slice(&element);
+                mixed.extend_from_slice(&element);
+            }
+            // The last element is cut, or has vendors' elements after it.
+            if dice.roll(6) == 0 && !begins.is_empty() {
+                plain.pop();
+                mixed.pop();
+            } else if !begins.is_empty() {
+                mixed.append(&mut vendor(&[right, 0]).repeat(dice.roll(3) as usize));
+            }
+            let (number, place) = fault(&action(OWN, &plain));
+            let moved = place.map(|place| {
+                let begun = begins.iter().find(|begin| begin.0 == place);
+                begun.map_or(place, |begin| begin.1)
+            });
+            assert_eq!(fault(&action(OWN, &mixed)), (number, moved), "{:?}", mixed);
+            if number == 0 {
+                assert_eq!(read(&action(OWN, &mixed)), read(&action(OWN, &plain)));
+            }
+            if mixed != plain {
+                met[usize::from(number)] += 1;
+            }
+        }
+        for number in [0, 6, 8, 9, 10, 21, 22] {
+            assert!(met[number] > 100, "{:?}", met);
+        }
+    }
+
     /// What holds of the place of any refusal.
     fn check_place(frame: &[u8]) {
         let (number, offset) = fault(frame);
@@ -948,19 +1427,22 @@ mod tests {
     #[test]
     fn what_stands_before_a_place_is_whole() {
         // Every short run over a small alphabet, where each thing may stand.
-        let alphabet = [0u8, 1, 2, 3, 34, 37, 38, 39];
-        let fronts: [&[u8]; 7] = [
+        let alphabet = [0u8, 1, 2, 3, 34, 37, 38, 39, 221];
+        let fronts: [&[u8]; 10] = [
             &[],
             &[0, 0, 5],
             &[0, 0, 5, 38, 3, 1, 2, 0],
             &[0, 1, 0],
             &[0, 1, 0, 39, 3, 0, 1, 9],
+            &[0, 2, 7, 34, 0],
             &[0, 3, 0],
+            &[0, 3, 0, 35, 2, 0, 0],
             &[0, 4],
+            &[0, 4, 37, 3, 1, 1, 1],
         ];
-        for number in 0..8usize.pow(5) {
+        for number in 0..9usize.pow(5) {
             let run: Vec<u8> = (0..5)
-                .map(|place| alphabet[number / 8usize.pow(place) % 8])
+                .map(|place| alphabet[number / 9usize.pow(place) % 9])
                 .collect();
             for front in fronts {
                 check_place(&action(OWN, &[front, &run].concat()));
@@ -979,11 +1461,11 @@ mod tests {
     #[test]
     fn no_octets_make_it_panic() {
         // Every short body over a small alphabet, after each subtype.
-        let alphabet = [0u8, 1, 2, 3, 34, 37, 38, 39];
+        let alphabet = [0u8, 1, 2, 3, 34, 37, 38, 39, 221];
         for subtype in [5u8, 8, 13] {
-            for number in 0..8usize.pow(5) {
+            for number in 0..9usize.pow(5) {
                 let body: Vec<u8> = (0..5)
-                    .map(|place| alphabet[number / 8usize.pow(place) % 8])
+                    .map(|place| alphabet[number / 9usize.pow(place) % 9])
                     .collect();
                 for length in 0..=5 {
                     let mut frame = crate::sample::header(subtype, OWN);

@@ -1,5 +1,5 @@
 //! A second, independent reading of document 01 ("Scope of the build and its
-//! rules") and of requests One and Two in document 02, over IEEE Std
+//! rules") and of requests One, Two and Four in document 02, over IEEE Std
 //! 802.11h-2003: elements, action frames, replies, one non-AP station, and the
 //! evening list of a capture.
 //!

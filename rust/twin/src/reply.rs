@@ -204,7 +204,7 @@ fn lay_reply(own: Address, ap: Address, body: &[u8], out: &mut [u8]) -> Result<u
 mod tests {
     use super::*;
     use crate::read_frame;
-    use crate::sample::{action, header, measure, notice, ALL, AP, OWN};
+    use crate::sample::{action, header, measure, notice, vendor, ALL, AP, OWN};
 
     const TPC: [u8; 5] = [0, 2, 7, 34, 0];
 
@@ -325,7 +325,7 @@ mod tests {
     }
 
     /// Bodies that are refused, with the number, and what is returned of them.
-    const BROKEN: [(u8, &[u8], &[u8]); 23] = [
+    const BROKEN: [(u8, &[u8], &[u8]); 30] = [
         (1, &[0], &[0x80]),
         (1, &[0, 0], &[0x80, 0]),
         (1, &[0, 2], &[0x80, 2]),
@@ -364,6 +364,34 @@ mod tests {
             22,
             &[0, 4, 37, 3, 1, 200, 0, 0],
             &[0x80, 4, 37, 3, 1, 200, 0, 0],
+        ),
+        // Vendors' elements are returned too, whole or cut (02, Four).
+        (6, &[0, 2, 7, 34, 0, 221], &[0x80, 2, 7, 34, 0, 221]),
+        (
+            6,
+            &[0, 4, 37, 3, 0, 36, 0, 221, 0, 221, 2, 7],
+            &[0x80, 4, 37, 3, 0, 36, 0, 221, 0, 221, 2, 7],
+        ),
+        (
+            6,
+            &[0, 0, 9, 38, 3, 1, 2, 0, 221, 3, 1, 2],
+            &[0x80, 0, 9, 38, 3, 1, 2, 0, 221, 3, 1, 2],
+        ),
+        (
+            6,
+            &[0, 1, 0, 39, 3, 0, 1, 9, 221, 0, 221],
+            &[0x80, 1, 0, 39, 3, 0, 1, 9, 221, 0, 221],
+        ),
+        (
+            10,
+            &[0, 0, 9, 38, 3, 1, 2, 0, 221, 0, 38, 3, 1, 2, 0],
+            &[0x80, 0, 9, 38, 3, 1, 2, 0, 221, 0, 38, 3, 1, 2, 0],
+        ),
+        (21, &[0, 2, 7, 221, 0, 34, 0], &[0x80, 2, 7, 221, 0, 34, 0]),
+        (
+            22,
+            &[0, 3, 0, 35, 2, 0, 0, 221, 1, 7, 222, 0],
+            &[0x80, 3, 0, 35, 2, 0, 0, 221, 1, 7, 222, 0],
         ),
     ];
 
@@ -555,7 +583,84 @@ mod tests {
             &[0, 4, 37, 3, 1, 200, 0],
         ] {
             assert_eq!(returned(&action(OWN, body)), Err(18));
+            // Nor with whole vendors' elements after it (02, Four).
+            let more = [body, &[221, 0, 221, 1, 7]].concat();
+            assert_eq!(returned(&action(OWN, &more)), Err(18));
         }
+    }
+
+    #[test]
+    fn a_tpc_request_with_vendors_after_it() {
+        let mut plain = [0xEE; 33];
+        assert_eq!(tpc(&action(OWN, &TPC), &mut plain), Ok(31));
+        for vendors in [&[221, 0][..], &[221, 1, 7], &[221, 2, 34, 0, 221, 0]] {
+            let frame = action(OWN, &[&TPC, vendors].concat());
+            let mut out = [0xEE; 33];
+            assert_eq!(tpc(&frame, &mut out), Ok(31));
+            assert_eq!(out, plain);
+            assert_eq!(reply(&frame, 0, 0, Finding::Refused), Err(16));
+            let frame = action(ALL, &[&TPC, vendors].concat());
+            assert_eq!(tpc(&frame, &mut out), Err(18));
+        }
+    }
+
+    #[test]
+    fn vendors_do_not_count_among_the_requests() {
+        // Type 3 is Incapable, Enable gets none, and the map is of the third.
+        let asked = [
+            vec![38, 3, 1, 0, 3],
+            vec![38, 3, 2, 2, 0],
+            measure(3, 0, 36, 0, 2),
+        ];
+        let plain = requests(&asked);
+        for vendors in [vendor(&[]), vendor(&measure(4, 0, 36, 0, 2)).repeat(2)] {
+            let mixed = requests(&[
+                asked[0].clone(),
+                vendors.clone(),
+                asked[1].clone(),
+                vendors.clone(),
+                asked[2].clone(),
+                vendors,
+            ]);
+            for index in [0, 1, 2, 3, 4, 5, usize::MAX] {
+                for finding in [Finding::Refused, Finding::Map(1), Finding::Busy(0)] {
+                    let answer = reply(&mixed, 7, index, finding);
+                    assert_eq!(answer, reply(&plain, 7, index, finding));
+                }
+            }
+        }
+        // The second of two, with a vendor's element between.
+        let two = requests(&[
+            measure(1, 1, 36, 0, 2),
+            vendor(&[7]),
+            measure(2, 0, 40, 0, 2),
+        ]);
+        assert_eq!(
+            reply(&two, 0, 1, Finding::Map(8)),
+            Ok(vec![
+                0, 1, 9, 39, 15, 2, 0, 0, 40, 0, 0, 0, 0, 0, 0, 0, 0, 2, 0, 8
+            ])
+        );
+        assert_eq!(reply(&two, 0, 2, Finding::Map(8)), Err(16));
+    }
+
+    #[test]
+    fn error_returns_with_the_most_vendors() {
+        // 3 + 5 + 1,152 * 2 = 2,312 octets are the longest body.
+        let mut body = vec![0, 0, 9, 38, 3, 1, 2, 0];
+        body.append(&mut vendor(&[]).repeat(1152));
+        assert_eq!(body.len(), 2312);
+        let whole = action(OWN, &body);
+        assert_eq!(reply(&whole, 0, 0, Finding::Refused), Err(18));
+        assert_eq!(reply(&whole, 0, 1, Finding::Refused), Err(16));
+        // The last one is cut, in its contents or its header.
+        body[2311] = 1;
+        let mut expected = body.clone();
+        expected[0] = 0x80;
+        assert_eq!(returned(&action(OWN, &body)), Ok(expected.clone()));
+        body.pop();
+        expected.pop();
+        assert_eq!(returned(&action(OWN, &body)), Ok(expected));
     }
 
     #[test]

@@ -1,5 +1,6 @@
 //! Octets for the tests.
 
+use crate::element::element_octets;
 use crate::Address;
 
 pub(crate) const OWN: Address = [0x02, 0x11, 0x22, 0x33, 0x44, 0x55];
@@ -47,6 +48,11 @@ pub(crate) fn measure(token: u8, kind: u8, channel: u8, start: u64, duration: u1
     element.extend_from_slice(&start.to_le_bytes());
     element.extend_from_slice(&duration.to_le_bytes());
     element
+}
+
+/// A vendor's element.
+pub(crate) fn vendor(contents: &[u8]) -> Vec<u8> {
+    element_octets(221, contents)
 }
 
 /// A capture record.

@@ -479,7 +479,7 @@ fn mark_run(start: u64, end: u64, from: u64, units: &mut [u8]) {
 mod tests {
     use super::*;
     use crate::frame::Notice;
-    use crate::sample::{action, notice, quiet, Dice, ALL, AP, OWN};
+    use crate::sample::{action, notice, quiet, vendor, Dice, ALL, AP, OWN};
 
     fn fresh() -> Station {
         Station::start(OWN, AP, 100, 36).unwrap()
@@ -1261,6 +1261,40 @@ mod tests {
     }
 
     #[test]
+    fn an_announcement_with_vendors_after_it() {
+        let longest = vendor(&[7; 255]);
+        for vendors in [&[221, 0][..], &[221, 5, 37, 3, 0, 48, 0], &longest] {
+            for times in 1..=3 {
+                let after = vendors.repeat(times);
+                let announced = |mode, channel, count| {
+                    [announcement(mode, channel, count), after.clone()].concat()
+                };
+                let mut plain = fresh();
+                let mut station = fresh();
+                // Mode 1, and mode 0 in its place, and at once.
+                for (moment, mode, channel, count) in
+                    [(50, 1, 44, 2), (120, 0, 48, 1), (230, 1, 52, 0)]
+                {
+                    go(&mut plain, moment);
+                    go(&mut station, moment);
+                    let heard = plain.take(&announcement(mode, channel, count));
+                    assert_eq!(heard, Ok(()));
+                    assert_eq!(station.take(&announced(mode, channel, count)), Ok(()));
+                    assert_eq!(station, plain);
+                }
+                assert_eq!((station.ask(65_535), station.channel()), (0, 52));
+            }
+        }
+        let mut station = fresh();
+        let frame = action(ALL, &[0, 4, 37, 3, 1, 44, 1, 221, 1, 7]);
+        assert_eq!(station.take(&frame), Ok(()));
+        go(&mut station, 99);
+        assert_eq!((station.ask(1), station.channel()), (1, 36));
+        go(&mut station, 100);
+        assert_eq!((station.ask(1), station.channel()), (0, 44));
+    }
+
+    #[test]
     fn count_0_is_at_once() {
         let mut station = quieted(0);
         go(&mut station, 120);
@@ -1361,6 +1395,20 @@ mod tests {
             (notice(8, OWN, 99, &[]), 12, Some(32)),
             (action(OWN, &[0, 4, 38, 3, 0, 48, 0]), 21, Some(26)),
             (action(OWN, &[0, 4, 37, 3, 0, 48, 0, 0]), 22, Some(31)),
+            // Cut vendors' elements, one in front, and what is after them.
+            (action(OWN, &[0, 4, 37, 3, 0, 48, 0, 221]), 6, Some(31)),
+            (action(OWN, &[0, 4, 37, 3, 0, 48, 0, 221, 1]), 6, Some(31)),
+            (
+                action(OWN, &[0, 4, 37, 3, 0, 48, 0, 221, 0, 221]),
+                6,
+                Some(33),
+            ),
+            (action(OWN, &[0, 4, 221, 0, 37, 3, 0, 48, 0]), 21, Some(26)),
+            (
+                action(OWN, &[0, 4, 37, 3, 0, 48, 0, 221, 0, 222, 0]),
+                22,
+                Some(33),
+            ),
         ] {
             let refusal = Refusal { number, offset };
             assert_eq!(station.take(&frame), Err(refusal));
@@ -1373,6 +1421,10 @@ mod tests {
             action(OWN, &[0, 1, 7, 39, 3, 1, 1, 0]),
         ] {
             assert_eq!(station.take(&frame), Ok(()));
+            assert_eq!(station, before);
+            // Nor does a vendor's element, whatever its contents.
+            let more = [frame, vendor(&[37, 3, 0, 48, 0])].concat();
+            assert_eq!(station.take(&more), Ok(()));
             assert_eq!(station, before);
         }
     }

@@ -77,7 +77,7 @@ returns-3 c = let k = c .before .before in at-end _ _ _ _ _ _ (k .before .loop .
 returns-4 : tie.Need-returns-4 Inv-loop μ-loop
 returns-4 c =
     let k = c .before .before .before in
-    c .refused-at2 .ensures ∙ ap laid (at-cut-header _ _ _ _ _ _ (k .before .loop .inv) (stands k _ (c .before .enum-told2 .given .1)))
+    c .refused-at2 .ensures ∙ ap laid (at-cut-header _ _ _ _ _ _ (k .before .loop .inv) _ (stands k _ (c .before .enum-told2 .given .1)))
 
 returns-5 : tie.Need-returns-5 Inv-loop μ-loop
 returns-5 c =

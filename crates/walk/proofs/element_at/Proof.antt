@@ -9,7 +9,7 @@ returns : tie.Need-returns
 returns c = (at-end _ _ (c .if1 .taken), c .if1 .taken)
 
 returns-2 : tie.Need-returns-2
-returns-2 c = (at-cut-header _ _ (c .before .if1 .left) (c .if2 .taken), tt)
+returns-2 c = (at-cut-header _ _ (c .before .before .if1 .left) (c .if2 .taken), tt)
 
 returns-3 : tie.Need-returns-3
 returns-3 c =
@@ -31,8 +31,8 @@ element-at-spec =
     (tie.spec
     returns
     (λ c. search needs)
-    returns-2
     (λ c. search needs)
+    returns-2
     (λ c. search needs)
     (λ c. search needs)
     (λ c κs. search needs)

@@ -9,13 +9,13 @@ use Rattle.walk.specs.declared.Found.{Found}
 
 abbrev pub follow : List ℕ → Found → Elements
 follow run Found.End = end
-follow run Found.CutHeader = cutHeader
+follow run (Found.CutHeader o) = cutHeader o
 follow run (Found.CutContents id) = cutContents id
 follow run (Found.Whole id start stop) = more id (take (stop - start) (drop start run)) (elementsIn (drop stop run))
 
 -- an element at a place begins two octets past it, and ends in the run
 abbrev pub Within : ℕ → ℕ → Found → Type 0
 Within at size Found.End = size ≤ at
-Within at size Found.CutHeader = Unit {0}
+Within at size (Found.CutHeader o) = Unit {0}
 Within at size (Found.CutContents id) = Unit {0}
 Within at size (Found.Whole id start stop) = (start ≡ at + 2) × (start ≤ stop) × (stop ≤ size)

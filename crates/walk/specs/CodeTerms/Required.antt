@@ -4,13 +4,13 @@ use mathlib.Core.Path.{_≡_}
 use Prim.Native.Nat.{ℕ, _+_, _-_, _≤_}
 use lib.ListN.{take, drop}
 use Rattle.answer.specs.Checks.{Outcome, refused, accepted}
-use Rattle.walk.specs.Elements.{elementsIn}
+use Rattle.walk.specs.Handed.{passingIn}
 use Rattle.walk.specs.Required.{Standing}
 use Rattle.walk.specs.declared.Required.{Required}
 
 -- the contents from a place to another, and the elements after them
 abbrev pub between : List ℕ → ℕ → ℕ → Standing
-between run start stop = record { contents = take (stop - start) (drop start run); rest = elementsIn (drop stop run) }
+between run start stop = record { contents = take (stop - start) (drop start run); rest = passingIn (drop stop run) }
 
 -- the outcome that each case of the answer stands for
 abbrev pub requiredTold : List ℕ → Required → Outcome Standing

@@ -10,7 +10,7 @@ use Rattle.element.specs.ChannelSwitch.{switchMeans}
 use Rattle.element.specs.TpcReport.{tpcReportMeans}
 use Rattle.element.specs.TpcRequest.{tpcRequestMeans}
 use Rattle.single_body.specs.declared.kinds.Single.{Single}
-use Rattle.walk.specs.Elements.{elementsIn}
+use Rattle.walk.specs.Handed.{handedIn}
 use Rattle.frame.specs.Actions.{tpcRequest, tpcReport, switch, afterOpening, actionMeans}
 use Rattle.frame.specs.CodeTerms.Located.{located}
 use Rattle.frame.proofs.Indexing.{one-element}
@@ -38,7 +38,7 @@ returns-2 : tie.Need-returns-2
 returns-2 c =
     let a = c .before .before .before .before .before .args in
     c .read-single .ensures
-    ∙ one-element (a .body .now) (a .index) switchFixedFields 37 switchMeans (elementsIn (drop switchFixedFields (a .body .now))) 0 Single.ChannelSwitch switch (λ s. refl)
+    ∙ one-element (a .body .now) (a .index) switchFixedFields 37 switchMeans (handedIn (drop switchFixedFields (a .body .now))) 0 Single.ChannelSwitch switch (λ s. refl)
     ∙ after (c .before .before .before) (c .before .enum-told .given .1)
 
 returns-3 : tie.Need-returns-3
@@ -56,7 +56,7 @@ returns-5 c =
     let a = c .before .before .before .before .before .before .before .args in
     let token = c .before .before .before .action .given .0 .1 .0 in
     c .read-single2 .ensures
-    ∙ one-element (a .body .now) (a .index) fixedFields 34 tpcRequestMeans (elementsIn (drop fixedFields (a .body .now))) token (λ u. Single.TpcRequest) (λ u. tpcRequest token) (λ u. refl)
+    ∙ one-element (a .body .now) (a .index) fixedFields 34 tpcRequestMeans (handedIn (drop fixedFields (a .body .now))) token (λ u. Single.TpcRequest) (λ u. tpcRequest token) (λ u. refl)
     ∙ numbered (a .index) (a .body .now) token (c .before .match2 .keys3) ∙ after (c .before .before .before .before .before) (c .before .before .before .action .given .1)
 
 returns-6 : tie.Need-returns-6
@@ -65,7 +65,7 @@ returns-6 c =
     let token = c .before .before .before .action .given .0 .1 .0 in
     let other = c .before .match2 .rest in
     c .read-single3 .ensures
-    ∙ one-element (a .body .now) (a .index) fixedFields 35 tpcReportMeans (elementsIn (drop fixedFields (a .body .now))) token Single.TpcReport (tpcReport token) (λ t. refl)
+    ∙ one-element (a .body .now) (a .index) fixedFields 35 tpcReportMeans (handedIn (drop fixedFields (a .body .now))) token Single.TpcReport (tpcReport token) (λ t. refl)
     ∙ ap (located (a .index) (a .body .now)) (sym (last (a .body .now) (c .before .before .before .action .given .0 .0) token (other .0 .0 .1) (other .0 .1) (other .1)))
     ∙ after (c .before .before .before .before .before) (c .before .before .before .action .given .1)
 

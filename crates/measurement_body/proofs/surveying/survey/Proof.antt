@@ -5,11 +5,18 @@ use mathlib.Core.List.{List}
 use Prim.Native.Nat.{ℕ, _-_, _<_}
 use native.Mathlib.Omega.{arith}
 use lib.ListN.{length, take, drop, getD}
+use Rattle.answer.specs.Checks.{refused}
+use Rattle.answer.specs.Faults.{faultAt}
+use Rattle.answer.specs.declared.Refusal.{Refusal}
+use Rattle.walk.proofs.Passing.{no-further-back}
 use Rattle.walk.proofs.Requiring.{Lies, lies, is-not}
+use Rattle.walk.specs.CodeTerms.Next.{nextAfter}
+use Rattle.walk.specs.Handed.{passingIn}
+use Rattle.walk.specs.declared.Next.{Next}
 use Rattle.measurement_body.specs.Kinds.{sortOf}
 use Rattle.measurement_body.specs.declared.kinds.Kind.{Kind}
 use Rattle.measurement_body.proofs.Judgements.{Holds, unread, holds}
-use Rattle.measurement_body.proofs.Walked.{Walked, start, absent, unfit, again, further, read, refused-as}
+use Rattle.measurement_body.proofs.Walked.{Walked, start, absent, unfit, again, cut-after, further, read, refused-as}
 use borrow.Author.Needs.{needs}
 use Rattle.measurement_body.proofs.surveying.survey.Statement.{statement}
 use Rattle.measurement_body.proofs.surveying.survey.Tie as tie
@@ -123,28 +130,57 @@ returns-3 c =
 array-write-marks : tie.Need-array-write-marks Inv-loop μ-loop
 array-write-marks c = let h = c .before .before in omega (arith, small h, turn (meets h) .loop .inv .marked .all)
 
+-- ---- past what is passed over
+
+-- what the element holds that it comes after
+abbrev holder : tie.After-pass-over Inv-loop μ-loop → tie.After-known-told4 Inv-loop μ-loop
+holder c = c .before .before .before
+
+-- where the walk then stands
+abbrev next : tie.After-pass-over Inv-loop μ-loop → Next
+next c = nextAfter (stop (meets (holder c))) (passingIn (drop (stop (meets (holder c))) (body (meets (holder c)))))
+
+new : (c : tie.After-pass-over Inv-loop μ-loop) → (sortOf (kind (meets (holder c))) .once && getD (marks (holder c)) (own (holder c)) false) ≡ false
+new c = repeat (c .before .before) (c .before .if1 .left)
+
+is-cut : (c : tie.After-pass-over Inv-loop μ-loop) {t : Bool} → c .pass-over .result .cut ≡ t → next c .cut ≡ t
+is-cut c e = ap (λ (x : Next). x .cut) (sym (c .pass-over .ensures)) ∙ e
+
+returns-4 : tie.Need-returns-4 Inv-loop μ-loop
+returns-4 c =
+    let k = c .before .before in
+    let h = holder k in
+    let l = turn (meets h) in
+    let a = entry l .args in
+    refused-as (sortOf (a .kind)) (a .index) (a .token) (a .body .now) (c .refused4 .ensures)
+    (cut-after (l .loop .inv) (place (meets h)) (held h) (small h) (new k) (is-cut k (c .before .if2 .taken))
+    ∙ ap (λ (x : Next). refused (faultAt (x .at) Refusal.ElementCut)) (sym (k .pass-over .ensures)))
+
 add-count : tie.Need-add-count Inv-loop μ-loop
 add-count c =
-    let k = meets (c .before .before .before .before) in
-    let p = place k in
-    omega (arith, turn k .loop .inv .few, p .begins, p .ordered, p .inside)
+    let m = meets (holder (c .before .before .before .before)) in
+    let p = place m in
+    omega (arith, turn m .loop .inv .few, p .begins, p .ordered, p .inside)
 
 loop-less : tie.Need-loop-less Inv-loop μ-loop
 loop-less c =
-    let p = place (meets (c .before .before .before .before .before)) in
-    omega (arith, p .begins, p .ordered, p .inside)
+    let k = c .before .before .before .before .before in
+    let m = meets (holder k) in
+    let p = place m in
+    omega (arith, p .begins, p .ordered, p .inside, ap (λ (x : Next). x .at) (k .pass-over .ensures), no-further-back (passingIn (drop (stop m) (body m))) (stop m))
 
 loop-again : tie.Need-loop-again Inv-loop μ-loop
 loop-again c =
-    let h = c .before .before .before .before .before in
-    rw (c .before .before .keep .ensures, c .before .both2 .ensures, c .has-left-over .ensures)
-    (further (turn (meets h) .loop .inv) (place (meets h)) (held h) (small h) (repeat (c .before .before .before .before) (c .before .before .before .if1 .left)))
+    let k = c .before .before .before .before .before in
+    let h = holder k in
+    rw (c .has-left-over .ensures, c .before .both3 .ensures, c .before .before .both2 .ensures, c .before .before .before .keep .ensures, k .pass-over .ensures)
+    (further (turn (meets h) .loop .inv) (place (meets h)) (held h) (small h) (new k) (is-cut k (c .before .before .before .before .if2 .left)))
 
 array-read-hit : tie.Need-array-read-hit Inv-loop μ-loop
 array-read-hit c = omega (arith, c .before .loop .inv .marked .all)
 
-returns-4 : tie.Need-returns-4 Inv-loop μ-loop
-returns-4 c = read (c .before .loop .inv) (c .loop-test .left) (c .before .before .before .before .before .args .token) (search needs)
+returns-5 : tie.Need-returns-5 Inv-loop μ-loop
+returns-5 c = read (c .before .loop .inv) (c .loop-test .left) (c .before .before .before .before .before .args .token) (search needs)
 
 pub survey-spec : {M : Type 1} → statement M
 survey-spec =
@@ -176,9 +212,13 @@ survey-spec =
     array-write-marks
     (λ c κs. search needs)
     (λ c κs. search needs)
+    returns-4
+    (λ c κs. search needs)
+    (λ c κs. search needs)
+    (λ c κs. search needs)
     add-count
     (λ c κs. search needs)
     loop-less
     loop-again
     array-read-hit
-    returns-4)
+    returns-5)

@@ -1,15 +1,21 @@
 -- `read` meets its contract: each way out is a way of a body of one element.
 use mathlib.Core.Path.{_≡_, sym, ap, ap₂, _∙_}
 use mathlib.Core.List.{List}
-use Prim.Native.Nat.{ℕ}
-use lib.ListN.{drop}
-use Rattle.answer.specs.Checks.{refused}
-use Rattle.walk.specs.Elements.{elementsIn}
+use Prim.Native.Nat.{ℕ, _-_}
+use lib.Dec.{ltb}
+use lib.ListN.{length, take, drop}
+use Rattle.answer.specs.Checks.{refused, accepted}
+use Rattle.answer.specs.Faults.{faultAt, Placed, placedAt}
+use Rattle.answer.specs.declared.Refusal.{Refusal}
+use Rattle.walk.specs.CodeTerms.Next.{nextAfter}
+use Rattle.walk.specs.Handed.{passingIn, handedIn}
+use Rattle.walk.specs.declared.Next.{Next}
 use Rattle.walk.proofs.Requiring.{Lies, lies, is-not}
 use Rattle.single_body.specs.Kinds.{singleTold, contentsMean, idOf, fieldsBefore}
 use Rattle.single_body.specs.Singles.{single}
 use Rattle.single_body.specs.declared.kinds.Kind.{Kind}
-use Rattle.single_body.proofs.Singling.{not-there, bad, crowded, good}
+use Rattle.single_body.specs.declared.kinds.Single.{Single}
+use Rattle.single_body.proofs.Singling.{not-there, bad, cut-after, crowded, good}
 use borrow.Author.Needs.{needs}
 use Rattle.single_body.proofs.reading.read.Statement.{statement}
 use Rattle.single_body.proofs.reading.read.Tie as tie
@@ -28,10 +34,10 @@ abbrev id : tie.After-required-at → ℕ
 id c = c .before .id .result
 
 -- the place and the ID are those of the kind
-by-kind : (c : tie.After-required-at) → single (at c) (id c) (contentsMean (kind c)) (elementsIn (drop (at c) (body c)))
-    ≡ single (fieldsBefore (kind c)) (idOf (kind c)) (contentsMean (kind c)) (elementsIn (drop (fieldsBefore (kind c)) (body c)))
+by-kind : (c : tie.After-required-at) → single (at c) (id c) (contentsMean (kind c)) (handedIn (drop (at c) (body c)))
+    ≡ single (fieldsBefore (kind c)) (idOf (kind c)) (contentsMean (kind c)) (handedIn (drop (fieldsBefore (kind c)) (body c)))
 by-kind c =
-    ap₂ (λ (i n : ℕ). single n i (contentsMean (kind c)) (elementsIn (drop n (body c)))) (c .before .id .ensures) (c .before .before .fixed-fields .ensures)
+    ap₂ (λ (i n : ℕ). single n i (contentsMean (kind c)) (handedIn (drop n (body c)))) (c .before .id .ensures) (c .before .before .fixed-fields .ensures)
 
 -- where the contents lie
 module _ (c : tie.After-known-told2) where
@@ -55,39 +61,63 @@ part-read-contents-start c = place c .ordered
 part-read-contents-end : tie.Need-part-read-contents-end
 part-read-contents-end c = place c .inside
 
+-- what was said, and where the walk stands past what is passed over
+module _ (c : tie.After-pass-over) where
+  abbrev here : tie.After-known-told2
+  here = c .before .before .before .before .before .before
+
+  abbrev looked : tie.After-required-at
+  looked = here .before .before .before
+
+  said-is : accepted (c .before .before .said .given .0 .0) ≡ placedAt (at looked) (contentsMean (kind looked) (take (stop here - start here) (drop (start here) (body looked))))
+  said-is = ap singleTold (sym (c .before .before .said .given .1)) ∙ c .before .before .before .before .read-contents .ensures
+
+  -- a test of where it stands
+  stands : {A : Type 0} (f : Next → A) {x : A} → f (c .pass-over .result) ≡ x → f (nextAfter (stop here) (passingIn (drop (stop here) (body looked)))) ≡ x
+  stands f e = ap f (sym (c .pass-over .ensures)) ∙ e
+
+  left-from : (refusal : Refusal)
+      → _≡_ {A = Placed Single} (refused (faultAt (c .pass-over .result .at) refusal)) (refused (faultAt (nextAfter (stop here) (passingIn (drop (stop here) (body looked))) .at) refusal))
+  left-from refusal = ap (λ (x : Next). refused (faultAt (x .at) refusal)) (c .pass-over .ensures)
+
 returns : tie.Need-returns
 returns c =
-    let k = c .before in
-    let m = k .before .before .before in
-    let p = m .before .before .before .before in
-    let r = p .before .before .before in
-    ap refused (c .at2 .ensures)
-    ∙ crowded (at r) (id r) (contentsMean (kind r)) (place p) (ap singleTold (sym (m .said .given .1)) ∙ m .before .before .read-contents .ensures)
-    (sym (k .before .has-left-over .ensures) ∙ k .if1 .taken)
+    let k = c .before .before in
+    let r = looked k in
+    ap refused (c .at2 .ensures) ∙ left-from k Refusal.ElementCut
+    ∙ cut-after (at r) (id r) (contentsMean (kind r)) (place (here k)) (said-is k) (stands k (λ x. x .cut) (c .before .if1 .taken))
     ∙ by-kind r
 
 returns-2 : tie.Need-returns-2
 returns-2 c =
+    let k = c .before .before .before .before in
+    let r = looked k in
+    ap refused (c .at3 .ensures) ∙ left-from k Refusal.LeftOver
+    ∙ crowded (at r) (id r) (contentsMean (kind r)) (place (here k)) (said-is k) (stands k (λ x. x .cut) (c .before .before .before .if1 .left))
+    (stands k (λ x. ltb (x .at) (length (body r))) (sym (c .before .before .has-left-over .ensures) ∙ c .before .if2 .taken))
+    ∙ by-kind r
+
+returns-3 : tie.Need-returns-3
+returns-3 c =
     let k = c .before in
     let r = k .before .before .before in
     ap refused (c .at .ensures)
     ∙ not-there (at r) (id r) (contentsMean (kind r)) _ (is-not (body r) (at r) (id r) (r .required-at .result) (r .required-at .ensures .0) (k .before .refusal .given .1))
     ∙ by-kind r
 
-returns-3 : tie.Need-returns-3
-returns-3 c =
+returns-4 : tie.Need-returns-4
+returns-4 c =
     let m = c .before .before .before in
     let p = m .before .before in
     let r = p .before .before .before in
     bad (at r) (id r) (contentsMean (kind r)) (place p) (ap singleTold (sym (c .before .fault .given .1)) ∙ m .read-contents .ensures) ∙ by-kind r
 
-returns-4 : tie.Need-returns-4
-returns-4 c =
-    let m = c .before .before .before in
-    let p = m .before .before .before .before in
-    let r = p .before .before .before in
-    good (at r) (id r) (contentsMean (kind r)) (place p) (ap singleTold (sym (m .said .given .1)) ∙ m .before .before .read-contents .ensures)
-    (sym (c .before .has-left-over .ensures) ∙ c .if1 .left)
+returns-5 : tie.Need-returns-5
+returns-5 c =
+    let k = c .before .before .before in
+    let r = looked k in
+    good (at r) (id r) (contentsMean (kind r)) (place (here k)) (said-is k) (stands k (λ x. x .cut) (c .before .before .if1 .left))
+    (stands k (λ x. ltb (x .at) (length (body r))) (sym (c .before .has-left-over .ensures) ∙ c .if2 .left))
     ∙ by-kind r
 
 pub read-spec : {M : Type 1} → statement M
@@ -109,6 +139,9 @@ read-spec =
     (λ c κs. search needs)
     (λ c κs. search needs)
     returns
+    (λ c κs. search needs)
+    (λ c κs. search needs)
     returns-2
     returns-3
-    returns-4)
+    returns-4
+    returns-5)
