@@ -10,8 +10,8 @@ use lib.Dec.{ltb}
 use Rattle.answer.proofs.Booleans.{clash, either}
 use Rattle.schedule.specs.declared.Schedule.{Schedule}
 use Rattle.schedule.specs.Schedules.{Covers, covered}
-use Rattle.schedule.specs.Units.{someUnit}
-use Rattle.schedule.proofs.FirstUnit.{some-none, some-one, first}
+use Rattle.schedule.specs.Units.{firstUnit}
+use Rattle.schedule.proofs.FirstUnit.{none-passes, first-at}
 
 zero-or-more : (n : ℕ) → (n ≡ 0) ⊎ (0 < n)
 zero-or-more zero = inl refl
@@ -72,53 +72,50 @@ module _ (s : Schedule) where
       ap (λ (n : ℕ). n % s .period) (let q : u - s .start ≡ u - (s .start + j * s .period) + j * s .period = omega arith in q)
       ∙ add-mul-mod-self-right (u - (s .start + j * s .period)) j (s .period)
 
--- ---- some unit from a on and before b: a law for each way out of `covers_some`
+-- ---- the first unit from a on and before b: a law for each way out of `first_covered`
 
 module _ (s : Schedule) (a b : ℕ) where
-  pub some-never : s .duration ≡ 0 → false ≡ someUnit (covered s) a (b - a)
-  some-never e = sym (some-none (covered s) a (b - a) (λ u l h. never s u e))
+  pub first-never : a < b → s .duration ≡ 0 → b ≡ firstUnit (covered s) a (b - a)
+  first-never h e = none-passes (covered s) a b (omega arith) (λ u l k. never s u e)
 
-  pub some-to-come : (s .duration ≡ 0 → ⊥) → a < s .start → ltb (s .start) b ≡ someUnit (covered s) a (b - a)
-  some-to-come d h = first (covered s) a b (s .start) (omega arith) (λ u l k. before-start s u k) (at-start s (omega arith))
+  pub first-starts : (s .duration ≡ 0 → ⊥) → a < s .start → s .start < b → s .start ≡ firstUnit (covered s) a (b - a)
+  first-starts d h k = first-at (covered s) a b (s .start) (omega arith) k (λ u l m. before-start s u m) (at-start s (omega arith))
 
-  some-here : a < b → covered s a ≡ true → true ≡ someUnit (covered s) a (b - a)
-  some-here h e = sym (some-one (covered s) a (b - a) a (le-refl a) (omega arith) e)
+  pub first-to-come : a < b → b ≤ s .start → b ≡ firstUnit (covered s) a (b - a)
+  first-to-come h k = none-passes (covered s) a b (omega arith) (λ u l m. before-start s u (omega arith))
 
-  pub some-once : a < b → s .start ≤ a → s .period ≡ 0 → ltb (a - s .start) (s .duration) ≡ someUnit (covered s) a (b - a)
-  some-once h st e = ⊎-elim running over (either (ltb (a - s .start) (s .duration)))
-    where
-      running : ltb (a - s .start) (s .duration) ≡ true → ltb (a - s .start) (s .duration) ≡ someUnit (covered s) a (b - a)
-      running y = y ∙ some-here h (from-start-once s a st e ∙ y)
+  first-here : a < b → covered s a ≡ true → a ≡ firstUnit (covered s) a (b - a)
+  first-here h e = first-at (covered s) a b a (le-refl a) h (λ u l k. absurd (omega arith)) e
 
-      over : ltb (a - s .start) (s .duration) ≡ false → ltb (a - s .start) (s .duration) ≡ someUnit (covered s) a (b - a)
-      over n =
-          n ∙ sym
-          (some-none (covered s) a (b - a)
-          (λ u l k. from-start-once s u (omega arith) e ∙ le-ltb (u - s .start) (s .duration) (omega (arith, ltb-false (a - s .start) (s .duration) n))))
+  pub first-once : a < b → s .start ≤ a → s .period ≡ 0 → a - s .start < s .duration → a ≡ firstUnit (covered s) a (b - a)
+  first-once h st e k = first-here h (from-start-once s a st e ∙ lt-ltb (a - s .start) (s .duration) k)
 
-  pub some-running : a < b → s .start ≤ a → (a - s .start) % s .period < s .duration → true ≡ someUnit (covered s) a (b - a)
-  some-running h st k = some-here h (from-start s a st ∙ lt-ltb _ _ k)
+  pub first-over : a < b → s .start ≤ a → s .period ≡ 0 → s .duration ≤ a - s .start → b ≡ firstUnit (covered s) a (b - a)
+  first-over h st e k =
+      none-passes (covered s) a b (omega arith)
+      (λ u l m. from-start-once s u (omega arith) e ∙ le-ltb (u - s .start) (s .duration) (omega arith))
 
-  pub some-next : (s .duration ≡ 0 → ⊥) → a < b → s .start ≤ a → (s .period ≡ 0 → ⊥) → s .duration ≤ (a - s .start) % s .period
-      → ltb (toNext s a) (b - a) ≡ someUnit (covered s) a (b - a)
-  some-next d h st pp k = moved ∙ first (covered s) a b (a + toNext s a) (omega arith) between begins
-    where
-      moved : ltb (toNext s a) (b - a) ≡ ltb (a + toNext s a) b
-      moved = ⊎-elim
-          (λ (y : ltb (toNext s a) (b - a) ≡ true). y ∙ sym (lt-ltb (a + toNext s a) b (omega (arith, ltb-true (toNext s a) (b - a) y))))
-          (λ (n : ltb (toNext s a) (b - a) ≡ false). n ∙ sym (le-ltb (a + toNext s a) b (omega (arith, ltb-false (toNext s a) (b - a) n))))
-          (either (ltb (toNext s a) (b - a)))
+  pub first-running : a < b → s .start ≤ a → (a - s .start) % s .period < s .duration → a ≡ firstUnit (covered s) a (b - a)
+  first-running h st k = first-here h (from-start s a st ∙ lt-ltb _ _ k)
 
-      begins : covered s (a + toNext s a) ≡ true
-      begins =
-          from-start s (a + toNext s a) (omega arith)
-          ∙ lt-ltb ((a + toNext s a - s .start) % s .period) (s .duration) (omega (arith, next-run s a st (omega arith)))
+  -- between two runs
+  module _ (st : s .start ≤ a) (pp : s .period ≡ 0 → ⊥) (k : s .duration ≤ (a - s .start) % s .period) where
+    between : (u : ℕ) → a ≤ u → u < a + toNext s a → covered s u ≡ false
+    between u l m =
+        from-start s u (omega arith)
+        ∙ le-ltb ((u - s .start) % s .period) (s .duration)
+        (omega (arith, ap (λ (n : ℕ). (n - s .start) % s .period) (let e : a + (u - a) ≡ u = omega arith in e), within-run s a (u - a) st (omega arith)))
 
-      between : (u : ℕ) → a ≤ u → u < a + toNext s a → covered s u ≡ false
-      between u l m =
-          from-start s u (omega arith)
-          ∙ le-ltb ((u - s .start) % s .period) (s .duration)
-          (omega (arith, ap (λ (n : ℕ). (n - s .start) % s .period) (let e : a + (u - a) ≡ u = omega arith in e), within-run s a (u - a) st (omega arith)))
+    pub first-next : (s .duration ≡ 0 → ⊥) → toNext s a < b - a → a + toNext s a ≡ firstUnit (covered s) a (b - a)
+    first-next d m = first-at (covered s) a b (a + toNext s a) (omega arith) (omega arith) between begins
+      where
+        begins : covered s (a + toNext s a) ≡ true
+        begins =
+            from-start s (a + toNext s a) (omega arith)
+            ∙ lt-ltb ((a + toNext s a - s .start) % s .period) (s .duration) (omega (arith, next-run s a st (omega arith)))
+
+    pub first-after : a < b → b - a ≤ toNext s a → b ≡ firstUnit (covered s) a (b - a)
+    first-after h m = none-passes (covered s) a b (omega arith) (λ u l n. between u l (omega arith))
 
 -- ---- the test and the runs
 

@@ -2,7 +2,7 @@
 ghost use mathlib.Core.Path.{_≡_};
 ghost use Prim.Native.Nat.{_-_};
 ghost use Rattle.schedule.specs.Schedules.{setBy, covered, endBegun};
-ghost use Rattle.schedule.specs.Units.{someUnit};
+ghost use Rattle.schedule.specs.Units.{firstUnit};
 use element::quiet::Quiet;
 
 // It covers `duration` TU from `start` on, and with a period over 0 again every `period` TU.
@@ -26,29 +26,39 @@ impl Schedule {
         }
     }
 
-    // Whether some unit from `from` on and before `to` is covered. The first covered unit from `from` on is looked up, not
-    // looked for, so this costs the same for one unit and for all of them.
-    pub fn covers_some(self, from: u64, to: u64) -> bool
-        ensures { λ r. ⌜ r ≡ someUnit (covered self) from (to - from) ⌝ }
+    // The first covered unit from `from` on and before `to`, or the unit after them where none is. It is looked up, not looked for, so this costs the
+    // same for one unit and for all of them.
+    pub fn first_covered(self, from: u64, to: u64) -> u64
+        ensures { λ r. ⌜ r ≡ firstUnit (covered self) from (to - from) ⌝ }
     {
         if to <= from {
-            return false;
+            return from;
         }
         if self.duration == 0 {
-            return false;
+            return to;
         }
         if from < self.start {
-            return self.start < to;
+            if self.start < to {
+                return self.start;
+            }
+            return to;
         }
         let into = from - self.start;
         if self.period == 0 {
-            return into < (self.duration as u64);
+            if into < (self.duration as u64) {
+                return from;
+            }
+            return to;
         }
         let past = into % self.period;
         if past < (self.duration as u64) {
-            return true;
+            return from;
         }
-        self.period - past < to - from
+        let ahead = self.period - past;
+        if ahead < to - from {
+            return from + ahead;
+        }
+        to
     }
 
     // The end of the latest run that has begun by a moment, or 0 where none has (document 02, Two). All runs last as long, so no other that has

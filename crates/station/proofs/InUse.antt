@@ -1,5 +1,4 @@
--- The schedules in use, from one on: which units they cover, and the latest end of what they began. Assumes nothing.
-use mathlib.Core.Bool.{true, false, _||_}
+-- The schedules in use, from one on: the first unit that they cover, and the latest end of what they began. Assumes nothing.
 use mathlib.Core.List.{List, [], _∷_}
 use mathlib.Core.Path.{_≡_, refl, sym, ap, _∙_}
 use Prim.Native.Nat.{ℕ, _+_, _-_, _<_, _≤_}
@@ -11,11 +10,11 @@ use lib.Dec.{ltb}
 use lib.ListN.{drop, getD, drop-of-length-le, length-take}
 use lib.Seq.{drop-cons, getD-take, length-take-le}
 use Rattle.answer.proofs.Booleans.{or-go, or-stop}
-use Rattle.schedule.proofs.FirstUnit.{some-none, some-one, some-or, some-same}
+use Rattle.schedule.proofs.FirstUnit.{none-passes, first-at, first-or, first-same}
 use Rattle.schedule.specs.Schedules.{covered, endBegun}
-use Rattle.schedule.specs.Units.{someUnit}
+use Rattle.schedule.specs.Units.{firstUnit}
 use Rattle.schedule.specs.declared.Schedule.{Schedule}
-use Rattle.station.specs.Asking.{coveredBy, quiet, quietBetween}
+use Rattle.station.specs.Asking.{coveredBy, quiet}
 use Rattle.station.specs.Stations.{noSchedule, inUse}
 use Rattle.station.specs.Taking.{later, latestEnd}
 use Rattle.station.specs.Validity.{Valid}
@@ -32,29 +31,24 @@ module _ (s : Station) (v : Valid s) (i : ℕ) where
   past-all : s .count ≤ i → drop i (inUse s) ≡ []
   past-all h = drop-of-length-le (inUse s) {i = i} (omega (arith, length-take (s .count) (s .schedules)))
 
-  -- ---- some unit from a on and before b
+  -- ---- the first unit from a on and before b
 
   module _ (a b : ℕ) where
-    -- the first of them covers some unit, or one of the others does
-    first-or-others : i < s .count
-        → someUnit (coveredBy (drop i (inUse s))) a (b - a)
-        ≡ (someUnit (covered (getD (s .schedules) i noSchedule)) a (b - a) || someUnit (coveredBy (drop (i + 1) (inUse s))) a (b - a))
+    -- it is the first that the others cover before the one that this schedule covers first
+    pub looked-here : i < s .count
+        → firstUnit (coveredBy (drop (i + 1) (inUse s))) a (firstUnit (covered (getD (s .schedules) i noSchedule)) a (b - a) - a)
+        ≡ firstUnit (coveredBy (drop i (inUse s))) a (b - a)
     unfolding coveredBy
-    first-or-others h =
-        ap (λ (xs : List Schedule). someUnit (coveredBy xs) a (b - a)) (here h)
-        ∙ some-or (covered (getD (s .schedules) i noSchedule)) (coveredBy (drop (i + 1) (inUse s))) a (b - a)
+    looked-here h =
+        sym (
+        ap (λ (xs : List Schedule). firstUnit (coveredBy xs) a (b - a)) (here h)
+        ∙ first-or (covered (getD (s .schedules) i noSchedule)) (coveredBy (drop (i + 1) (inUse s))) a (b - a)
+        )
 
-    pub found-here : i < s .count → someUnit (covered (getD (s .schedules) i noSchedule)) a (b - a) ≡ true → someUnit (coveredBy (drop i (inUse s))) a (b - a) ≡ true
-    found-here h e = first-or-others h ∙ or-stop _ _ e
-
-    pub not-here : i < s .count → someUnit (covered (getD (s .schedules) i noSchedule)) a (b - a) ≡ false
-        → someUnit (coveredBy (drop (i + 1) (inUse s))) a (b - a) ≡ someUnit (coveredBy (drop i (inUse s))) a (b - a)
-    not-here h e = sym (first-or-others h ∙ or-go _ e)
-
-    pub none-left : s .count ≤ i → someUnit (coveredBy (drop i (inUse s))) a (b - a) ≡ false
+    pub none-left : s .count ≤ i → a ≤ b → firstUnit (coveredBy (drop i (inUse s))) a (b - a) ≡ b
     unfolding coveredBy
-    none-left h =
-        ap (λ (xs : List Schedule). someUnit (coveredBy xs) a (b - a)) (past-all h) ∙ some-none (coveredBy []) a (b - a) (λ u l k. refl)
+    none-left h k =
+        ap (λ (xs : List Schedule). firstUnit (coveredBy xs) a (b - a)) (past-all h) ∙ sym (none-passes (coveredBy []) a b k (λ u l m. refl))
 
   -- ---- the latest end at t
 
@@ -72,11 +66,12 @@ module _ (s : Station) (v : Valid s) (i : ℕ) where
 
 module _ (s : Station) (a b : ℕ) where
   -- where it ends before, the schedules decide
-  pub by-schedules : s .until ≤ a → quietBetween s a b ≡ someUnit (coveredBy (inUse s)) a (b - a)
+  pub by-schedules : s .until ≤ a → firstUnit (quiet s) a (b - a) ≡ firstUnit (coveredBy (inUse s)) a (b - a)
   unfolding quiet
   by-schedules h =
-      some-same (quiet s) (coveredBy (inUse s)) a (b - a) (λ u l. or-go (ltb u (s .until)) (le-ltb u (s .until) (omega arith)))
+      first-same (quiet s) (coveredBy (inUse s)) a (b - a) (λ u l. or-go (ltb u (s .until)) (le-ltb u (s .until) (omega arith)))
 
-  pub runs-on : a < b → a < s .until → quietBetween s a b ≡ true
+  pub runs-on : a < b → a < s .until → a ≡ firstUnit (quiet s) a (b - a)
   unfolding quiet
-  runs-on h k = some-one (quiet s) a (b - a) a (le-refl a) (omega arith) (or-stop (ltb a (s .until)) _ (lt-ltb a (s .until) k))
+  runs-on h k =
+      first-at (quiet s) a b a (le-refl a) h (λ u l m. absurd (omega arith)) (or-stop (ltb a (s .until)) _ (lt-ltb a (s .until) k))

@@ -6,7 +6,7 @@ use lib.Dec.{ltb, eqb}
 use Rattle.answer.specs.Checks.{pick}
 use Rattle.pending.specs.Waiting.{silences, upTo, comesBefore}
 use Rattle.schedule.specs.Schedules.{covered}
-use Rattle.schedule.specs.Units.{someUnit}
+use Rattle.schedule.specs.Units.{someUnit, firstUnit}
 use Rattle.schedule.specs.declared.Schedule.{Schedule}
 use Rattle.station.specs.Stations.{unitLimit, inUse}
 use Rattle.station.specs.declared.Station.{Station}
@@ -47,6 +47,10 @@ quiet s u = ltb u (s .until) || coveredBy (inUse s) u
 -- some unit from a on and before b is quiet
 abbrev pub quietBetween : Station → ℕ → ℕ → Bool
 quietBetween s a b = someUnit (quiet s) a (b - a)
+
+-- the first quiet unit from the clock on and before b, or the unit after them
+abbrev pub firstQuiet : Station → ℕ → ℕ
+firstQuiet s b = firstUnit (quiet s) (s .clock) (b - s .clock)
 
 unfoldable pub permissionOf : Station → ℕ → Permission
 permissionOf s n =

@@ -1,6 +1,6 @@
 // Asking to send (document 01, "The station"): it costs the schedules in use, not the units asked about.
 ghost use mathlib.Core.Path.{_≡_};
-ghost use Rattle.station.specs.Asking.{permissionNumber, quietBetween, permissionOf};
+ghost use Rattle.station.specs.Asking.{permissionNumber, firstQuiet, permissionOf};
 ghost use Rattle.station.specs.Validity.{Valid};
 use crate::Station;
 
@@ -36,26 +36,27 @@ impl Permission {
 }
 
 impl Station {
-    // Whether some unit from `from` on and before `to` is quiet: the first of them by what runs on, or any by a schedule.
-    fn quiet_between(self, from: u64, to: u64) -> bool
+    // The first quiet unit from the clock on and before `to`, or the unit after them: the clock's where something runs on, or the first that a
+    // schedule in use covers. Each schedule is looked at once, and only as far as those before it left open.
+    fn first_quiet(self, to: u64) -> u64
         requires { ⌜ Valid self ⌝ }
-        ensures { λ r. ⌜ r ≡ quietBetween self from to ⌝ }
+        ensures { λ r. ⌜ r ≡ firstQuiet self to ⌝ }
     {
+        let from = self.clock as u64;
         if to <= from {
-            return false;
+            return from;
         }
         if from < self.until {
-            return true;
+            return from;
         }
+        let mut first = to;
         let mut i = 0;
         while i < self.count {
             let schedule = self.schedules[i];
-            if schedule.covers_some(from, to) {
-                return true;
-            }
+            first = schedule.first_covered(from, first);
             i += 1;
         }
-        false
+        first
     }
 
     // Whether the units from the clock on, so many, may be used to send.
@@ -76,10 +77,12 @@ impl Station {
         if pending.silences() {
             return Permission::SwitchSilences;
         }
-        if self.quiet_between(first, first + 1) {
+        let to = pending.up_to(end);
+        let quiet = self.first_quiet(to);
+        if quiet == first {
             return Permission::QuietNow;
         }
-        if self.quiet_between(first + 1, pending.up_to(end)) {
+        if quiet < to {
             return Permission::QuietLater;
         }
         if pending.comes_before(end) {
