@@ -10,7 +10,6 @@ ghost use Rattle.capture.specs.Lists.{blockTold, fileTold, listOf};
 ghost use Rattle.boundary.specs.CodeTerms.Passing.{Passed};
 use answer::Refusal;
 use capture::Lister;
-use line::Text;
 use octets::Wrote;
 
 // Where a pass over the blocks stands: whether their lines fit the buffer so far, how many octets they are, and the lister.
@@ -104,16 +103,15 @@ pub fn list(file: &[u8], out: &mut [u8]) -> Wrote
         return Wrote::Refused(Refusal::BufferShort);
     }
     let lister = lines.lister;
-    let closing = line::closing(lister.blocks, lister.damaged);
+    let closing = capture::closing(lister.blocks, lister.damaged);
     let bytes = closing.bytes;
-    let from = closing.from;
+    let last = closing.count;
     let count = lines.count;
-    let last = Text::ROOM - from;
     if out.len() - count < last {
         return Wrote::Refused(Refusal::BufferShort);
     }
     let total = count + last;
     pass_all(file, true, out);
-    octets::put(true, &bytes[from..], out, count);
+    octets::put(true, &bytes[..last], out, count);
     Wrote::Length(total)
 }

@@ -1,10 +1,8 @@
 -- What the list says of an advance, by its clock. Assumes nothing.
 use mathlib.Core.Bool.{Bool, true}
-use mathlib.Core.Path.{_≡_, sym, ap, _∙_}
+use mathlib.Core.Path.{_≡_, ap, _∙_}
 use Prim.Native.Nat.{ℕ}
-use Rattle.answer.proofs.Booleans.{clash}
 use Rattle.answer.specs.declared.Answer.{Answer}
-use Rattle.answer.specs.declared.Refusal.{Refusal}
 use Rattle.capture_record.specs.Entries.{advancing}
 use Rattle.station.proofs.StaysValid.{advanced}
 use Rattle.station.specs.Stations.{withClock}
@@ -12,10 +10,10 @@ use Rattle.station.specs.Clock.{clockAdvance}
 use Rattle.station.specs.Validity.{Valid}
 use Rattle.station.specs.declared.Station.{Station}
 use Rattle.station.specs.declared.clock.Advanced.{Advanced}
-use Rattle.line.specs.declared.words.Word.{Word}
-use Rattle.capture.specs.Listers.{withStation, following, Sound}
-use Rattle.capture.specs.Lists.{refusal, line, stepped, noted}
-use Rattle.capture.specs.CodeTerms.Stepping.{clockedAt}
+use Rattle.capture.specs.declared.words.Word.{Word}
+use Rattle.capture.specs.Listers.{withStation, following}
+use Rattle.capture.specs.Lists.{line, stepped, noted}
+use Rattle.capture.specs.CodeTerms.Plain.{clockedAt}
 use Rattle.capture.specs.declared.lister.Lister.{Lister}
 use Rattle.capture.specs.declared.response.Response.{Response}
 use Rattle.capture.proofs.Answering.{an-advance}
@@ -25,16 +23,8 @@ module _ (l : Lister) (e : l .active ≡ true) (v : Valid (l .station)) (n : ℕ
   as-followed : (s : Station) → withStation l (l .active) s ≡ following l s
   as-followed s = ap (λ (b : Bool). withStation l b s) e
 
-  pub refused-line : clockAdvance (l .station .clock) (l .station .pending) n ≡ Advanced.Refused → line l Word.Advance (refusal Refusal.PastClock) ≡ noted l (advancing n)
-  refused-line k =
-      ap (λ (x : Lister). line x Word.Advance (refusal Refusal.PastClock)) (as-followed (l .station))
-      ∙ ap (stepped l) (advanced (l .station) n Advanced.Refused k v .0) ∙ an-advance l e n
-
   module _ (t : ℕ) (k : clockAdvance (l .station .clock) (l .station .pending) n ≡ Advanced.Goes t) where
     pub clock-line : line (clockedAt l t) Word.Advance (Response.Call Answer.Accepted) ≡ noted l (advancing n)
     clock-line =
         ap (λ (x : Lister). line x Word.Advance (Response.Call Answer.Accepted)) (as-followed (withClock (l .station) t))
         ∙ ap (stepped l) (advanced (l .station) n (Advanced.Goes t) k v .0) ∙ an-advance l e n
-
-    pub clock-sound : Sound (clockedAt l t)
-    clock-sound = record { followed = λ f. advanced (l .station) n (Advanced.Goes t) k v .1; idle = λ f. clash (sym e ∙ f) }

@@ -11,8 +11,8 @@ use Rattle.capture_record.specs.declared.entry.Entry.{Entry}
 use Rattle.station.specs.Asking.{permissionOf}
 use Rattle.station.specs.Clock.{advanceOf}
 use Rattle.station.specs.Taking.{takeOf}
-use Rattle.line.specs.declared.words.Word.{Word}
-use Rattle.capture.specs.CodeTerms.Stepping.{lacksStation, wordFor}
+use Rattle.capture.specs.declared.words.Word.{Word}
+use Rattle.capture.specs.CodeTerms.Noting.{lacksStation, wordFor}
 use Rattle.capture.specs.Lists.{line, stepped, taken, noStation, noted}
 use Rattle.capture.specs.declared.lister.Lister.{Lister}
 use Rattle.capture.specs.declared.response.Response.{Response}

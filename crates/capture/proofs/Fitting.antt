@@ -1,59 +1,27 @@
--- What a block leaves of the lister. Assumes nothing.
+-- What a block tells by how it was judged, and what feeding answers. Assumes nothing.
 use mathlib.Core.Bool.{Bool, true, false}
 use mathlib.Core.List.{List, [], _∷_}
 use mathlib.Core.Path.{_≡_, refl, sym, ap, ap₂, _∙_}
-use Prim.Native.Nat.{ℕ, _+_, _*_, _-_, _<_, _≤_}
+use Prim.Native.Nat.{ℕ, _+_, _*_, _-_, _≤_}
 use native.Mathlib.Omega.{arith}
 use borrow.Author.Tests.{le-ltb, ltb-false}
-use lib.ListN.{length, take, drop, length-drop}
-use lib.Seq.{take-all}
+use lib.ListN.{length}
 use Rattle.answer.proofs.Judged.{past, done, passed, kept}
 use Rattle.answer.specs.Checks.{Outcome, refused, accepted, _⇒_, checked, judged, andThen}
 use Rattle.answer.specs.declared.Refusal.{Refusal}
-use Rattle.block.proofs.Judging.{used-within}
-use Rattle.block.specs.Blocks.{usedPart, blockMeans}
+use Rattle.block.specs.Blocks.{blockMeans}
 use Rattle.block.specs.declared.Block.{Block}
 use Rattle.octets.specs.Writing.{filled}
 use Rattle.octets.specs.declared.writing.Wrote.{Wrote}
-use Rattle.capture.specs.CodeTerms.Following.{Listed, Fed}
+use Rattle.capture.specs.CodeTerms.Following.{Fed}
 use Rattle.capture.specs.CodeTerms.Rooms.{roomFor, listedAs}
 use Rattle.capture.specs.Feeding.{enoughRoom, feedMeans, listingOf, filledBy, FedWith}
-use Rattle.capture.specs.Listers.{blockLimit, oneBlockMore, Fits, Sound}
+use Rattle.capture.specs.Listers.{blockLimit}
 use Rattle.capture.specs.Lists as Lists
-use Rattle.capture.specs.Lists.{Told, damagedTold, blockTold}
+use Rattle.capture.specs.Lists.{Told, blockTold}
 use Rattle.capture.specs.declared.feeding.Listing.{Listing}
 use Rattle.capture.specs.declared.lister.Lister.{Lister}
 use Rattle.capture.specs.declared.listing.Put.{Put}
-use Rattle.capture.proofs.StaysSound.{none-sound}
-
-module _ (l : Lister) (f : Fits l) (h : l .blocks < blockLimit) where
-  pub fits-damaged : Fits (damagedTold l .lister)
-  fits-damaged =
-      record {
-        sound = none-sound refl refl;
-        few-blocks = omega arith;
-        few-lines = omega (arith, f .few-lines);
-        few-damaged = omega (arith, f .few-damaged);
-      }
-
-  -- the lister before the records of a block
-  pub sound-counted : (n : ℕ) → Sound (oneBlockMore l n)
-  sound-counted n = record { followed = f .sound .followed; idle = f .sound .idle }
-
-  pub fits-listed : (t : Told) (next : Lister) (count : ℕ) → Listed (oneBlockMore l 0) t next count → Fits next
-  fits-listed t next count w =
-      record {
-        sound = w .sound;
-        few-blocks = omega (arith, w .same-blocks);
-        few-lines = omega (arith, w .same-blocks, w .few-lines, f .few-lines);
-        few-damaged = omega (arith, w .same-blocks, w .same-damaged, f .few-damaged);
-      }
-
--- the used part of a block
-pub used-part : (b : List ℕ) (n : ℕ) → blockMeans b ≡ Block.Used n → take n (take (length b - 2) (drop 2 b)) ≡ usedPart b
-used-part b n e =
-    ap (take n) (take-all (length b - 2) (drop 2 b) (omega (arith, length-drop 2 b)))
-    ∙ ap (λ (k : ℕ). take k (drop 2 b)) (used-within b n e .1)
 
 -- what a block tells, by how it was judged
 pub told-as : (l : Lister) (b : List ℕ) (j : Block) → blockMeans b ≡ j → Lists.judged j b l ≡ blockTold b l

@@ -1,3 +1,7 @@
+-- What the code's shape needs beside what is promised.
+pub mod Blocks
 pub mod Following
+pub mod Noting
+pub mod Penning
+pub mod Plain
 pub mod Rooms
-pub mod Stepping

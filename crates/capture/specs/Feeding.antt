@@ -7,7 +7,7 @@ use lib.Dec.{ltb}
 use lib.ListN.{length}
 use Rattle.answer.specs.Checks.{Outcome, refused, accepted, _⇒_, judged}
 use Rattle.answer.specs.declared.Refusal.{Refusal}
-use Rattle.line.specs.Backs.{lineRoom}
+use Rattle.capture.specs.Rooms.{lineRoom}
 use Rattle.octets.specs.Writing.{filled}
 use Rattle.octets.specs.declared.writing.Wrote.{Wrote}
 use Rattle.capture.specs.Listers.{blockLimit, mostLines}

@@ -1,4 +1,9 @@
 pub mod CodeTerms
+pub mod Decimals
 pub mod Feeding
+pub mod Lines
 pub mod Listers
 pub mod Lists
+pub mod Numerals
+pub mod Putting
+pub mod Rooms

@@ -20,8 +20,8 @@ use Rattle.station.specs.Taking.{takeOf}
 use Rattle.station.specs.declared.Station.{Station}
 use Rattle.station.specs.declared.clock.Stepped.{Stepped}
 use Rattle.station.specs.declared.taking.Taken.{Taken}
-use Rattle.line.specs.Lines.{lineOf, closingOf}
-use Rattle.line.specs.declared.words.Word.{Word}
+use Rattle.capture.specs.Lines.{lineOf, closingOf}
+use Rattle.capture.specs.declared.words.Word.{Word}
 use Rattle.capture.specs.Listers.{fresh, without, following, oneLineMore, oneBlockMore}
 use Rattle.capture.specs.declared.lister.Lister.{Lister}
 use Rattle.capture.specs.declared.response.Response.{Response}

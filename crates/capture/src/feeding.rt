@@ -1,23 +1,18 @@
 // Listing a capture block by block (document 01, "Capture blocks and the evening list").
 ghost use mathlib.Core.Path.{_≡_};
-ghost use Prim.Native.Nat.{_+_, _*_, _<_, _≤_};
+ghost use Prim.Native.Nat.{_<_, _≤_};
 ghost use lib.ListN.{length};
-ghost use Rattle.octets.specs.Writing.{over, filled};
+ghost use Rattle.octets.specs.Writing.{filled};
 ghost use Rattle.capture.specs.CodeTerms.Following.{Fed};
-ghost use Rattle.capture.specs.CodeTerms.Rooms.{answerTold, roomFor, Added, listedAs};
+ghost use Rattle.capture.specs.CodeTerms.Rooms.{answerTold, roomFor, listedAs};
 ghost use Rattle.capture.specs.Feeding.{enoughRoom, feedMeans, FedWith};
-ghost use Rattle.capture.specs.Listers.{blockLimit, oneBlockMore, Fits};
-ghost use Rattle.capture.specs.Lists.{damagedTold, blockTold, blocksIn, blocksTold};
+ghost use Rattle.capture.specs.Listers.{blockLimit, Fits};
+ghost use Rattle.capture.specs.Lists.{blockTold, blocksIn, blocksTold};
 use crate::Lister;
-use crate::lister;
 use crate::listing;
 use crate::listing::Put;
-use crate::noting::Answered;
-use crate::response::Response;
 use answer::Answer;
 use answer::Refusal;
-use block::Block;
-use line::Word;
 use octets::Wrote;
 
 // How many octets of the buffer are lines, or why there are none, and the lister after them: the same as before where there are none.
@@ -26,87 +21,17 @@ pub struct Listing {
     pub lister: Lister,
 }
 
-// The lister with one block more.
-fn counted(lister: Lister, damaged: u64) -> Lister
-    requires { ⌜ (damaged ≤ 1) × (lister .blocks < blockLimit) × (lister .damaged ≤ lister .blocks) ⌝ }
-    ensures { λ r. ⌜ r ≡ oneBlockMore lister damaged ⌝ }
-{
-    Lister {
-        blocks: lister.blocks + 1,
-        damaged: lister.damaged + damaged,
-        ..lister
-    }
-}
-
-// The line of a damaged block: there is no station after it.
-fn put_damaged(lister: Lister, out: &mut [u8]) -> Put
-    requires { ⌜ Fits lister ⌝ }
-    requires { ⌜ (lister .blocks < blockLimit) × (enoughRoom ≤ length (now out)) ⌝ }
-    ensures { λ r. ⌜ Fed lister (damagedTold lister) r ⌝ }
-    ensures { λ _. ⌜ now (out .exit) ≡ filled (damagedTold lister .text) (now (out .entry)) ⌝ }
-{
-    let answered = Answered {
-        lister: lister::without(lister),
-        word: Word::Block,
-        answer: Response::Call(Answer::Refused(Refusal::BlockDamaged)),
-    };
-    let put = listing::put_line(answered, out, 0);
-    let numbered = put.lister;
-    let count = put.count;
-    Put {
-        lister: counted(numbered, 1),
-        count,
-    }
-}
-
-// The lines of a block, damaged or not.
-pub fn put_block(lister: Lister, block: &[u8], out: &mut [u8]) -> Put
+// The lines of a block, damaged or not. One of another length is damaged whatever it holds, as any short block is.
+fn put_block(lister: Lister, block: &[u8], out: &mut [u8]) -> Put
     requires { ⌜ Fits lister ⌝ }
     requires { ⌜ (lister .blocks < blockLimit) × (enoughRoom ≤ length (now out)) ⌝ }
     ensures { λ r. ⌜ Fed lister (blockTold (now (block .entry)) lister) r ⌝ }
     ensures { λ _. ⌜ now (out .exit) ≡ filled (blockTold (now (block .entry)) lister .text) (now (out .entry)) ⌝ }
 {
-    match block::judge(block) {
-        Block::Damaged => put_damaged(lister, out),
-        Block::Used(used) => {
-            let part = &block[2..];
-            listing::put_records(counted(lister, 0), &part[..used], out)
-        }
+    if block.len() == block::SIZE {
+        return listing::put_blocks(lister, block, out);
     }
-}
-
-// One block more after the lines before it.
-fn add_block(before: Put, block: &[u8], out: &mut [u8]) -> Put
-    requires { ⌜ Fits (before .lister) ⌝ }
-    requires { ⌜ (before .lister .blocks < blockLimit) × (before .count + enoughRoom ≤ length (now out)) ⌝ }
-    ensures { λ r. ⌜ Added before (blockTold (now (block .entry)) (before .lister)) r ⌝ }
-    ensures { λ _. ⌜ now (out .exit) ≡ over (now (out .entry)) (before .count) (blockTold (now (block .entry)) (before .lister) .text) ⌝ }
-{
-    let start = before.count;
-    let end = start + Lister::ROOM;
-    let put = put_block(before.lister, block, &mut out[start..end]);
-    let lister = put.lister;
-    Put {
-        lister,
-        count: start + put.count,
-    }
-}
-
-// The lines of the blocks of some octets.
-fn put_blocks(lister: Lister, blocks: &[u8], out: &mut [u8]) -> Put
-    requires { ⌜ Fits lister ⌝ }
-    requires { ⌜ (lister .blocks + length (blocksIn (now blocks)) ≤ blockLimit) × (length (blocksIn (now blocks)) * enoughRoom ≤ length (now out)) ⌝ }
-    ensures { λ r. ⌜ Fed lister (blocksTold (blocksIn (now (blocks .entry))) lister) r ⌝ }
-    ensures { λ _. ⌜ now (out .exit) ≡ filled (blocksTold (blocksIn (now (blocks .entry))) lister .text) (now (out .entry)) ⌝ }
-{
-    let mut next = Put { lister, count: 0 };
-    let mut at = 0;
-    while at < blocks.len() {
-        let end = block::end_after(at, blocks.len());
-        next = add_block(next, &blocks[at..end], out);
-        at = end;
-    }
-    next
+    listing::put_blocks(lister, &[0], out)
 }
 
 // Whether so many blocks more may be listed into a buffer of so many octets. What the limit and the buffer leave is compared, since a sum or a product could wrap.
@@ -164,7 +89,7 @@ impl Lister {
                     lister: self,
                 }
             }
-            Answer::Accepted => listed(put_blocks(self, blocks, out)),
+            Answer::Accepted => listed(listing::put_blocks(self, blocks, out)),
         }
     }
 }

@@ -1,19 +1,18 @@
-// What the list says of a record that changes the station (document 01, "Capture blocks and the evening list"): its word, its answer, and the
-// station after it.
+// What the list says of a record (document 01, "Capture blocks and the evening list"): its word, its answer, and the station after it.
 ghost use mathlib.Core.Path.{_≡_};
 ghost use mathlib.Core.Bool.{true};
-ghost use Rattle.capture_record.specs.Entries.{starting, settingsOf, advancing, hearing};
+ghost use Rattle.capture_record.specs.Entries.{starting, settingsOf, advancing, hearing, asking, entryTold};
 ghost use Rattle.capture.specs.CodeTerms.Following.{lineFor, Follows};
-ghost use Rattle.capture.specs.CodeTerms.Stepping.{changeNotes, ChangeFits};
+ghost use Rattle.capture.specs.CodeTerms.Noting.{lacksStation, wordFor};
 ghost use Rattle.capture.specs.Listers.{Sound};
-ghost use Rattle.capture.specs.Lists.{badRecord, noted};
+ghost use Rattle.capture.specs.Lists.{badRecord, noStation, noted};
 use crate::Lister;
 use crate::lister;
 use crate::response::Response;
-use crate::stepping::Change;
+use crate::words::Word;
 use answer::Answer;
 use answer::Refusal;
-use line::Word;
+use capture_record::Entry;
 use station::Station;
 
 // The lister before the line that tells this word and this answer.
@@ -60,7 +59,7 @@ fn start(lister: Lister, contents: &[u8]) -> Answered
     }
 }
 
-// An advance that reaches a switch.
+// An advance, refused or accepted.
 fn advance(lister: Lister, units: u16) -> Answered
     requires { ⌜ Sound lister ⌝ }
     requires { ⌜ lister .active ≡ true ⌝ }
@@ -96,16 +95,75 @@ fn frame(lister: Lister, contents: &[u8]) -> Answered
     }
 }
 
-// Any change of the station.
-pub fn note(lister: Lister, change: Change, contents: &[u8]) -> Answered
+// A question.
+fn ask(lister: Lister, units: u16) -> Answered
     requires { ⌜ Sound lister ⌝ }
-    requires { ⌜ ChangeFits lister change ⌝ }
-    ensures { λ r. ⌜ lineFor r ≡ noted lister (changeNotes (now (contents .entry)) change) ⌝ }
+    requires { ⌜ lister .active ≡ true ⌝ }
+    ensures { λ r. ⌜ lineFor r ≡ noted lister (asking units) ⌝ }
     ensures { λ r. ⌜ Follows lister (r .lister) ⌝ }
 {
-    match change {
-        Change::Start => start(lister, contents),
-        Change::Frame => frame(lister, contents),
-        Change::Advance(units) => advance(lister, units),
+    let station = lister.station;
+    let permission = station.ask(units as u32);
+    Answered {
+        lister,
+        word: Word::Ask,
+        answer: Response::Question(permission),
+    }
+}
+
+// A record that comes with no station started.
+fn unstarted(lister: Lister, word: Word) -> Answered
+    requires { ⌜ Sound lister ⌝ }
+    ensures { λ r. ⌜ lineFor r ≡ noStation lister word ⌝ }
+    ensures { λ r. ⌜ Follows lister (r .lister) ⌝ }
+{
+    Answered {
+        lister,
+        word,
+        answer: Response::Call(Answer::Refused(Refusal::NoStation)),
+    }
+}
+
+// Whether a record is for a station, and there is none (19). A malformed one is 20 before a station is asked for.
+fn lacks_station(missing: bool, entry: Entry) -> bool
+    ensures { λ r. ⌜ r ≡ lacksStation missing entry ⌝ }
+{
+    match entry {
+        Entry::Malformed => false,
+        Entry::Start => false,
+        Entry::Advance(_) => missing,
+        Entry::Frame => missing,
+        Entry::Ask(_) => missing,
+    }
+}
+
+// The word of a record's line.
+fn word_of(entry: Entry) -> Word
+    ensures { λ r. ⌜ r ≡ wordFor entry ⌝ }
+{
+    match entry {
+        Entry::Malformed => Word::Record,
+        Entry::Start => Word::Start,
+        Entry::Advance(_) => Word::Advance,
+        Entry::Frame => Word::Frame,
+        Entry::Ask(_) => Word::Ask,
+    }
+}
+
+// Any record, by what it notes.
+pub fn note(lister: Lister, entry: Entry, contents: &[u8]) -> Answered
+    requires { ⌜ Sound lister ⌝ }
+    ensures { λ r. ⌜ lineFor r ≡ noted lister (entryTold (now (contents .entry)) entry) ⌝ }
+    ensures { λ r. ⌜ Follows lister (r .lister) ⌝ }
+{
+    if lacks_station(!lister.active, entry) {
+        return unstarted(lister, word_of(entry));
+    }
+    match entry {
+        Entry::Malformed => malformed(lister),
+        Entry::Start => start(lister, contents),
+        Entry::Advance(units) => advance(lister, units),
+        Entry::Frame => frame(lister, contents),
+        Entry::Ask(units) => ask(lister, units),
     }
 }

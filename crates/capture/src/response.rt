@@ -1,4 +1,4 @@
-// What a line answers (document 01, "Capture blocks and the evening list"). The crate `line` prints numbers and knows no station.
+// What a line answers (document 01, "Capture blocks and the evening list"). A line is spelled from its number and its place, and knows no station.
 ghost use mathlib.Core.Path.{_≡_};
 ghost use Rattle.capture.specs.Lists.{responseNumber, responseOffset};
 use answer::Answer;

@@ -10,8 +10,8 @@ use Rattle.octets.proofs.Storing.{filled-front}
 use Rattle.capture.specs.Listers.{fresh}
 use Rattle.capture.specs.Lists.{Told, before, blocksAfter, blocksIn, blocksTold, listOf}
 use Rattle.capture.specs.declared.lister.Lister.{Lister}
-use Rattle.line.proofs.InRoom.{from-place}
-use Rattle.line.specs.Lines.{closingOf}
+use Rattle.capture.proofs.InRoom.{in-front}
+use Rattle.capture.specs.Lines.{closingOf}
 use Rattle.claims.specs.FedFiles.{Begins, Feeds, FedAll, CutAtBlocks, joined, Closes}
 
 -- ---- a piece
@@ -54,7 +54,7 @@ all-told (p ∷ q ∷ ps) c l text last (next, first, rest, fed, others, whole) 
 
 closes-told : (l : Lister) (text : List ℕ) → Closes l text → text ≡ closingOf (l .blocks) (l .damaged)
 closes-told l text (κs, a, x, e, post, blocks, damaged, whole) =
-    sym whole ∙ from-place x (closingOf (a .0) (a .1 .0)) post ∙ ap₂ closingOf blocks damaged
+    sym whole ∙ in-front x (closingOf (a .0) (a .1 .0)) post ∙ ap₂ closingOf blocks damaged
 
 -- a file that is fed in pieces, each but the last cut at the end of a block, and closed with the lister's counts, gives its list
 pub fed-file : (pieces : List (List ℕ)) → CutAtBlocks pieces → (lines closing : List ℕ) (first last : Lister) → Begins first → FedAll pieces first lines last → Closes last closing

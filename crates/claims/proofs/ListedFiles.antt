@@ -24,8 +24,8 @@ use Rattle.station.specs.Taking.{takeOf}
 use Rattle.station.specs.declared.Station.{Station}
 use Rattle.station.specs.declared.clock.Stepped.{Stepped}
 use Rattle.station.specs.declared.taking.Taken.{Taken}
-use Rattle.line.specs.Lines.{lineOf, closingOf}
-use Rattle.line.specs.declared.words.Word.{Word}
+use Rattle.capture.specs.Lines.{lineOf, closingOf}
+use Rattle.capture.specs.declared.words.Word.{Word}
 use Rattle.claims.specs.Numbered.{Said, numberedFrom, recordsCounted, linesIn, linesAmong, damagedAmong, ListedAs}
 
 -- so many lines, blocks and damaged blocks were told

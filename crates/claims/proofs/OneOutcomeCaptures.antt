@@ -1,4 +1,4 @@
--- Each promise of the capture's parts leaves one outcome: blocks, records, lines, the lister. Assumes nothing.
+-- Each promise of the capture's parts leaves one outcome: blocks, records, the closing line, the lister. Assumes nothing.
 use mathlib.Core.List.{List}
 use mathlib.Core.Path.{_≡_, refl, sym, ap, _∙_}
 use Prim.Native.Nat.{ℕ, _-_}
@@ -8,6 +8,7 @@ use lib.ListN.{length, take, drop}
 use Rattle.block.proofs.count_in as Block-count-in
 use Rattle.block.proofs.end_after as End-after
 use Rattle.block.proofs.judge as Judge
+use Rattle.capture.proofs.closing as Closing
 use Rattle.capture.proofs.lister.Lister.feed as Feed-block
 use Rattle.capture.proofs.lister.Lister.feed_all as Feed-all
 use Rattle.capture.proofs.lister.Lister.fresh as Fresh
@@ -19,8 +20,6 @@ use Rattle.capture_record.specs.CodeTerms.Found.{follow, Within}
 use Rattle.capture_record.specs.declared.Found.{Found}
 use Rattle.capture_record.specs.declared.entry.Entry.{Entry}
 use Rattle.station.proofs.Station.nobody as Nobody
-use Rattle.line.proofs.closing as Closing
-use Rattle.line.proofs.line as Line
 use Rattle.answer.specs.Outcomes.{OneResult, OneOutcome}
 use Rattle.claims.proofs.OneOutcomeWalk.{long}
 use Rattle.claims.proofs.Same.{once, told-once}
@@ -30,9 +29,6 @@ block-judge κs a e f x y p q = once p q
 
 pub block-end-after : OneResult 0 End-after.Kinds.ps End-after.Kinds.r End-after.Reads.Post
 block-end-after κs a e f x y p q = once p q
-
-pub text-line : OneResult 0 Line.Kinds.ps Line.Kinds.r Line.Reads.Post
-text-line κs a e f x y p q = once p q
 
 pub text-closing : OneResult 0 Closing.Kinds.ps Closing.Kinds.r Closing.Reads.Post
 text-closing κs a e f x y p q = once p q

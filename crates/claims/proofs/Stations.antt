@@ -19,6 +19,7 @@ use Rattle.pending.proofs.Pending.silences as Silences
 use Rattle.pending.proofs.Pending.up_to as Up-to
 use Rattle.station.proofs.Station.advance as Advance
 use Rattle.station.proofs.Station.ask as Ask
+use Rattle.station.proofs.Station.clear_until as Clear-until
 use Rattle.station.proofs.Station.heard as Heard
 use Rattle.station.proofs.Station.start as Start
 use Rattle.station.proofs.Station.take as Take
@@ -51,6 +52,9 @@ advance-clock κs a e f x y p q = once p q
 
 pub ask : OneResult 0 Ask.Kinds.ps Ask.Kinds.r Ask.Reads.Post
 ask κs a e f x y p q = once p q
+
+pub clear-until : OneResult 0 Clear-until.Kinds.ps Clear-until.Kinds.r Clear-until.Reads.Post
+clear-until κs a e f x y p q = once p q
 
 pub permission-number : OneResult 0 Permission-number.Kinds.ps Permission-number.Kinds.r Permission-number.Reads.Post
 permission-number κs a e f x y p q = once p q

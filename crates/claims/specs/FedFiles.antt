@@ -7,12 +7,12 @@ use borrow.Fn.Kinds.{Dens, resT, endedOf}
 use contract.Lifetimes.{Lfts}
 use denote.Ref.{now}
 use denote.Triple.Clauses.{AtExit}
-use lib.ListN.{length, take, drop}
+use lib.ListN.{length, take}
 use Rattle.block.specs.Blocks.{blockSize}
 use Rattle.capture.proofs.lister.Lister.feed_all as Feed-all
 use Rattle.capture.proofs.lister.Lister.fresh as Fresh
 use Rattle.capture.specs.declared.lister.Lister.{Lister}
-use Rattle.line.proofs.closing as Closing
+use Rattle.capture.proofs.closing as Closing
 use Rattle.octets.specs.declared.writing.Wrote.{Wrote}
 
 -- `Lister::fresh` was called, and gave this lister
@@ -51,7 +51,7 @@ unfoldable pub joined : List (List ℕ) → List ℕ
 joined [] = []
 joined (p ∷ ps) = p ++ joined ps
 
--- `line::closing` was called with the lister's counts, and these are its octets
+-- `capture::closing` was called with the lister's counts, and these are its octets
 abbrev pub Closes : Lister → List ℕ → Type 0
 Closes l text =
     (κs : Lfts 0)
@@ -61,4 +61,4 @@ Closes l text =
     × Closing.Reads.Post κs a x e
     × (a .0 ≡ l .blocks)
     × (a .1 .0 ≡ l .damaged)
-    × (drop (x .from) (x .bytes) ≡ text)
+    × (take (x .count) (x .bytes) ≡ text)

@@ -14,6 +14,7 @@ ghost use mathlib.Core.List.{[]};
 ghost use Prim.Native.Nat.{_≤_};
 ghost use lib.ListN.{length};
 ghost use Rattle.answer.specs.Faults.{placedPast};
+ghost use Rattle.frame.specs.CodeTerms.BodyKinds.{kindSubtype};
 ghost use Rattle.frame.specs.Frames.{kindOf, sent, frameMeans};
 ghost use Rattle.frame.specs.Laid.{received, frameLaid, noticeSubtype};
 ghost use Rattle.header.specs.Headers.{headerLength};
@@ -107,6 +108,22 @@ fn read_action(body: &[u8], broadcast: bool) -> Received
     }
 }
 
+// What the body of a frame is read as.
+pub enum BodyKind {
+    Notice { probe: bool },
+    Action,
+}
+
+fn body_kind(subtype: Subtype) -> BodyKind
+    ensures { λ r. ⌜ kindSubtype r ≡ subtype ⌝ }
+{
+    match subtype {
+        Subtype::Beacon => BodyKind::Notice { probe: false },
+        Subtype::ProbeResponse => BodyKind::Notice { probe: true },
+        Subtype::Action => BodyKind::Action,
+    }
+}
+
 // A frame that a station hears: `own` is its address, `ap` its AP's, `interval` its beacon interval.
 pub fn read(frame: &[u8], own: [u8; 6], ap: [u8; 6], interval: u16) -> Received
     ensures { λ r. ⌜ r ≡ frameLaid (frameMeans own ap interval (now (frame .entry))) ⌝ }
@@ -118,10 +135,9 @@ pub fn read(frame: &[u8], own: [u8; 6], ap: [u8; 6], interval: u16) -> Received
             to_all: broadcast,
         } => {
             let body = header::body(frame);
-            match subtype {
-                Subtype::Beacon => read_notice(body, interval, false, broadcast),
-                Subtype::ProbeResponse => read_notice(body, interval, true, broadcast),
-                Subtype::Action => read_action(body, broadcast),
+            match body_kind(subtype) {
+                BodyKind::Notice { probe } => read_notice(body, interval, probe, broadcast),
+                BodyKind::Action => read_action(body, broadcast),
             }
         }
     }

@@ -45,10 +45,26 @@ fn is_address(frame: &[u8], at: usize, address: [u8; 6]) -> bool
     are(frame, at + 3, address[3], address[4], address[5])
 }
 
+// Whether two octets from a place on are all ones: compared at once, as one number, since beacons are sent to all.
+fn are_ones(frame: &[u8], at: usize) -> bool
+    requires { ⌜ at ≤ 19 ⌝ }
+    ensures { λ r. ⌜ r ≡ same (octetsFrom 2 at (now (frame .entry))) (255 ∷ 255 ∷ []) ⌝ }
+{
+    let first = octets::octet_at(frame, at);
+    let second = octets::octet_at(frame, at + 1);
+    (first as u16) + 256 * (second as u16) == 65535
+}
+
 fn is_to_all(frame: &[u8]) -> bool
     ensures { λ r. ⌜ r ≡ toAll (now (frame .entry)) ⌝ }
 {
-    is_address(frame, DA, [255; 6])
+    if !are_ones(frame, DA) {
+        return false;
+    }
+    if !are_ones(frame, DA + 2) {
+        return false;
+    }
+    are_ones(frame, DA + 4)
 }
 
 // SA or BSSID is not the AP, or DA is neither the station nor all ones.

@@ -3,13 +3,13 @@ ghost use mathlib.Core.Bool.{true};
 ghost use mathlib.Core.Path.{_≡_};
 ghost use lib.ListN.{length};
 ghost use Rattle.capture.specs.Listers.{Fits};
-ghost use Rattle.line.specs.Backs.{backed};
-ghost use Rattle.line.specs.Lines.{closingOf};
+ghost use Rattle.capture.specs.Lines.{closingOf};
+ghost use Rattle.capture.specs.Rooms.{fronted};
 ghost use Rattle.list.specs.Program.{ClosedAs, PieceListed};
 ghost use Rattle.list.specs.CodeTerms.Writing.{CountWithin, WroteAs, going};
 use capture::Lister;
+use capture::Text;
 use libc::STDOUT_FILENO;
-use line::Text;
 use octets::Wrote;
 
 // How the listing stands, or ended.
@@ -70,16 +70,16 @@ pub fn list_blocks(lister: Lister, piece: &[u8], out: &mut [u8], said: Fate) -> 
 
 // The closing line of a listing.
 fn closing(lister: Lister) -> Text
-    ensures { λ r. ⌜ r ≡ backed (closingOf (lister .blocks) (lister .damaged)) ⌝ }
+    ensures { λ r. ⌜ r ≡ fronted (closingOf (lister .blocks) (lister .damaged)) ⌝ }
 {
-    line::closing(lister.blocks, lister.damaged)
+    capture::closing(lister.blocks, lister.damaged)
 }
 
 fn write_closing(lister: Lister) -> bool {
     let text = closing(lister);
     let bytes = text.bytes;
-    let from = text.from;
-    io::write_all(STDOUT_FILENO, &bytes[from..])
+    let count = text.count;
+    io::write_all(STDOUT_FILENO, &bytes[..count])
 }
 
 // The closing line is written only where the listing is whole.

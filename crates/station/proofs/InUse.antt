@@ -1,4 +1,4 @@
--- The schedules in use, from one on: the first unit that they cover, and the latest end of what they began. Assumes nothing.
+-- The schedules in use, from one on, and the first unit that they cover. Assumes nothing.
 use mathlib.Core.List.{List, [], _∷_}
 use mathlib.Core.Path.{_≡_, refl, sym, ap, _∙_}
 use Prim.Native.Nat.{ℕ, _+_, _-_, _<_, _≤_}
@@ -7,25 +7,26 @@ use native.Mathlib.Numerals.{add-one}
 use native.Mathlib.Omega.{arith}
 use borrow.Author.Tests.{lt-ltb, le-ltb}
 use lib.Dec.{ltb}
-use lib.ListN.{drop, getD, drop-of-length-le, length-take}
+use lib.ListN.{length, take, drop, getD, drop-of-length-le, length-take}
 use lib.Seq.{drop-cons, getD-take, length-take-le}
 use Rattle.answer.proofs.Booleans.{or-go, or-stop}
 use Rattle.schedule.proofs.FirstUnit.{none-passes, first-at, first-or, first-same}
-use Rattle.schedule.specs.Schedules.{covered, endBegun}
+use Rattle.schedule.specs.Schedules.{covered}
 use Rattle.schedule.specs.Units.{firstUnit}
 use Rattle.schedule.specs.declared.Schedule.{Schedule}
 use Rattle.station.specs.Asking.{coveredBy, quiet}
 use Rattle.station.specs.Stations.{noSchedule, inUse}
-use Rattle.station.specs.Taking.{later, latestEnd}
 use Rattle.station.specs.Validity.{Valid}
 use Rattle.station.specs.declared.Station.{Station}
 
+-- the schedule in slot i is the first from i on of those in the first n slots
+pub here : (xs : List Schedule) (n i : ℕ) → n ≤ length xs → i < n → drop i (take n xs) ≡ getD xs i noSchedule ∷ drop (i + 1) (take n xs)
+here xs n i f h =
+    drop-cons (take n xs) i noSchedule (omega (arith, length-take-le n xs f)) ∙ rw (getD-take n xs i noSchedule h, ← add-one i)
+
 module _ (s : Station) (v : Valid s) (i : ℕ) where
-  -- the schedule in slot i is the first of those from i on
-  here : i < s .count → drop i (inUse s) ≡ getD (s .schedules) i noSchedule ∷ drop (i + 1) (inUse s)
-  here h =
-      drop-cons (inUse s) i noSchedule (omega (arith, length-take-le (s .count) (s .schedules) (omega (arith, v .slots, v .few))))
-      ∙ rw (getD-take (s .count) (s .schedules) i noSchedule h, ← add-one i)
+  in-slots : s .count ≤ length (s .schedules)
+  in-slots = omega (arith, v .slots, v .few)
 
   -- past the last there is none
   past-all : s .count ≤ i → drop i (inUse s) ≡ []
@@ -41,7 +42,7 @@ module _ (s : Station) (v : Valid s) (i : ℕ) where
     unfolding coveredBy
     looked-here h =
         sym (
-        ap (λ (xs : List Schedule). firstUnit (coveredBy xs) a (b - a)) (here h)
+        ap (λ (xs : List Schedule). firstUnit (coveredBy xs) a (b - a)) (here (s .schedules) (s .count) i in-slots h)
         ∙ first-or (covered (getD (s .schedules) i noSchedule)) (coveredBy (drop (i + 1) (inUse s))) a (b - a)
         )
 
@@ -49,18 +50,6 @@ module _ (s : Station) (v : Valid s) (i : ℕ) where
     unfolding coveredBy
     none-left h k =
         ap (λ (xs : List Schedule). firstUnit (coveredBy xs) a (b - a)) (past-all h) ∙ sym (none-passes (coveredBy []) a b k (λ u l m. refl))
-
-  -- ---- the latest end at t
-
-  module _ (t e : ℕ) where
-    pub counted-here : i < s .count
-        → latestEnd t (later e (endBegun (getD (s .schedules) i noSchedule) t)) (drop (i + 1) (inUse s)) ≡ latestEnd t e (drop i (inUse s))
-    unfolding latestEnd
-    counted-here h = sym (ap (latestEnd t e) (here h))
-
-    pub all-counted : s .count ≤ i → latestEnd t e (drop i (inUse s)) ≡ e
-    unfolding latestEnd
-    all-counted h = ap (latestEnd t e) (past-all h)
 
 -- ---- what runs on
 

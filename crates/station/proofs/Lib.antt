@@ -1,5 +1,7 @@
 pub mod Answers
+pub mod Clearing
 pub mod InUse
+pub mod OneWay
 pub mod Received
-pub mod Slotting
+pub mod SlotBySlot
 pub mod StaysValid

@@ -1,6 +1,7 @@
 // Asking to send (document 01, "The station"): it costs the schedules in use, not the units asked about.
 ghost use mathlib.Core.Path.{_≡_};
 ghost use Rattle.station.specs.Asking.{permissionNumber, firstQuiet, permissionOf};
+ghost use Rattle.station.specs.Clear.{clearUntil};
 ghost use Rattle.station.specs.Validity.{Valid};
 use crate::Station;
 
@@ -57,6 +58,20 @@ impl Station {
             i += 1;
         }
         first
+    }
+
+    // Up to which moment a question is granted, as far as any question reaches, and stays so while nothing but the clock changes: the first quiet
+    // unit, or the pending switch. A switch of mode 1 leaves nothing.
+    pub fn clear_until(self) -> u64
+        requires { ⌜ Valid self ⌝ }
+        ensures { λ r. ⌜ r ≡ clearUntil self ⌝ }
+    {
+        let pending = self.pending;
+        let first = self.clock as u64;
+        if pending.silences() {
+            return first;
+        }
+        self.first_quiet(pending.up_to(first + (Station::UNIT_LIMIT as u64)))
     }
 
     // Whether the units from the clock on, so many, may be used to send.

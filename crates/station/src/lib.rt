@@ -1,6 +1,8 @@
 // The station (document 01, "The station"; 802.11h 11.6.2 and 11.6.7).
 mod asking;
+mod changing;
 mod clock;
+mod replacing;
 mod starting;
 mod taking;
 
@@ -13,6 +15,8 @@ pub use taking::Taken;
 ghost use mathlib.Core.Path.{_≡_};
 ghost use Rattle.answer.specs.Checks.{refused, accepted};
 ghost use Rattle.station.specs.Clock.{stepped, switched};
+ghost use Rattle.station.specs.CodeTerms.Changing.{restOf, withRest};
+use crate::changing::Rest;
 use answer::Answer;
 use answer::Refusal;
 use beacon::MaybePower;
@@ -54,19 +58,50 @@ impl Station {
         duration: 0,
     };
 
-    // On another channel nothing of the old one holds: schedules, what runs on of older ones, constraint and pending switch are gone.
+    // What it keeps beside its addresses and its schedules, where it stays quiet until then.
+    fn rest(self, until: u64) -> Rest
+        ensures { λ r. ⌜ r ≡ restOf self until ⌝ }
+    {
+        let power = self.power;
+        let pending = self.pending;
+        Rest {
+            interval: self.interval,
+            clock: self.clock,
+            channel: self.channel,
+            power,
+            pending,
+            until,
+        }
+    }
+
+    // Another rest, and so many schedules in their slots; the settings and the clock never change by a frame.
+    fn with(
+        self,
+        rest: Rest,
+        schedules: [Schedule; Station::SCHEDULE_LIMIT],
+        count: usize,
+    ) -> Station
+        ensures { λ r. ⌜ r ≡ withRest self rest schedules count ⌝ }
+    {
+        let power = rest.power;
+        let pending = rest.pending;
+        Station {
+            channel: rest.channel,
+            power,
+            pending,
+            schedules,
+            count,
+            until: rest.until,
+            ..self
+        }
+    }
+
+    // On another channel nothing of the old one holds, nor any schedule.
     fn switched(self, channel: u8) -> Station
         ensures { λ r. ⌜ r ≡ switched self channel ⌝ }
     {
-        Station {
-            channel,
-            power: MaybePower::Absent,
-            pending: Pending::Nothing,
-            schedules: [Station::NO_SCHEDULE; Station::SCHEDULE_LIMIT],
-            count: 0,
-            until: 0,
-            ..self
-        }
+        let none = [Station::NO_SCHEDULE; Station::SCHEDULE_LIMIT];
+        self.with(self.rest(self.until).switched(channel), none, 0)
     }
 }
 

@@ -1,8 +1,7 @@
 -- A line before it is written, and what every record and every block leave of the lister.
 use mathlib.Core.Path.{_≡_}
-use Prim.Native.Nat.{ℕ, _+_, _≤_}
 use lib.ListN.{length}
-use Rattle.capture.specs.Listers.{mostLines, Sound, Fits}
+use Rattle.capture.specs.Listers.{Sound, Fits}
 use Rattle.capture.specs.Lists.{Told, line}
 use Rattle.capture.specs.declared.lister.Lister.{Lister}
 use Rattle.capture.specs.declared.listing.Put.{Put}
@@ -15,15 +14,6 @@ lineFor a = line (a .lister) (a .word) (a .answer)
 pub record Follows (l next : Lister) : Type 0 where
   pub sound : Sound next
   pub same-lines : next .lines ≡ l .lines
-  pub same-blocks : next .blocks ≡ l .blocks
-  pub same-damaged : next .damaged ≡ l .damaged
-
--- what the lines of a block's records leave: the lister that was told, how many octets they are, and counts that stay small
-pub record Listed (l : Lister) (told : Told) (next : Lister) (count : ℕ) : Type 0 where
-  pub same : next ≡ told .lister
-  pub many : count ≡ length (told .text)
-  pub sound : Sound next
-  pub few-lines : next .lines ≤ l .lines + mostLines
   pub same-blocks : next .blocks ≡ l .blocks
   pub same-damaged : next .damaged ≡ l .damaged
 

@@ -1,16 +1,13 @@
--- Whether blocks may be listed, apart from what they tell, and the lines of one block after those before it.
+-- Whether blocks may be listed, apart from what they tell.
 use mathlib.Core.List.{[], _∷_}
-use mathlib.Core.Path.{_≡_}
-use Prim.Native.Nat.{ℕ, _+_, _*_, _≤_}
+use Prim.Native.Nat.{ℕ, _+_, _*_}
 use lib.Dec.{ltb}
-use lib.ListN.{length}
 use Rattle.answer.specs.Checks.{Outcome, refused, accepted, _⇒_, judged}
 use Rattle.answer.specs.declared.Answer.{Answer}
 use Rattle.answer.specs.declared.Refusal.{Refusal}
 use Rattle.octets.specs.declared.writing.Wrote.{Wrote}
 use Rattle.capture.specs.Feeding.{enoughRoom}
-use Rattle.capture.specs.Listers.{blockLimit, Fits}
-use Rattle.capture.specs.Lists.{Told}
+use Rattle.capture.specs.Listers.{blockLimit}
 use Rattle.capture.specs.declared.feeding.Listing.{Listing}
 use Rattle.capture.specs.declared.listing.Put.{Put}
 
@@ -21,13 +18,6 @@ answerTold (Answer.Refused r) = refused r
 unfoldable pub roomFor : ℕ → ℕ → ℕ → Outcome (Unit {0})
 roomFor blocks many size =
     judged (ltb blockLimit (blocks + many) ⇒ Refusal.Impossible ∷ ltb size (many * enoughRoom) ⇒ Refusal.BufferShort ∷ []) tt
-
--- what one block more leaves
-pub record Added (before : Put) (told : Told) (put : Put) : Type 0 where
-  pub same : put .lister ≡ told .lister
-  pub many : put .count ≡ before .count + length (told .text)
-  pub short : length (told .text) ≤ enoughRoom
-  pub fits : Fits (put .lister)
 
 abbrev pub listedAs : Put → Listing
 listedAs p = record { wrote = Wrote.Length (p .count); lister = p .lister }

@@ -10,6 +10,7 @@ use Rattle.answer.specs.Faults.{placedPast}
 use Rattle.answer.specs.declared.Fault.{Fault}
 use Rattle.header.specs.Headers.{headerLength, bodyOf, headerTold, Head, headerMeans}
 use Rattle.header.specs.declared.management.Subtype.{Subtype}
+use Rattle.frame.specs.CodeTerms.BodyKinds.{kindSubtype}
 use Rattle.frame.specs.Frames.{kindOf, sent, frameMeans}
 use Rattle.frame.specs.Laid.{received, frameLaid}
 use Rattle.frame.specs.declared.Reading.{Reading}
@@ -44,13 +45,10 @@ short c =
     body-short (a .own) (a .ap) (a .frame .now) (head (c .before)) (header-read (c .before)) (c .body .ensures)
 
 read-notice-requires : tie.Need-read-notice-requires
-read-notice-requires c κs = short (c .before .before)
-
-read-notice-requires-2 : tie.Need-read-notice-requires-2
-read-notice-requires-2 c κs = short (c .before .before)
+read-notice-requires c κs = short (c .before .before .before .before)
 
 read-action-requires : tie.Need-read-action-requires
-read-action-requires c κs = short (c .before .before)
+read-action-requires c κs = short (c .before .before .before)
 
 returns : tie.Need-returns
 returns c =
@@ -62,13 +60,14 @@ returns c =
     ∙ ap frameLaid (framed (a .own) (a .ap) (a .interval) (a .frame .now) _ (ap headerTold (sym (k .before .refusal .given .1)) ∙ h .read .ensures))
 
 returns-2 : tie.Need-returns-2
-returns-2 c = c .read-notice .ensures ∙ of-body (c .before .before .before) (c .before .enum-told .given .1)
+returns-2 c =
+    let k = c .before .before .before .before in
+    c .read-notice .ensures ∙ of-body (k .before) (sym (k .body-kind .ensures) ∙ ap kindSubtype (c .before .before .probe .given .1))
 
 returns-3 : tie.Need-returns-3
-returns-3 c = c .read-notice2 .ensures ∙ of-body (c .before .before .before) (c .before .enum-told2 .given .1)
-
-returns-4 : tie.Need-returns-4
-returns-4 c = c .read-action .ensures ∙ of-body (c .before .before .before) (c .before .enum-told3 .given .1)
+returns-3 c =
+    let k = c .before .before .before in
+    c .read-action .ensures ∙ of-body (k .before) (sym (k .body-kind .ensures) ∙ ap kindSubtype (c .before .enum-told .given .1))
 
 pub read-spec : {M : Type 1} → statement M
 read-spec =
@@ -80,13 +79,11 @@ read-spec =
     (λ c κs. search needs)
     (λ c. search needs)
     (λ c κs. search needs)
+    (λ c κs. search needs)
     (λ c. search needs)
     read-notice-requires
-    (λ c. search needs)
-    read-notice-requires-2
     (λ c. search needs)
     read-action-requires
     returns
     returns-2
-    returns-3
-    returns-4)
+    returns-3)

@@ -3,18 +3,18 @@
 use mathlib.Core.Bool.{true}
 use mathlib.Core.List.{List}
 use mathlib.Core.Path.{_≡_, sym, ap, _∙_}
-use Prim.Native.Nat.{ℕ, _+_, _-_, _≤_}
+use Prim.Native.Nat.{ℕ, _+_, _≤_}
 use native.Mathlib.Omega.{arith}
 use borrow.Author.Needs.{needs}
 use borrow.Author.Tests.{leb-false, not-true, not-false}
 use denote.Ref.{now}
-use lib.ListN.{length, take, drop, length-drop}
-use lib.Seq.{take-all}
+use lib.ListN.{length}
+use lib.Seq.{length-take-le}
 use Rattle.answer.proofs.Booleans.{clash}
 use Rattle.octets.specs.Writing.{left}
-use Rattle.line.proofs.InRoom as InRoom
-use Rattle.line.specs.Backs.{lineRoom}
-use Rattle.line.specs.Lines.{closingOf}
+use Rattle.capture.proofs.InRoom.{in-front, count-within}
+use Rattle.capture.specs.Lines.{closingOf}
+use Rattle.capture.specs.declared.last_line.Text.{Text}
 use Rattle.capture.specs.Lists.{fileTold, listOf}
 use Rattle.capture.specs.declared.lister.Lister.{Lister}
 use Rattle.boundary.proofs.Wholes.{list-length, same-out, too-short, whole}
@@ -54,15 +54,8 @@ closingIn c = let l = passIn c .pass-all .result .lister in closingOf (l .blocks
 fits : (c : tie.After-closing) → passIn c .pass-all .result .fits ≡ true
 fits c = not-false (passIn c .pass-all .result .fits) (c .before .before .if1 .left)
 
-its-room : (c : tie.After-closing) → length (c .closing .result .bytes) ≡ lineRoom
-its-room c = search needs
-
--- where it begins in its room
-place : (c : tie.After-closing) → (length (closingIn c) ≤ lineRoom) × (c .closing .result .from + length (closingIn c) ≡ lineRoom)
-place c =
-    let t = c .closing in
-    let f = InRoom.fits (t .result) (closingIn c) (t .ensures) (its-room c) in
-    (f, omega (arith, f, InRoom.begins (t .result) (closingIn c) (t .ensures) (its-room c)))
+its-count : (c : tie.After-closing) → c .closing .result .count ≡ length (closingIn c)
+its-count c = ap (λ (x : Text). x .count) (c .closing .ensures)
 
 -- how long the list is
 total : (c : tie.After-closing) → length (listOf (fileIn (passIn c))) ≡ passIn c .pass-all .result .count + length (closingIn c)
@@ -71,14 +64,11 @@ total c =
     let same = ap (λ (l : Lister). length (closingOf (l .blocks) (l .damaged))) (p .ensures .0 .same (fits c)) in
     omega (arith, list-length (fileIn (passIn c)), p .ensures .0 .many (fits c), same)
 
-sub-last : tie.Need-sub-last
-sub-last c = omega (arith, place (c .before))
-
 returns-2 : tie.Need-returns-2
 returns-2 c =
     let t = c .before .before in
     let k = passIn t in
-    too-short (fileIn k) (outIn k) _ (k .pass-all .ensures .1) (omega (arith, total t, place t, c .if2 .taken, same-size k))
+    too-short (fileIn k) (outIn k) _ (k .pass-all .ensures .1) (omega (arith, total t, its-count t, c .if2 .taken, same-size k))
 
 -- ---- the whole list
 
@@ -86,7 +76,7 @@ enough : (c : tie.Else2) → length (listOf (fileIn (passIn (c .before .before))
 enough c =
     let t = c .before .before in
     let k = passIn t in
-    omega (arith, total t, place t, c .if2 .left, k .pass-all .ensures .0 .inside, same-size k)
+    omega (arith, total t, its-count t, c .if2 .left, k .pass-all .ensures .0 .inside, same-size k)
 
 pass-all-requires-2 : tie.Need-pass-all-requires-2
 pass-all-requires-2 c κs =
@@ -94,41 +84,32 @@ pass-all-requires-2 c κs =
     let k = passIn t in
     λ e. omega (arith, k .pass-all .ensures .0 .many (fits t), k .pass-all .ensures .0 .inside, same-size k)
 
--- the second pass leaves it as long, too
-second-size : (c : tie.After-pass-all2) → length (c .pass-all2 .last .1 .1 .0) ≡ length (passIn (c .before .before .before .before) .pass-all .last .1 .1 .0)
-second-size c = search needs
-
 -- ---- the closing line is put
 
-sub-put : tie.Need-sub-put
-sub-put c = omega (arith, place (c .before .before .before .before .before .before))
+within : (c : tie.After-closing) → c .closing .result .count ≤ length (c .closing .result .bytes)
+within c = count-within (c .closing .result) (closingIn c) (c .closing .ensures)
 
-part-put-start : tie.Need-part-put-start
-part-put-start c = omega (arith, place (c .before .before .before .before .before .before .before))
+array-share-prefix-bytes : tie.Need-array-share-prefix-bytes
+array-share-prefix-bytes c = within (c .before .before .before .before .before .before)
 
-part-put-end : tie.Need-part-put-end
-part-put-end c =
-    let t = c .before .before .before .before .before .before .before in
-    omega (arith, place t, its-room t)
+slice-aggregate-put : tie.Need-slice-aggregate-put
+slice-aggregate-put c = sym (length-take-le _ _ (within (c .before .before .before .before .before .before .before)))
 
 returns-3 : tie.Need-returns-3
 returns-3 c =
     let put = c .before .before .put in
-    let second = c .before .before .before .before .before .before .before .before in
+    let second = c .before .before .before .before .before .before .before in
     let e = second .before .before in
     let t = e .before .before in
     let k = passIn t in
     let p = k .pass-all in
     let x = t .closing .result in
-    let os : take (lineRoom - x .from) (drop (x .from) (x .bytes)) ≡ closingIn t =
-    take-all (lineRoom - x .from) (drop (x .from) (x .bytes)) (omega (arith, length-drop (x .from) (x .bytes), its-room t)) ∙ InRoom.from-place x (closingIn t) (t .closing .ensures)
-    in
     whole (fileIn k) (outIn k) _ (p .ensures .1) _ _ (p .result .lister) (p .result .count) _ (second .pass-all2 .ensures .1)
-    (put .ensures .leaves ∙ ap (λ (xs : List ℕ). left true xs (p .result .count) (second .pass-all2 .last .1 .1 .0)) os)
+    (put .ensures .leaves ∙ ap (λ (xs : List ℕ). left true xs (p .result .count) (second .pass-all2 .last .1 .1 .0)) (in-front x (closingIn t) (t .closing .ensures)))
     (p .ensures .0 .same (fits t))
     (omega (arith, p .ensures .0 .many (fits t)))
-    (omega (arith, place t))
-    (omega (arith, enough e, total t, place t))
+    (omega (arith, its-count t))
+    (omega (arith, enough e, total t, its-count t))
 
 pub list-spec : {M : Type 1} → statement M
 list-spec =
@@ -138,15 +119,13 @@ list-spec =
     (λ c. search needs)
     returns
     (λ c κs. search needs)
-    sub-last
     (λ c. search needs)
     (λ c. search needs)
     returns-2
     (λ c. search needs)
     pass-all-requires-2
-    sub-put
-    part-put-start
-    part-put-end
+    array-share-prefix-bytes
+    slice-aggregate-put
     (λ c κs. search needs)
     (λ c. search needs)
     returns-3)

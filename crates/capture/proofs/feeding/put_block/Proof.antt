@@ -1,110 +1,65 @@
--- `put_block` meets its contract: damaged, or the records of the used part.
+-- `put_block` meets its contract: a block alone, or one that is damaged for its length.
 -- Assumes nothing.
-use mathlib.Core.List.{List}
-use mathlib.Core.Path.{_≡_, sym, ap, ap₂, _∙_, subst}
-use Prim.Native.Nat.{ℕ, _-_, _≤_}
+use mathlib.Core.List.{List, [], _∷_}
+use mathlib.Core.Path.{_≡_, sym, ap, _∙_, subst}
+use Prim.Native.Nat.{ℕ, _+_, _*_, _≤_}
 use native.Mathlib.Omega.{arith}
 use borrow.Author.Needs.{needs}
 use denote.Ref.{now}
-use lib.ListN.{length, take, drop, length-take, length-drop}
-use Rattle.block.proofs.Judging.{used-within}
-use Rattle.block.specs.Blocks.{blockMeans}
-use Rattle.block.specs.declared.Block.{Block}
+use lib.ListN.{length}
 use Rattle.octets.specs.Writing.{filled}
-use Rattle.capture_record.specs.Records.{recordsIn}
-use Rattle.capture.specs.Listers.{Sound}
-use Rattle.capture.specs.CodeTerms.Following.{Fed, Listed}
-use Rattle.capture.specs.Lists.{Told, recorded, blockTold}
+use Rattle.capture.specs.CodeTerms.Following.{Fed}
+use Rattle.capture.specs.Feeding.{enoughRoom}
+use Rattle.capture.specs.Listers.{blockLimit}
+use Rattle.capture.specs.Lists.{Told, blocksIn}
 use Rattle.capture.specs.declared.lister.Lister.{Lister}
-use Rattle.capture.proofs.Fitting.{fits-listed, sound-counted, used-part, told-as}
+use Rattle.capture.specs.declared.listing.Put.{Put}
+use Rattle.capture.proofs.FedBlocks.{alone, alone-told, other-told}
 use Rattle.capture.proofs.feeding.put_block.Statement.{statement}
 use Rattle.capture.proofs.feeding.put_block.Tie as tie
 
-abbrev start : tie.After-known-told → tie.Start
-start c = c .before .before .before .before .before .before
+-- there is room for one block
+room : (b : List ℕ) (before size : ℕ) → length (blocksIn b) ≡ 1 → (before + 1 ≤ blockLimit) → enoughRoom ≤ size
+    → (before + length (blocksIn b) ≤ blockLimit) × (length (blocksIn b) * enoughRoom ≤ size)
+room b before size one h k = (omega (arith, one), subst (λ (n : ℕ). n * enoughRoom ≤ size) (sym one) (omega arith))
 
--- the block is whole, and so much of it is used
-whole : (c : tie.After-known-told) → blockMeans (now (start c .args .block)) ≡ Block.Used (c .before .used .given .0 .0)
-whole c = sym (c .before .before .before .judge .ensures) ∙ c .before .used .given .1
+-- what was fed tells the same
+fed-as : (l : Lister) (put : Put) (out exit : List ℕ) {t u : Told} → t ≡ u → Fed l t put × (exit ≡ filled (t .text) out) → Fed l u put × (exit ≡ filled (u .text) out)
+fed-as l put out exit e f = subst (λ (x : Told). Fed l x put × (exit ≡ filled (x .text) out)) e f
 
-size : (c : tie.After-known-told) → (length (now (start c .args .block)) ≡ 512) × (c .before .used .given .0 .0 ≤ 508)
-size c = let w = used-within _ _ (whole c) in (w .0, w .2)
-
-sub-part : tie.Need-sub-part
-sub-part c = omega (arith, size c)
-
-part-part-start : tie.Need-part-part-start
-part-part-start c = omega (arith, size c)
-
-slice-aggregate-put-records : tie.Need-slice-aggregate-put-records
-slice-aggregate-put-records c =
-    let k = c .before .before .before in
-    let b = now (start k .args .block) in
-    let n = k .before .used .given .0 .0 in
-    omega (arith, size k, length-take n (take (length b - 2) (drop 2 b)), length-take (length b - 2) (drop 2 b), length-drop 2 b)
-
-put-records-requires : tie.Need-put-records-requires
-put-records-requires c κs =
-    let k = c .before .before .before .before in
-    let b = now (start k .args .block) in
-    let n = k .before .used .given .0 .0 in
-    let l = start k .args .lister in
-    let pre = start k .pre in
-    let counted = c .before .before .counted .ensures in (
-      subst Sound (sym counted) (sound-counted l (pre .0) (pre .1 .0) _),
-      (
-        omega (arith, size k, length-take n (take (length b - 2) (drop 2 b))),
-        omega (arith, pre .1 .1),
-        omega (arith, pre .0 .few-lines, pre .1 .0, ap (λ (x : Lister). x .lines) counted),
-      ),
-    )
+put-blocks-requires : tie.Need-put-blocks-requires
+put-blocks-requires c κs =
+    let s = c .before .before .before .before in
+    let b = now (s .args .block) in
+    (s .pre .0, room b _ _ (ap length (alone b (omega (arith, c .before .if1 .taken)) (omega (arith, c .before .if1 .taken)))) (omega (arith, s .pre .1 .0)) (s .pre .1 .1))
 
 returns : tie.Need-returns
 returns c =
-    let e = c .before .before .before .before in
-    let j = e .before .before in
-    let a = j .before .before .before .args in
-    let d = c .before .before .put-damaged .ensures in
-    let same = told-as (a .lister) (now (a .block)) Block.Damaged (sym (j .judge .ensures) ∙ e .enum-told .given .1) in
-    (subst (λ (t : Told). Fed (a .lister) t (c .before .before .put-damaged .result)) same (d .0), d .1 ∙ ap (λ (t : Told). filled (t .text) (now (a .out))) same)
+    let p = c .before .before in
+    let t = p .before .before in
+    let a = t .before .before .before .args in
+    fed-as (a .lister) (p .put-blocks .result) (now (a .out)) _ (alone-told (now (a .block)) (omega (arith, t .if1 .taken)) (omega (arith, t .if1 .taken)) (a .lister)) (p .put-blocks .ensures)
+
+put-blocks-requires-2 : tie.Need-put-blocks-requires-2
+put-blocks-requires-2 c κs =
+    let s = c .before .before .before .before .before in
+    (s .pre .0, room (0 ∷ []) _ _ (ap length (alone (0 ∷ []) (omega arith) (omega arith))) (omega (arith, s .pre .1 .0)) (s .pre .1 .1))
 
 returns-2 : tie.Need-returns-2
 returns-2 c =
-    let k = c .before .before .before .before .before .before .before in
-    let a = start k .args in
-    let b = now (a .block) in
-    let n = k .before .used .given .0 .0 in
-    let pre = start k .pre in
-    let counted = c .before .before .before .before .before .counted .ensures in
-    let listed = c .before .before .put-records .ensures in
-    let put = c .before .before .put-records .result in
-    let same : recorded (recordsIn (take n (take (length b - 2) (drop 2 b)))) _ ≡ blockTold b (a .lister) =
-    ap₂ (λ (used : List ℕ) (l : Lister). recorded (recordsIn used) l) (used-part b n (whole k)) counted ∙ told-as (a .lister) b (Block.Used n) (whole k)
-    in
-    let w = subst (λ (l : Lister). Listed l (blockTold b (a .lister)) (put .lister) (put .count)) counted (subst (λ (t : Told). Listed (c .before .before .before .before .before .counted .result) t (put .lister) (put .count)) same (listed .0)) in (
-      record {
-        same = w .same;
-        many = w .many;
-        fits = fits-listed (a .lister) (pre .0) (pre .1 .0) (blockTold b (a .lister)) (put .lister) (put .count) w;
-      },
-      listed .1 ∙ ap (λ (t : Told). filled (t .text) (now (a .out))) same,
-    )
+    let p = c .before .before in
+    let t = p .before .before .before in
+    let a = t .before .before .before .args in
+    fed-as (a .lister) (p .put-blocks2 .result) (now (a .out)) _ (alone-told (0 ∷ []) (omega arith) (omega arith) (a .lister) ∙ other-told (0 ∷ []) (now (a .block)) (a .lister) (λ e. absurd (omega (arith, e))) (t .if1 .left)) (p .put-blocks2 .ensures)
 
 pub put-block-spec : {M : Type 1} → statement M
 put-block-spec =
     tie.close
     (tie.spec
-    (λ c κs. search needs)
-    (λ c. search needs)
-    (λ c κs. search needs)
-    (λ c. search needs)
-    sub-part
-    part-part-start
-    (λ c. search needs)
-    (λ c κs. search needs)
-    slice-aggregate-put-records
-    put-records-requires
+    put-blocks-requires
     (λ c. search needs)
     returns
+    (λ c. search needs)
+    put-blocks-requires-2
     (λ c. search needs)
     returns-2)

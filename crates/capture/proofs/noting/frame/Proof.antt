@@ -3,7 +3,7 @@
 use mathlib.Core.Path.{sym, ap, _∙_, subst}
 use borrow.Author.Needs.{needs}
 use denote.Ref.{now}
-use Rattle.line.specs.declared.words.Word.{Word}
+use Rattle.capture.specs.declared.words.Word.{Word}
 use Rattle.capture.specs.CodeTerms.Following.{Follows}
 use Rattle.capture.specs.Lists.{line, taken}
 use Rattle.capture.specs.declared.lister.Lister.{Lister}

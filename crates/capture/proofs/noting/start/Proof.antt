@@ -9,7 +9,7 @@ use Rattle.capture_record.specs.declared.entry.Settings.{Settings}
 use Rattle.station.specs.Starting.{startMeans}
 use Rattle.station.specs.Starting as Starting
 use Rattle.station.specs.declared.Station.{Station}
-use Rattle.line.specs.declared.words.Word.{Word}
+use Rattle.capture.specs.declared.words.Word.{Word}
 use Rattle.capture.specs.CodeTerms.Following.{Follows}
 use Rattle.capture.specs.Lists.{line, noted}
 use Rattle.capture.specs.declared.lister.Lister.{Lister}

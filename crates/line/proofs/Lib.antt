@@ -1,4 +1,0 @@
-pub mod Backing
-pub mod InRoom
-pub mod Lengths
-pub mod Spelling
