@@ -4,6 +4,9 @@ use denote.Ref.{now}
 use Rattle.answer.specs.Checks.{Outcome, refused, accepted}
 use Rattle.element.proofs.channel_switch.read as Switch-read
 use Rattle.element.proofs.channel_switch.write as Switch-write
+use Rattle.element.proofs.ibss_dfs.pair_at as Dfs-pair-at
+use Rattle.element.proofs.ibss_dfs.read as Dfs-read
+use Rattle.element.proofs.ibss_dfs.write as Dfs-write
 use Rattle.measurement_element.proofs.measurement_report.read as Report-read
 use Rattle.measurement_element.proofs.measurement_report.write as Report-write
 use Rattle.measurement_element.proofs.measurement_request.read as Request-read
@@ -18,12 +21,15 @@ use Rattle.element.proofs.tpc_request.read as Tpc-request-read
 use Rattle.element.proofs.tpc_request.write as Tpc-request-write
 use Rattle.element.specs.ChannelSwitch.{switchTold}
 use Rattle.measurement_element.specs.MeasurementRequest.{requestTold}
+use Rattle.element.specs.IbssDfs.{pairTold}
 use Rattle.element.specs.PowerConstraint.{powerTold}
 use Rattle.element.specs.Quiet.{quietTold}
 use Rattle.element.specs.TpcReport.{tpcReportTold}
 use Rattle.element.specs.TpcRequest.{tpcRequestTold}
 use Rattle.element.specs.declared.channel_switch.ChannelSwitch.{ChannelSwitch}
 use Rattle.element.specs.declared.channel_switch.Reading as Switch-reading
+use Rattle.element.specs.declared.ibss_dfs.ChannelMap.{ChannelMap}
+use Rattle.element.specs.declared.ibss_dfs.Pair as Dfs-pair
 use Rattle.measurement_element.specs.declared.measurement_request.Reading as Request-reading
 use Rattle.measurement_element.specs.declared.measurement_request.Request.{Request}
 use Rattle.element.specs.declared.power_constraint.PowerConstraint.{PowerConstraint}
@@ -109,6 +115,24 @@ switch-read κs a e f x y p q = told-once switchTold switch-of switch-told p q
 
 pub switch-write : OneOutcome 1 Switch-write.Kinds.ps Switch-write.Kinds.r Switch-write.Reads.Post (λ κs e. now (e .1 .0))
 switch-write κs a e f x y p q = written-once p q
+
+pub dfs-read : OneResult 1 Dfs-read.Kinds.ps Dfs-read.Kinds.r Dfs-read.Reads.Post
+dfs-read κs a e f x y p q = once p q
+
+pair-of : Outcome ChannelMap → Dfs-pair.Pair
+pair-of (refused r) = Dfs-pair.Pair.Refused r
+pair-of (accepted m) = Dfs-pair.Pair.Is m
+
+pair-told : (x : Dfs-pair.Pair) → pair-of (pairTold x) ≡ x
+unfolding pair-of
+pair-told (Dfs-pair.Pair.Refused r) = refl
+pair-told (Dfs-pair.Pair.Is m) = refl
+
+pub dfs-pair-at : OneResult 1 Dfs-pair-at.Kinds.ps Dfs-pair-at.Kinds.r Dfs-pair-at.Reads.Post
+dfs-pair-at κs a e f x y p q = told-once pairTold pair-of pair-told p q
+
+pub dfs-write : OneOutcome 2 Dfs-write.Kinds.ps Dfs-write.Kinds.r Dfs-write.Reads.Post (λ κs e. now (e .1 .1 .1 .0))
+dfs-write κs a e f x y p q = written-once p q
 
 quiet-of : Outcome Quiet → Quiet-reading.Reading
 quiet-of (refused r) = Quiet-reading.Reading.Refused r

@@ -1,2 +1,3 @@
+pub mod DfsContents
 pub mod FixedLength
 pub mod RoundTrips

@@ -1,4 +1,5 @@
 pub mod ChannelSwitch
+pub mod IbssDfs
 pub mod PowerConstraint
 pub mod Quiet
 pub mod TpcReport
