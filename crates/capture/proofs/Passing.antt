@@ -5,7 +5,7 @@ use mathlib.Core.Path.{_≡_, refl, sym, ap, ap₂, _∙_, subst}
 use Prim.Native.Nat.{ℕ, _+_, _*_, _-_, _<_, _≤_}
 use native.Mathlib.Omega.{arith}
 use lib.ListN.{length, take, drop, length-append, length-take, length-drop, drop-of-length-le}
-use lib.Seq.{length-take-le, take-take, take-add, drop-at, drop-drop}
+use lib.Seq.{length-take-le, take-take, drop-drop}
 use Rattle.answer.proofs.Booleans.{clash}
 use Rattle.answer.specs.Checks.{pick}
 use Rattle.answer.specs.declared.Refusal.{Refusal}
@@ -20,6 +20,7 @@ use Rattle.capture_record.specs.declared.entry.Entry.{Entry}
 use Rattle.capture.specs.Rooms.{lineRoom}
 use Rattle.capture.specs.Numerals.{Spells}
 use Rattle.capture.specs.declared.words.Word.{Word}
+use Rattle.octets.proofs.Parts.{after-cut}
 use Rattle.octets.proofs.Storing.{filled-length, after-left, after-over}
 use Rattle.octets.specs.Writing.{left, over, filled}
 use Rattle.station.proofs.Clearing.{nothing-clear}
@@ -93,9 +94,6 @@ module _ (file : List ℕ) (at stop after : ℕ) (l : Lister) where
 
 -- ---- a block
 
-drop-take : (n k : ℕ) (xs : List ℕ) → n ≤ length xs → drop n (take (n + k) xs) ≡ take k (drop n xs)
-drop-take n k xs h = ap (drop n) (take-add n k xs) ∙ drop-at (take n xs) (take k (drop n xs)) n (length-take-le n xs h)
-
 module _ (file : List ℕ) (at end : ℕ) (j : Block) (b : Begins file at end j) where
   pub begun-inside : (at < end) × (end ≤ length file)
   begun-inside = let e = end-inside (at) (length file) (b .some) in (omega (arith, e, b .ends), omega (arith, e, b .ends))
@@ -128,9 +126,9 @@ module _ (file : List ℕ) (at end n : ℕ) (b : Begins file at end (Block.Used 
       let long : m ≡ 2 + (m - 2) = omega (arith, used-inside, b .ends) in
       ap (λ (k : ℕ). take k (drop 2 (blockFrom file at))) (sym (w .1))
       ∙ ap (λ (k : ℕ). take n (drop 2 (take k (drop at file)))) long
-      ∙ ap (take n) (drop-take 2 (m - 2) (drop at file) (omega (arith, used-inside, b .ends, begun-inside file at end (Block.Used n) b, length-drop at file)) ∙ ap (take (m - 2)) (drop-drop 2 at file))
+      ∙ ap (take n) (after-cut 2 (m - 2) (drop at file) (omega (arith, used-inside, b .ends, begun-inside file at end (Block.Used n) b, length-drop at file)) ∙ ap (take (m - 2)) (drop-drop 2 at file))
       ∙ take-take n (m - 2) (drop (at + 2) file) (omega (arith, used-inside, b .ends))
-      ∙ sym (drop-take (at + 2) n file (omega (arith, used-inside, begun-inside file at end (Block.Used n) b)))
+      ∙ sym (after-cut (at + 2) n file (omega (arith, used-inside, begun-inside file at end (Block.Used n) b)))
 
   pub opened-told : (l : Lister) → blocksTold (blocksIn (drop at file)) l ≡ rest file (at + 2) (at + 2 + n) end (oneBlockMore l 0)
   opened-told l =

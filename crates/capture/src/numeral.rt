@@ -1,4 +1,4 @@
-// The number of the next line as its digits. They are kept from line to line, since counting them up costs less than spelling a number anew.
+// The number of the latest line as its digits. They are kept from line to line, since counting them up costs less than spelling a number anew.
 ghost use mathlib.Core.Path.{_≡_};
 ghost use Prim.Native.Nat.{ℕ, _+_, _-_, _<_};
 ghost use lib.ListN.{length};

@@ -27,7 +27,8 @@ use Rattle.octets.specs.Numbers.{octet, number, join}
 use Rattle.single_body.specs.Singles.{single}
 use Rattle.walk.specs.Elements.{elementsIn}
 use Rattle.walk.specs.Handed.{handedIn}
-use Rattle.claims.proofs.Cut.{from-kept, long-kept, after-cut}
+use Rattle.octets.proofs.Parts.{after-cut}
+use Rattle.claims.proofs.Cut.{from-kept, long-kept}
 use Rattle.claims.proofs.ElementsBefore.{Accepts, Reached, says-before, measurements-before, none-measured, single-before, none-single}
 use Rattle.claims.proofs.RefusedAt.{unfailed, unchecked, refused-by, made-refused, same-place, some-place}
 

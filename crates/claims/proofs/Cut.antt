@@ -5,8 +5,8 @@ use mathlib.Core.Path.{_≡_, ap, _∙_}
 use Prim.Native.Nat.{ℕ, _+_, _≤_}
 use native.Mathlib.Omega.{arith}
 use lib.Dec.{eqb}
-use lib.ListN.{length, take, drop, length-take}
-use lib.Seq.{length-take-le, getD-take, take-add, take-append-add, drop-at}
+use lib.ListN.{length, take, length-take}
+use lib.Seq.{getD-take, take-append-add}
 use Rattle.answer.specs.Checks.{pick}
 use Rattle.octets.specs.Elements.{element}
 use Rattle.octets.specs.Numbers.{octetsFrom}
@@ -24,10 +24,6 @@ module _ (p : ℕ) (os : List ℕ) where
   -- what has n octets and is cut no earlier still has them
   pub long-kept : (n : ℕ) → n ≤ p → n ≤ length os → n ≤ length (take p os)
   long-kept n h l = omega (arith, length-take p os)
-
--- what stands after the first n octets is cut the same
-pub after-cut : (n k : ℕ) (os : List ℕ) → n ≤ length os → drop n (take (n + k) os) ≡ take k (drop n os)
-after-cut n k os h = ap (drop n) (take-add n k os) ∙ drop-at (take n os) (take k (drop n os)) n (length-take-le n os h)
 
 -- a whole element in front stands, and what follows it is cut the same
 pub element-kept : (run : List ℕ) (id : ℕ) (c : List ℕ) (es : Elements) (e : elementsIn run ≡ more id c es) (k : ℕ)

@@ -29,6 +29,7 @@ pub mod OneOutcomeCaptures
 pub mod OneOutcomeElements
 pub mod OneOutcomeFrames
 pub mod OneOutcomeLeaves
+pub mod OneOutcomeOwners
 pub mod OneOutcomeWalk
 pub mod OneRecord
 pub mod OneSaying

@@ -26,7 +26,8 @@ use Rattle.header.specs.declared.management.Subtype.{Subtype}
 use Rattle.octets.specs.Numbers.{octet}
 use Rattle.claims.specs.SoundBefore.{firstElement, SoundBefore}
 use Rattle.claims.proofs.BodiesBefore.{notice-before, fieldsOf, action-before}
-use Rattle.claims.proofs.Cut.{from-kept, long-kept, after-cut}
+use Rattle.octets.proofs.Parts.{after-cut}
+use Rattle.claims.proofs.Cut.{from-kept, long-kept}
 use Rattle.claims.proofs.ElementsBefore.{Accepts}
 use Rattle.claims.proofs.RefusedAt.{refused-by, made-refused, not-nowhere, past-place}
 use Rattle.claims.proofs.Same.{accepted-once}

@@ -1,6 +1,7 @@
 pub mod Bits
 pub mod JoinSplit
 pub mod Overwriting
+pub mod Parts
 pub mod Prefixed
 pub mod Storing
 pub mod SumLaws

@@ -1,4 +1,5 @@
-// The one writer into a lent buffer: every other writer hands it the octets, and whether they may be written.
+// The one writer that may be refused: every other such writer hands it the octets, and whether they may be written. Lines of the list are put where there is
+// room for them, which is judged once for many (`capture`).
 ghost use mathlib.Core.Path.{_≡_};
 ghost use Prim.Native.Nat.{ℕ, _+_, _<_, _≤_};
 ghost use lib.ListN.{length};

@@ -123,7 +123,7 @@ module _ (test : ℕ → Bool) where
 -- ---- two tests
 
 module _ (f g : ℕ → Bool) where
-  -- the first that passes one of them is the first of those before the other's first, and that one
+  -- the first that passes either of them: the first by g among the units before the first by f, or that one
   pub first-or : (a n : ℕ) → firstUnit (λ u. f u || g u) a n ≡ firstUnit g a (firstUnit f a n - a)
   first-or a n =
       one-first (λ u. f u || g u) a n _ _ (first-has (λ u. f u || g u) a n)

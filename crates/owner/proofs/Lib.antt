@@ -1,0 +1,3 @@
+pub mod KeptFit
+pub mod SameAddresses
+pub mod TbttByTbtt

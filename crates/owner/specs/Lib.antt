@@ -1,0 +1,2 @@
+pub mod CodeTerms
+pub mod Owners
