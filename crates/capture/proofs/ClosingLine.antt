@@ -6,7 +6,7 @@ use native.Mathlib.Omega.{arith}
 use lib.ListN.{length, length-append}
 use Rattle.capture.specs.Decimals.{decimal}
 use Rattle.capture.specs.Lines.{closingOf}
-use Rattle.capture.specs.Putting.{OctetsPut}
+use Rattle.capture.specs.CodeTerms.Putting.{OctetsPut}
 use Rattle.capture.specs.Rooms.{lineRoom}
 use Rattle.capture.proofs.Following.{put-after}
 

@@ -10,7 +10,7 @@ use lib.Dec.{ltb}
 use lib.ListN.{length, getD, take, drop, set, length-append, length-set}
 use lib.Seq.{append-snoc}
 use Rattle.capture.specs.Decimals.{decimal}
-use Rattle.capture.specs.Numerals.{numeralEnd, numeralRoom, Spells}
+use Rattle.capture.specs.CodeTerms.Numerals.{numeralEnd, numeralRoom, Spells}
 use Rattle.capture.proofs.InNumeral.{placed-digits, digit-read, digit-changed, digit-before}
 use Rattle.capture.proofs.Spelling.{one-alone, last-of-many, some-digits}
 

@@ -6,7 +6,7 @@ use native.Mathlib.Omega.{arith}
 use lib.ListN.{length, take, drop, length-append, length-drop}
 use lib.Seq.{length-take-le, take-at, drop-append-add, drop-drop}
 use Rattle.octets.specs.Writing.{over}
-use Rattle.capture.specs.Putting.{OctetsPut, piece, PiecesPut}
+use Rattle.capture.specs.CodeTerms.Putting.{OctetsPut, piece, PiecesPut}
 
 -- what was put of octets was put of equal ones
 pub put-as : {os os' : List ℕ} {at : ℕ} {out : List ℕ} {end : ℕ} {exit : List ℕ} → os ≡ os' → OctetsPut os at out end exit → OctetsPut os' at out end exit

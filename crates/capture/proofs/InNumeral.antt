@@ -6,7 +6,7 @@ use native.Mathlib.Omega.{arith}
 use lib.ListN.{length, getD, take, drop, set, length-set}
 use lib.Seq.{length-take-le, length-slice, drop-cons, getD-append-seam, set-append-seam, getD-set-same, drop-set-lt, take-set-lt, drop-set-add, getD-take, getD-drop, take-add, drop-at}
 use Rattle.capture.specs.Decimals.{decimal}
-use Rattle.capture.specs.Numerals.{numeralEnd, numeralRoom, Spells}
+use Rattle.capture.specs.CodeTerms.Numerals.{numeralEnd, numeralRoom, Spells}
 use Rattle.capture.proofs.Spelling.{some-digits}
 
 -- a number's digits stand at the end of the room, and there is one at least

@@ -5,7 +5,7 @@ use Prim.Native.Nat.{ℕ, _+_, _-_, _≤_}
 use native.Mathlib.Omega.{arith}
 use lib.ListN.{length, take, drop, replicate, length-append, length-replicate, replicate-append-replicate}
 use lib.Seq.{take-append-seam, drop-at}
-use Rattle.capture.specs.Putting.{OctetsPut}
+use Rattle.capture.specs.CodeTerms.Putting.{OctetsPut}
 use Rattle.capture.specs.Rooms.{lineRoom, fronted}
 use Rattle.capture.specs.declared.last_line.Text.{Text}
 

@@ -7,7 +7,7 @@ use lib.ListN.{length, take, drop, set, take-append-drop}
 use lib.Seq.{take-take, take-set-le, drop-set-lt}
 use Rattle.octets.specs.Writing.{over}
 use Rattle.capture.specs.Decimals.{decimal}
-use Rattle.capture.specs.Numerals.{numeralEnd, Spells}
+use Rattle.capture.specs.CodeTerms.Numerals.{numeralEnd, Spells}
 use Rattle.capture.proofs.InNumeral.{placed-digits}
 
 -- the room as it was, but for the octets from a place up to the digits' end

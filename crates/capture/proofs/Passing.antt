@@ -18,7 +18,7 @@ use Rattle.capture_record.specs.Entries.{Noted, entryTold}
 use Rattle.capture_record.specs.Records.{Records, end, cut, recordsIn}
 use Rattle.capture_record.specs.declared.entry.Entry.{Entry}
 use Rattle.capture.specs.Rooms.{lineRoom}
-use Rattle.capture.specs.Numerals.{Spells}
+use Rattle.capture.specs.CodeTerms.Numerals.{Spells}
 use Rattle.capture.specs.declared.words.Word.{Word}
 use Rattle.octets.proofs.Parts.{after-cut}
 use Rattle.octets.proofs.Storing.{filled-length, after-left, after-over}

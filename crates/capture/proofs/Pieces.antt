@@ -8,8 +8,8 @@ use lib.ListN.{length, getD, take, drop, set, length-take, length-drop}
 use lib.Seq.{paste, paste-zero, paste-suc, length-take-le, getD-drop, take-add, drop-drop}
 use Rattle.octets.specs.Writing.{over}
 use Rattle.capture.specs.Decimals.{decimal}
-use Rattle.capture.specs.Numerals.{numeralEnd, Spells}
-use Rattle.capture.specs.Putting.{piece, PiecesPut}
+use Rattle.capture.specs.CodeTerms.Numerals.{numeralEnd, Spells}
+use Rattle.capture.specs.CodeTerms.Putting.{piece, PiecesPut}
 use Rattle.capture.proofs.Following.{put-over}
 use Rattle.capture.proofs.InNumeral.{placed-digits, digits-cut}
 

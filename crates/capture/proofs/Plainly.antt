@@ -14,7 +14,7 @@ use Rattle.capture_record.specs.Entries.{Noted, advancing, asking}
 use Rattle.capture_record.specs.Records.{Records, recordsIn}
 use Rattle.capture.proofs.Following.{over-length, put-over}
 use Rattle.capture.specs.Rooms.{lineRoom}
-use Rattle.capture.specs.Numerals.{Spells}
+use Rattle.capture.specs.CodeTerms.Numerals.{Spells}
 use Rattle.capture.specs.declared.words.Word.{Word}
 use Rattle.octets.proofs.Storing.{room-left}
 use Rattle.octets.specs.Writing.{over}

@@ -9,8 +9,8 @@ use Rattle.octets.proofs.Storing.{room-left}
 use Rattle.capture.specs.Rooms.{lineRoom, mostLetters}
 use Rattle.capture.specs.Decimals.{decimal}
 use Rattle.capture.specs.Lines.{spelled, placed, lineOf}
-use Rattle.capture.specs.Numerals.{Spells}
-use Rattle.capture.specs.Putting.{OctetsPut, PiecesPut, LinePut}
+use Rattle.capture.specs.CodeTerms.Numerals.{Spells}
+use Rattle.capture.specs.CodeTerms.Putting.{OctetsPut, PiecesPut, LinePut}
 use Rattle.capture.specs.declared.words.Word.{Word}
 use Rattle.capture.proofs.Following.{put-as, put-after, put-after-pieces}
 use Rattle.capture.proofs.InNumeral.{placed-digits}

@@ -4,6 +4,4 @@ pub mod Feeding
 pub mod Lines
 pub mod Listers
 pub mod Lists
-pub mod Numerals
-pub mod Putting
 pub mod Rooms

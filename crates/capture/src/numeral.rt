@@ -4,7 +4,7 @@ ghost use Prim.Native.Nat.{ℕ, _+_, _-_, _<_};
 ghost use lib.ListN.{length};
 ghost use Rattle.octets.specs.Writing.{over};
 ghost use Rattle.capture.specs.Decimals.{decimal};
-ghost use Rattle.capture.specs.Numerals.{numeralEnd, numeralRoom, numeralLimit, Spells};
+ghost use Rattle.capture.specs.CodeTerms.Numerals.{numeralEnd, numeralRoom, numeralLimit, Spells};
 
 // The digits end here: the longest number has so many.
 pub const END: usize = 20;

@@ -5,7 +5,7 @@ ghost use lib.ListN.{length};
 ghost use Rattle.answer.specs.declared.Answer.{Answer};
 ghost use Rattle.capture.specs.Lines.{lineOf};
 ghost use Rattle.capture.specs.Rooms.{lineRoom};
-ghost use Rattle.capture.specs.Numerals.{numeralRoom, Spells};
+ghost use Rattle.capture.specs.CodeTerms.Numerals.{numeralRoom, Spells};
 ghost use Rattle.capture.specs.declared.words.Word.{Word};
 ghost use Rattle.station.specs.declared.asking.Permission.{Permission};
 ghost use Rattle.capture.specs.CodeTerms.Penning.{Penned};

@@ -3,7 +3,7 @@
 ghost use Prim.Native.Nat.{_+_, _-_, _*_, _≤_};
 ghost use lib.ListN.{length};
 ghost use Rattle.capture.specs.Rooms.{lineRoom};
-ghost use Rattle.capture.specs.Numerals.{Spells};
+ghost use Rattle.capture.specs.CodeTerms.Numerals.{Spells};
 ghost use mathlib.Core.Path.{_≡_};
 ghost use Rattle.station.specs.Clock.{clockAdvance};
 ghost use Rattle.capture.specs.CodeTerms.Plain.{knownGranted, goesTo, linesLeft, PlainAt, RanFrom};

@@ -5,7 +5,7 @@ use mathlib.Core.Path.{_≡_}
 use Prim.Native.Nat.{ℕ, _+_, _≤_}
 use lib.ListN.{length}
 use Rattle.capture.specs.Rooms.{lineRoom}
-use Rattle.capture.specs.Numerals.{Spells}
+use Rattle.capture.specs.CodeTerms.Numerals.{Spells}
 use Rattle.octets.specs.Writing.{left}
 use Rattle.capture.specs.declared.pen.Pen.{Pen}
 

@@ -8,7 +8,7 @@ use lib.ListN.{length, drop}
 use Rattle.capture_record.specs.Entries.{Noted, advancing, asking, entryMeans}
 use Rattle.capture_record.specs.Records.{more, recordsIn}
 use Rattle.capture.specs.Rooms.{lineRoom}
-use Rattle.capture.specs.Numerals.{Spells}
+use Rattle.capture.specs.CodeTerms.Numerals.{Spells}
 use Rattle.octets.specs.Writing.{over}
 use Rattle.pending.specs.declared.Pending.{Pending}
 use Rattle.station.specs.Clear.{Clear}

@@ -8,7 +8,7 @@ use borrow.Author.Needs.{needs}
 use lib.ListN.{length, length-set}
 use Rattle.octets.specs.Writing.{over}
 use Rattle.capture.specs.Decimals.{decimal}
-use Rattle.capture.specs.Numerals.{numeralEnd, numeralRoom, Spells}
+use Rattle.capture.specs.CodeTerms.Numerals.{numeralEnd, numeralRoom, Spells}
 use Rattle.capture.proofs.CountingUp.{Counting, counting-begins, begun, digit-low, counted, carried, grown}
 use Rattle.capture.proofs.InNumeral.{placed-digits}
 use Rattle.capture.proofs.OnlyDigits.{Around, nothing-changed, one-changed, one-wider, only-digits}

@@ -8,7 +8,7 @@ use borrow.Author.Needs.{needs}
 use lib.ListN.{length, take, drop, set, length-set}
 use lib.Seq.{slice-empty}
 use Rattle.capture.specs.Decimals.{decimal}
-use Rattle.capture.specs.Numerals.{numeralEnd, numeralRoom, Spells}
+use Rattle.capture.specs.CodeTerms.Numerals.{numeralEnd, numeralRoom, Spells}
 use Rattle.capture.proofs.InNumeral.{digit-before}
 use Rattle.capture.proofs.Lengths.{number-short}
 use Rattle.capture.proofs.OnlyDigits.{Around, nothing-changed, one-changed, one-wider, only-digits}

@@ -7,8 +7,8 @@ use native.Mathlib.Omega.{arith}
 use borrow.Author.Needs.{needs}
 use lib.ListN.{length, take, drop, length-take}
 use Rattle.octets.specs.Writing.{over}
-use Rattle.capture.specs.Numerals.{numeralEnd, numeralRoom}
-use Rattle.capture.specs.Putting.{piece}
+use Rattle.capture.specs.CodeTerms.Numerals.{numeralEnd, numeralRoom}
+use Rattle.capture.specs.CodeTerms.Putting.{piece}
 use Rattle.capture.proofs.Following.{over-length}
 use Rattle.capture.proofs.InNumeral.{placed-digits}
 use Rattle.capture.proofs.Pieces.{piece-more, pieces-put}
