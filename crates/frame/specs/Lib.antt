@@ -1,5 +1,6 @@
 pub mod Actions
 pub mod Allowed
+pub mod Announcements
 pub mod CodeTerms
 pub mod Frames
 pub mod Laid
