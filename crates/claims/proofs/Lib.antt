@@ -17,7 +17,9 @@ pub mod ElementsBefore
 pub mod ErrorReturns
 pub mod FedFilesListed
 pub mod Filtered
+pub mod Following
 pub mod HistoriesTell
+pub mod KeptThroughout
 pub mod LatestEnds
 pub mod ListedFiles
 pub mod MeasurementItems
@@ -54,6 +56,7 @@ pub mod SameBits
 pub mod Schedules
 pub mod SetSchedules
 pub mod SoundBefore
+pub mod StationFollows
 pub mod StationWitnesses
 pub mod Stations
 pub mod TakenOut
