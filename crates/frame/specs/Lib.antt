@@ -3,4 +3,5 @@ pub mod Allowed
 pub mod Announcements
 pub mod CodeTerms
 pub mod Frames
+pub mod IbssFrames
 pub mod Laid

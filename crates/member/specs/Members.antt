@@ -20,9 +20,9 @@ use Rattle.station.specs.Starting.{blank, startMeans}
 use Rattle.station.specs.Taking.{heard}
 use Rattle.station.specs.declared.Station.{Station}
 use Rattle.member.specs.declared.Member.{Member}
-use Rattle.member.specs.declared.Started.{Started}
-use Rattle.member.specs.declared.Stepped.{Stepped}
-use Rattle.member.specs.declared.Taken.{Taken}
+use Rattle.member.specs.declared.starting.Started.{Started}
+use Rattle.member.specs.declared.clock.Stepped.{Stepped}
+use Rattle.member.specs.declared.taking.Taken.{Taken}
 
 abbrev pub memberOf : Station → Owner → Member
 memberOf s o = record { station = s; owner = o }

@@ -59,3 +59,10 @@ module _ (b : ℕ) (pos : 1 ≤ b) where
       (let e : t / b + (tbttsIn b t n + pick (isTbtt b (t + suc n)) 1 0) ≡ (t + n) / b + pick (isTbtt b (t + suc n)) 1 0 = omega (arith, before) in e)
       ∙ ap (λ (m : ℕ). (t + n) / b + pick (isTbtt b m) 1 0) same
       ∙ sym more ∙ ap (λ (m : ℕ). m / b) (sym same)
+
+  -- and so those that lie after t and no later than u
+  pub tbtts-between : (t u : ℕ) → t ≤ u → u / b - t / b ≡ tbttsIn b t (u - t)
+  tbtts-between t u h = let w = passed-tbtts t (u - t) ∙ ap (λ (m : ℕ). m / b) (let e : t + (u - t) ≡ u = omega arith in e) in omega (arith, w)
+
+  pub in-order : (t u : ℕ) → t ≤ u → t / b ≤ u / b
+  in-order t u h = let w = passed-tbtts t (u - t) ∙ ap (λ (m : ℕ). m / b) (let e : t + (u - t) ≡ u = omega arith in e) in omega (arith, w)
