@@ -1,5 +1,6 @@
 -- What the definitions say of single bodies. Assumes nothing.
 use mathlib.Core.Path.{_≡_, refl, ap}
+use mathlib.Core.Bool.{false}
 use mathlib.Core.List.{List, [], _∷_, _++_}
 use Prim.Native.Nat.{ℕ, zero, suc}
 use native.Mathlib.Omega.{arith}
@@ -12,6 +13,7 @@ use Rattle.element.specs.Quiet.{quietMeans, quietOctets}
 use Rattle.element.specs.declared.quiet.Quiet.{Quiet}
 use Rattle.walk.specs.Elements.{elementsAfter, elementsIn}
 use Rattle.beacon.specs.Beacons.{Told, tells, elementMeans, takes, says, beaconMeans}
+use Rattle.beacon.specs.IbssBeacons.{absent, besides, toldWhere}
 use Rattle.beacon.specs.Laid.{noQuiet, laid}
 use Rattle.beacon.specs.Notices.{elementless}
 use Rattle.beacon.specs.declared.Heard.{Heard}
@@ -56,8 +58,8 @@ unfolding beaconMeans checked says takes elementMeans elementsIn elementsAfter q
 two-quiets = refl
 
 -- as the reader hands them out
-pub two-slots : laid (beaconMeans 100 (body 1 (octetsOf (quietIn 3 ∷ quietIn 5 ∷ [])))) .quiets ≡ quietIn 3 ∷ quietIn 5 ∷ replicate 6 noQuiet
-two-slots = ap (λ (o : Placed Told). laid o .quiets) two-quiets
+pub two-slots : laid 0 (toldWhere false 100 (body 1 (octetsOf (quietIn 3 ∷ quietIn 5 ∷ [])))) .quiets ≡ quietIn 3 ∷ quietIn 5 ∷ replicate 6 noQuiet
+two-slots = ap (λ (o : Placed Told). laid 0 (besides absent o) .quiets) two-quiets
 
 -- eight are kept
 pub eight-quiets : beaconMeans 100 (body 1 (octetsOf (several 8))) ≡ accepted (quietly (several 8))
@@ -70,7 +72,7 @@ unfolding beaconMeans checked says takes elementMeans elementsIn elementsAfter q
 nine-quiets = refl
 
 -- bodies that differ in one octet of the capability are told apart
-pub capability-counts : laid (beaconMeans 100 (body 0 [])) ≡ laid (beaconMeans 100 (body 1 [])) → ⊥
+pub capability-counts : laid 0 (toldWhere false 100 (body 0 [])) ≡ laid 0 (toldWhere false 100 (body 1 [])) → ⊥
 unfolding beaconMeans checked says elementsIn elementsAfter
 capability-counts e =
     let z : _≡_ {A = ℕ} 0 1 = ap (λ (h : Heard). h .notice .capability) e in

@@ -3,5 +3,4 @@ pub mod Allowed
 pub mod Announcements
 pub mod CodeTerms
 pub mod Frames
-pub mod IbssFrames
 pub mod Laid

@@ -4,7 +4,7 @@ use Rattle.answer.specs.Checks.{pick}
 use Rattle.beacon.specs.Notices.{hasSwitch}
 use Rattle.frame.specs.declared.Frame.{Frame}
 use Rattle.frame.specs.declared.Reading.{Reading}
-use Rattle.frame.specs.declared.ReceivedInIbss.{ReceivedInIbss}
+use Rattle.frame.specs.declared.ibss.ReceivedInIbss.{ReceivedInIbss}
 use Rattle.owner.specs.Owners.{named}
 use Rattle.owner.specs.declared.Owner.{Owner}
 
