@@ -1,7 +1,7 @@
 -- What no call changes of a record: by these a station reads frames. Assumes nothing.
 use mathlib.Core.Bool.{Bool, true, false}
 use mathlib.Core.List.{List}
-use mathlib.Core.Path.{_≡_, refl, _∙_}
+use mathlib.Core.Path.{_≡_, refl, ap, _∙_}
 use Prim.Native.Nat.{ℕ}
 use lib.Dec.{eqb}
 use Rattle.answer.specs.Checks.{pick}
@@ -25,36 +25,46 @@ KeptThroughout = List ℕ × List ℕ × ℕ
 abbrev pub keptBy : Station → KeptThroughout
 keptBy r = (r .own, r .ap, r .interval)
 
-announced-keeps : (r : Station) (w : ChannelSwitch) → keptBy (announced r w) ≡ keptBy r
+-- these, and the clock: what no frame changes
+abbrev unchanged : Station → List ℕ × List ℕ × ℕ × ℕ
+unchanged r = (r .own, r .ap, r .interval, r .clock)
+
+announced-unchanged : (r : Station) (w : ChannelSwitch) → unchanged (announced r w) ≡ unchanged r
 unfolding announced
-announced-keeps r w = by-count (eqb (w .count) 0)
+announced-unchanged r w = by-count (eqb (w .count) 0)
   where
-    by-count : (now : Bool) → keptBy (pick now (switched r (w .channel)) (withPending r (pendingBy w (passed r) (r .interval)))) ≡ keptBy r
+    by-count : (now : Bool) → unchanged (pick now (switched r (w .channel)) (withPending r (pendingBy w (passed r) (r .interval)))) ≡ unchanged r
     by-count true = refl
     by-count false = refl
 
-announced-if-keeps : (r : Station) (m : MaybeSwitch) → keptBy (announcedIf r m) ≡ keptBy r
-announced-if-keeps r MaybeSwitch.Absent = refl
-announced-if-keeps r (MaybeSwitch.Is w) = announced-keeps r w
+announced-if-unchanged : (r : Station) (m : MaybeSwitch) → unchanged (announcedIf r m) ≡ unchanged r
+announced-if-unchanged r MaybeSwitch.Absent = refl
+announced-if-unchanged r (MaybeSwitch.Is w) = announced-unchanged r w
 
-constrained-keeps : (r : Station) (m : MaybePower) → keptBy (constrained r m) ≡ keptBy r
-constrained-keeps r MaybePower.Absent = refl
-constrained-keeps r (MaybePower.Is p) = refl
+constrained-unchanged : (r : Station) (m : MaybePower) → unchanged (constrained r m) ≡ unchanged r
+constrained-unchanged r MaybePower.Absent = refl
+constrained-unchanged r (MaybePower.Is p) = refl
 
-informed-keeps : (r : Station) (t : Told) → keptBy (informed r t) ≡ keptBy r
+informed-unchanged : (r : Station) (t : Told) → unchanged (informed r t) ≡ unchanged r
 unfolding informed
-informed-keeps r t =
+informed-unchanged r t =
     let replaced = rescheduled (withUntil r (outlasting r)) (t .quiets) in
-    announced-if-keeps (constrained replaced (t .notice .power)) (t .notice .switch) ∙ constrained-keeps replaced (t .notice .power)
+    announced-if-unchanged (constrained replaced (t .notice .power)) (t .notice .switch) ∙ constrained-unchanged replaced (t .notice .power)
+
+heard-unchanged : (r : Station) (k : Kind) → unchanged (heard r k) ≡ unchanged r
+heard-unchanged r (beacon t) = informed-unchanged r t
+heard-unchanged r (probeResponse t) = informed-unchanged r t
+heard-unchanged r (action (requests token rs)) = refl
+heard-unchanged r (action (reports token rs)) = refl
+heard-unchanged r (action (tpcRequest token)) = refl
+heard-unchanged r (action (tpcReport token t)) = refl
+heard-unchanged r (action (switch w)) = announced-unchanged r w
 
 pub heard-keeps : (r : Station) (k : Kind) → keptBy (heard r k) ≡ keptBy r
-heard-keeps r (beacon t) = informed-keeps r t
-heard-keeps r (probeResponse t) = informed-keeps r t
-heard-keeps r (action (requests token rs)) = refl
-heard-keeps r (action (reports token rs)) = refl
-heard-keeps r (action (tpcRequest token)) = refl
-heard-keeps r (action (tpcReport token t)) = refl
-heard-keeps r (action (switch w)) = announced-keeps r w
+heard-keeps r k = ap (λ (z : List ℕ × List ℕ × ℕ × ℕ). (z .0, z .1, z .2)) (heard-unchanged r k)
+
+pub heard-clock : (r : Station) (k : Kind) → heard r k .clock ≡ r .clock
+heard-clock r k = ap (λ (z : List ℕ × List ℕ × ℕ × ℕ). z .3) (heard-unchanged r k)
 
 pub advance-keeps : (r : Station) (n : ℕ) → keptBy (advanceOf r n .station) ≡ keptBy r
 unfolding advanceMeans

@@ -8,6 +8,7 @@ pub mod Bodies
 pub mod BodiesBefore
 pub mod ContentsIgnored
 pub mod CountingTbtts
+pub mod CountsRestarted
 pub mod CoveredUnits
 pub mod Cut
 pub mod Demand3
@@ -19,11 +20,14 @@ pub mod FedFilesListed
 pub mod Filtered
 pub mod Following
 pub mod HistoriesTell
+pub mod IbssReadings
 pub mod KeptThroughout
 pub mod LatestEnds
 pub mod ListedFiles
 pub mod MeasurementItems
 pub mod MeasurementsIgnored
+pub mod MemberDemand3
+pub mod MemberFollows
 pub mod MomentsHold
 pub mod NoticeFields
 pub mod Numbers
@@ -37,6 +41,8 @@ pub mod OneRecord
 pub mod OneSaying
 pub mod Others
 pub mod OwedReports
+pub mod OwnersNamed
+pub mod OwnersTold
 pub mod PassedOver
 pub mod Pendings
 pub mod Places
@@ -60,4 +66,5 @@ pub mod StationFollows
 pub mod StationWitnesses
 pub mod Stations
 pub mod TakenOut
+pub mod TbttsPassed
 pub mod Witnesses

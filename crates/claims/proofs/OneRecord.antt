@@ -113,15 +113,17 @@ module _ (l : Listener) (sound : Sound l) (pos : 1 ≤ l .interval) where
           until = until-one (r .until) (r' .until) (a .until-told) (a' .until-told);
         }
 
+-- two records alike, with the same addresses, are one
+pub same-station : (r r' : Station) → r .own ≡ r' .own → r .ap ≡ r' .ap → Alike r r' → r ≡ r'
+same-station r r' own ap' w =
+    let same :
+    stationOf (r .own) (r .ap) (r .interval) (r .clock) (r .channel) (r .power) (r .pending) (r .schedules) (r .count) (r .until)
+    ≡ stationOf (r' .own) (r' .ap) (r' .interval) (r' .clock) (r' .channel) (r' .power) (r' .pending) (r' .schedules) (r' .count) (r' .until) =
+    rw (own, ap', w .interval, w .clock, w .channel, w .power, w .pending, w .schedules, w .count, w .until) in
+    same
+
 -- the record of the station of 01
 module _ (s : Settings) (pos : 1 ≤ s .interval) (h : History) where
   pub one-record : (r r' : Station) → Valid r → Valid r' → Agrees s h r → Agrees s h r' → r ≡ r'
   one-record r r' v v' a a' =
-      let w = alike (listener s) (sound s) pos h r r' v v' (a .as-heard) (a' .as-heard) in
-      let own = a .same-own ∙ sym (a' .same-own) in
-      let ap' = a .same-ap ∙ sym (a' .same-ap) in
-      let same :
-      stationOf (r .own) (r .ap) (r .interval) (r .clock) (r .channel) (r .power) (r .pending) (r .schedules) (r .count) (r .until)
-      ≡ stationOf (r' .own) (r' .ap) (r' .interval) (r' .clock) (r' .channel) (r' .power) (r' .pending) (r' .schedules) (r' .count) (r' .until) =
-      rw (own, ap', w .interval, w .clock, w .channel, w .power, w .pending, w .schedules, w .count, w .until) in
-      same
+      same-station r r' (a .same-own ∙ sym (a' .same-own)) (a .same-ap ∙ sym (a' .same-ap)) (alike (listener s) (sound s) pos h r r' v v' (a .as-heard) (a' .as-heard))

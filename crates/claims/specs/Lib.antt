@@ -8,7 +8,10 @@ pub mod FilteredFrames
 pub mod Filters
 pub mod Histories
 pub mod HistoryLines
+pub mod MemberRecords
+pub mod MemberRuns
 pub mod Moments
+pub mod Naming
 pub mod Numbered
 pub mod OpenUnits
 pub mod PassedOver
@@ -16,6 +19,7 @@ pub mod Places
 pub mod PossibleReadings
 pub mod QuietRuns
 pub mod Records
+pub mod Reigns
 pub mod RepliesRead
 pub mod ReplyHeads
 pub mod Reserved
