@@ -2,4 +2,6 @@ pub mod Actions
 pub mod Allowed
 pub mod CodeTerms
 pub mod Frames
+pub mod IbssFrames
+pub mod IbssLaid
 pub mod Laid
