@@ -1,5 +1,6 @@
 -- A fault of a body, or of a frame, lies in it or at its end. Assumes nothing.
 use mathlib.Core.Path.{_≡_, refl, sym, ap, subst, _∙_}
+use mathlib.Core.Bool.{Bool, true, false}
 use mathlib.Core.List.{List}
 use Prim.Native.Nat.{ℕ, _+_, _≤_}
 use native.Mathlib.Omega.{arith}
@@ -12,16 +13,21 @@ use Rattle.answer.specs.Faults.{Placed, nowhere, offsetPast, placedPast}
 use Rattle.answer.specs.declared.Fault.{Fault}
 use Rattle.answer.specs.declared.Offset.{Offset}
 use Rattle.beacon.specs.Beacons.{beaconMeans}
+use Rattle.beacon.specs.IbssBeacons.{ToldInIbss, toldWhere}
+use Rattle.beacon.specs.Laid.{laid}
+use Rattle.beacon.specs.declared.Heard.{Heard}
 use Rattle.header.proofs.Heard.{has-header, not-too-long}
 use Rattle.header.specs.Headers.{headerLength, bodyOf, Head, headerMeans}
+use Rattle.header.specs.declared.address.Cell.{Cell}
 use Rattle.header.specs.declared.management.Subtype.{Subtype}
 use Rattle.measurement_body.specs.Bodies.{longestBody}
 use Rattle.frame.specs.Actions.{Body, actionMeans}
 use Rattle.frame.specs.CodeTerms.Located.{OffsetWithin, ReadingWithin}
+use Rattle.frame.specs.CodeTerms.Notices.{VerdictWithin}
 use Rattle.frame.specs.Frames.{kindOf, frameMeans}
 use Rattle.frame.specs.Laid.{frameTold, bodyFrame}
 use Rattle.frame.specs.declared.Reading.{Reading}
-use Rattle.frame.proofs.BodyFaults.{action-faults, notice-faults}
+use Rattle.frame.proofs.BodyFaults.{action-faults, NoticeFaults, notice-faults, ibss-notice-faults}
 
 -- no further than so many octets
 abbrev Lies : ℕ → Fault → Type 0
@@ -29,10 +35,9 @@ Lies size x = OffsetWithin size (x .offset)
 
 -- of a body that has no more
 module _ {size : ℕ} (body : List ℕ) (h : length body ≤ size) where
-  notice-lies : (b : ℕ) → Refuses (Lies size) (beaconMeans b body)
-  notice-lies b =
-      notice-faults (Lies size) b body
-      (record {
+  notice-may : NoticeFaults (Lies size) (length body)
+  notice-may =
+      record {
         short = tt;
         interval = λ k. omega arith;
         cut = λ n k. omega arith;
@@ -40,10 +45,21 @@ module _ {size : ℕ} (body : List ℕ) (h : length body ≤ size) where
         value = λ n k. omega arith;
         repeat = λ n k. omega arith;
         many = λ n k. omega arith;
-      })
+      }
 
-  pub notice-within : (b : ℕ) {x : Fault} → refused x ≡ beaconMeans b body → OffsetWithin size (x .offset)
-  notice-within b {x} e = notice-lies b x (sym e)
+  notice-lies : (b : ℕ) → Refuses (Lies size) (beaconMeans b body)
+  notice-lies b = notice-faults (Lies size) b body notice-may
+
+  told-lies : (ibss : Bool) (b : ℕ) → Refuses (Lies size) (toldWhere ibss b body)
+  told-lies true b = ibss-notice-faults (Lies size) b body notice-may
+  told-lies false b = by-then (Lies size) (beaconMeans b body) _ (notice-lies b) (λ t e. by-value (Lies size) _)
+
+  pub heard-within : (ibss : Bool) (b i : ℕ) (v : Heard) → v ≡ laid i (toldWhere ibss b body) → VerdictWithin size (v .verdict)
+  heard-within ibss b i v e = subst (λ (x : Heard). VerdictWithin size (x .verdict)) (sym e) (by (toldWhere ibss b body) (told-lies ibss b))
+    where
+      by : (o : Placed ToldInIbss) → Refuses (Lies size) o → VerdictWithin size (laid i o .verdict)
+      by (refused x) h = h x refl
+      by (accepted t) h = tt
 
   action-lies : Refuses (Lies size) (actionMeans body)
   action-lies =
@@ -75,9 +91,9 @@ module _ {size : ℕ} (body : List ℕ) (h : length body ≤ size) where
       by (accepted a) g (Reading.Is f) e = tt
 
 -- the body of a frame with a header that is heard is no longer than the longest
-pub body-short : (own ap' f : List ℕ) (h : Head) → accepted h ≡ headerMeans own ap' f → {body : List ℕ} → body ≡ bodyOf f → length body ≤ longestBody
-body-short own ap' f h e {body} g =
-    omega (arith, ap length g, length-drop headerLength f, has-header own ap' f h (sym e), not-too-long own ap' f h (sym e))
+pub body-short : (cell : Cell) (own bss f : List ℕ) (h : Head) → accepted h ≡ headerMeans cell own bss f → {body : List ℕ} → body ≡ bodyOf f → length body ≤ longestBody
+body-short cell own bss f h e {body} g =
+    omega (arith, ap length g, length-drop headerLength f, has-header cell own bss f h (sym e), not-too-long cell own bss f h (sym e))
 
 -- ---- a frame's
 
@@ -102,10 +118,10 @@ kind-lies b Subtype.Action body = by-then _ (actionMeans body) _ (action-lies bo
 pub frame-within : (own ap' : List ℕ) (b : ℕ) (f : List ℕ) (x : Fault) → frameMeans own ap' b f ≡ refused x → OffsetWithin (length f) (x .offset)
 unfolding frameMeans
 frame-within own ap' b f =
-    by-then (Lies (length f)) (nowhere (headerMeans own ap' f)) _ (nowhere-lies (length f) (headerMeans own ap' f))
+    by-then (Lies (length f)) (nowhere (headerMeans Cell.Ap own ap' f)) _ (nowhere-lies (length f) (headerMeans Cell.Ap own ap' f))
     (λ h e.
     let body = bodyOf f in
-    let long : headerLength + length body ≡ length f = omega (arith, length-drop headerLength f, has-header own ap' f h (nowhere-value (headerMeans own ap' f) e)) in
+    let long : headerLength + length body ≡ length f = omega (arith, length-drop headerLength f, has-header Cell.Ap own ap' f h (nowhere-value (headerMeans Cell.Ap own ap' f) e)) in
     let lies : Refuses (Lies (length f)) (placedPast headerLength (kindOf b (h .subtype) body)) =
     subst (λ (n : ℕ). Refuses (Lies n) (placedPast headerLength (kindOf b (h .subtype) body))) long (past-lies headerLength (length body) (kindOf b (h .subtype) body) (kind-lies b (h .subtype) body))
     in

@@ -5,7 +5,7 @@ use mathlib.Core.Path.{_≡_, sym, ap, _∙_}
 use Prim.Native.Nat.{ℕ, _≤_}
 use borrow.Author.Tests.{ltb-false, le-ltb}
 use lib.ListN.{length}
-use Rattle.answer.proofs.Judged.{passed, followed, past, done}
+use Rattle.answer.proofs.Judged.{passed, kept, followed, past, done}
 use Rattle.answer.specs.Checks.{accepted}
 use Rattle.header.specs.Headers.{Head, headerLength, longestFrame, subtype, subtypeOf, toAll, foreignHeader, foreignAddress, managementMeans, addressMeans, headerMeans}
 use Rattle.header.specs.declared.address.Cell.{Cell}
@@ -25,6 +25,15 @@ module _ (cell : Cell) (own bss f : List ℕ) where
     pub not-too-long : length f ≤ longestFrame
     unfolding managementMeans
     not-too-long = ltb-false longestFrame (length f) (passed _ _ _ (passed _ _ _ (of-management .1) .1) .0)
+
+    pub is-subtype : subtypeOf (subtype f) ≡ h .subtype
+    unfolding headerMeans managementMeans
+    is-subtype =
+        let m = followed (managementMeans f) _ h e in
+        let t = followed (addressMeans cell own bss f) _ h (m .2) in
+        let is : subtypeOf (subtype f) ≡ m .0 = kept _ (passed _ _ _ (passed _ _ _ (passed _ _ _ (m .1) .1) .1) .1) in
+        let same : m .0 ≡ h .subtype = cc (t .2) in
+        is ∙ same
 
   -- past each check
   pub heard-as : (s : Subtype) (t : Bool) → headerLength ≤ length f → length f ≤ longestFrame → foreignHeader f ≡ false → foreignAddress cell own bss f ≡ false
