@@ -179,4 +179,4 @@ module _ (s : Settings) where
 
       by-pending : (p : Pending) → PendingIs (ibssListener s) h p → p ≡ Pending.Nothing
       by-pending Pending.Nothing x = refl
-      by-pending (Pending.Switch q) (w, x, y) = absurd (never-announced h (q .at) w none (x .0))
+      by-pending (Pending.Switch q) (w, x, mode, channel) = absurd (never-announced h (q .at) w none (x .0))
