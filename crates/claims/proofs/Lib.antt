@@ -31,6 +31,7 @@ pub mod MemberFollows
 pub mod MomentsHold
 pub mod NoticeFields
 pub mod Numbers
+pub mod OneAddress
 pub mod OneOutcomeCaptures
 pub mod OneOutcomeElements
 pub mod OneOutcomeFrames

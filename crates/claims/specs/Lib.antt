@@ -13,6 +13,7 @@ pub mod MemberRuns
 pub mod Moments
 pub mod Naming
 pub mod Numbered
+pub mod OneAddress
 pub mod OpenUnits
 pub mod PassedOver
 pub mod Places
