@@ -17,6 +17,7 @@ pub mod ElementsBefore
 pub mod ErrorReturns
 pub mod FedFilesListed
 pub mod Filtered
+pub mod FilteredIbss
 pub mod HistoriesTell
 pub mod LatestEnds
 pub mod ListedFiles
