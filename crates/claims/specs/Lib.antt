@@ -5,6 +5,7 @@ pub mod ErrorReturns
 pub mod Exchanged
 pub mod FedFiles
 pub mod FilteredFrames
+pub mod FilteredIbss
 pub mod Filters
 pub mod Histories
 pub mod HistoryLines
