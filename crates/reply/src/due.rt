@@ -67,13 +67,7 @@ fn owed_to(body: &[u8], index: usize) -> Due
 }
 
 // What a frame to the station itself is owed.
-pub fn due_to(
-    frame: &[u8],
-    cell: Cell,
-    own: [u8; 6],
-    bssid: [u8; 6],
-    index: usize,
-) -> Due
+pub fn due_to(frame: &[u8], cell: Cell, own: [u8; 6], bssid: [u8; 6], index: usize) -> Due
     ensures { λ r. ⌜ r ≡ dueOf index (dueIn cell own bssid (now (frame .entry))) ⌝ }
 {
     match header::read(frame, cell, own, bssid) {

@@ -55,13 +55,7 @@ fn head(own: [u8; 6], to: [u8; 6], bssid: [u8; 6]) -> [u8; header::LENGTH]
 }
 
 // Refuses a buffer that is too short (13) before anything is put, so that no half frame is ever left.
-fn put_frame(
-    own: [u8; 6],
-    to: [u8; 6],
-    bssid: [u8; 6],
-    body: &[u8],
-    buffer: &mut [u8],
-) -> Wrote
+fn put_frame(own: [u8; 6], to: [u8; 6], bssid: [u8; 6], body: &[u8], buffer: &mut [u8]) -> Wrote
     requires { ⌜ length (now body) ≤ longestBody ⌝ }
     ensures { λ r. ⌜ Written true (frameTo own to bssid (now (body .entry))) 0 (now (buffer .entry)) r (now (buffer .exit)) ⌝ }
 {

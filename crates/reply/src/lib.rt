@@ -132,5 +132,14 @@ pub fn to_measurement_request_in_ibss(
 ) -> Wrote
     ensures { λ r. ⌜ Replied (measurementReplyIn Cell.Ibss own bssid clock index readings (now (frame .entry))) (now (buffer .entry)) r (now (buffer .exit)) ⌝ }
 {
-    measurement_reply(frame, Cell::Ibss, own, bssid, clock, index, readings, buffer)
+    measurement_reply(
+        frame,
+        Cell::Ibss,
+        own,
+        bssid,
+        clock,
+        index,
+        readings,
+        buffer,
+    )
 }
