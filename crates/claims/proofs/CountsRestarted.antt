@@ -1,5 +1,5 @@
 -- Misses are counted from the latest beacon that came from the owner or named another (02, Five). Assumes nothing.
-use mathlib.Core.Bool.{Bool, true, false, not, _&&_}
+use mathlib.Core.Bool.{Bool, true, false, _&&_}
 use mathlib.Core.List.{List, [], _∷_}
 use mathlib.Core.Logic.{_⊎_, inl, inr}
 use mathlib.Core.Path.{_≡_, refl, sym, ap, ap₂, _∙_, subst}
@@ -20,9 +20,9 @@ use Rattle.frame.specs.IbssFrames.{SentInIbss}
 use Rattle.header.proofs.Addresses.{same-is}
 use Rattle.header.specs.Headers.{same}
 use Rattle.owner.specs.Tbtts.{isTbtt}
-use Rattle.claims.specs.Histories.{Call, frame, advance, ask, History, tooFar, clockAfter, Latest}
+use Rattle.claims.specs.Histories.{frame, advance, ask, History, tooFar, clockAfter, Latest}
 use Rattle.claims.specs.Naming.{Restarts, FromOwner, NamesAnother, LastRestarted}
-use Rattle.claims.specs.Reigns.{Reign, reignOf, Reigning, nobody, reigns, missedBy, atUnit, overUnits, owns, namingAt, heardAt, foreignTo, afterKind, afterFrame, readAs, reigning}
+use Rattle.claims.specs.Reigns.{reignOf, Reigning, nobody, reigns, missedBy, atUnit, overUnits, owns, namingAt, heardAt, foreignTo, afterKind, afterFrame, readAs, reigning}
 use Rattle.claims.proofs.OwnersNamed.{is-read}
 
 -- an owner by who it is, when the count was last set to 0, and whether by a beacon of its own

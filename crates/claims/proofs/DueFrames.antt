@@ -1,14 +1,13 @@
 -- What a frame that is due a reply says of itself (01, "Replies": "Due only for accepted Action frames whose DA is the station"; 02, One): its three
 -- addresses, and its body. Assumes nothing.
 use mathlib.Core.Bool.{Bool, true, false, _&&_, _||_}
-use mathlib.Core.List.{List, [], _∷_}
-use mathlib.Core.Path.{_≡_, refl, sym, ap, ap₂, _∙_, subst}
+use mathlib.Core.List.{List}
+use mathlib.Core.Path.{_≡_, refl, sym, ap, _∙_, subst}
 use Prim.Native.Nat.{ℕ, _-_}
-use borrow.Author.Tests.{eqb-true, not-false}
-use lib.Dec.{eqb}
+use borrow.Author.Tests.{not-false}
 use lib.ListN.{take, drop, take-append-drop}
 use Rattle.action.specs.Openings.{fixedFields}
-use Rattle.answer.proofs.Booleans.{clash, both, neither}
+use Rattle.answer.proofs.Booleans.{clash, neither}
 use Rattle.answer.proofs.Judged.{never, passed, kept}
 use Rattle.answer.specs.Checks.{Outcome, refused, accepted, pick, andThen}
 use Rattle.answer.specs.Faults.{Placed}
@@ -18,7 +17,7 @@ use native.Mathlib.Omega.{arith}
 use Rattle.frame.proofs.ActionParts.{parts}
 use Rattle.frame.specs.Actions.{Body, requests, actionMeans}
 use Rattle.header.proofs.Addresses.{same-is}
-use Rattle.header.specs.Headers.{headerLength, bodyOf, same, da, sa, bssid, toAll, foreignAddress, managementMeans, addressMeans, headerMeans}
+use Rattle.header.specs.Headers.{headerLength, bodyOf, da, sa, bssid, toAll, foreignAddress, managementMeans, addressMeans, headerMeans}
 use Rattle.header.specs.declared.address.Cell.{Cell}
 use Rattle.header.specs.declared.management.Subtype.{Subtype}
 use Rattle.measurement_body.proofs.PlacesRead.{Reads, place-reads}

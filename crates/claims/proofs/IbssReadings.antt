@@ -1,9 +1,8 @@
 -- What is read of a frame in an IBSS, as the history's theorems need it (02, Five). Assumes nothing.
 use mathlib.Core.List.{List}
 use mathlib.Core.Logic.{_⊎_, inl, inr}
-use mathlib.Core.Path.{_≡_, sym, ap, _∙_, subst}
+use mathlib.Core.Path.{_≡_, sym, ap, _∙_}
 use Prim.Native.Nat.{ℕ, _≤_}
-use native.Mathlib.Omega.{arith}
 use Rattle.answer.specs.Checks.{accepted}
 use Rattle.beacon.specs.Beacons.{Told}
 use Rattle.beacon.specs.IbssBeacons.{absent, is}

@@ -12,7 +12,7 @@ use Rattle.answer.specs.declared.Refusal.{Refusal}
 use Rattle.element.specs.declared.tpc_report.TpcReport.{TpcReport}
 use Rattle.frame.specs.Actions.{Body, requests, reports, tpcRequest, tpcReport, switch}
 use Rattle.header.proofs.SentBy.{heard-as-from-ap, same-body}
-use Rattle.header.specs.Headers.{sa, Head, headerMeans, fromAp}
+use Rattle.header.specs.Headers.{sa, Head, fromAp}
 use Rattle.header.specs.declared.address.Cell.{Cell}
 use Rattle.measured_report.specs.declared.Readings.{Readings}
 use Rattle.measured_report.specs.Reports.{reportFor}

@@ -1,13 +1,13 @@
 -- Demand 3 for a station of an IBSS, of the code: whatever calls were made after an accepted start, refused ones among them, the record is the one that the history
 -- speaks of, owner, interval, count and flag included, and each frame and each question is answered as the history says (02, Five). Assumes nothing.
-use mathlib.Core.Bool.{Bool, true, false}
+use mathlib.Core.Bool.{true, false}
 use mathlib.Core.List.{List, [], _∷_}
 use mathlib.Core.Logic.{inl, inr, ⊎-elim, _↔_}
 use mathlib.Core.Path.{_≡_, refl, sym, ap, ap₂, _∙_, subst}
 use Prim.Native.Nat.{ℕ, _≤_}
 use native.Mathlib.Omega.{arith}
-use Rattle.answer.specs.Checks.{Outcome, refused, accepted, pick, checked, _⇒_, andThen}
-use Rattle.answer.specs.Faults.{Placed, faultNowhere}
+use Rattle.answer.specs.Checks.{refused, accepted, checked}
+use Rattle.answer.specs.Faults.{Placed}
 use Rattle.answer.proofs.Booleans.{either}
 use Rattle.answer.specs.declared.Answer.{Answer}
 use Rattle.answer.specs.declared.Fault.{Fault}
@@ -15,28 +15,25 @@ use Rattle.answer.specs.declared.Refusal.{Refusal}
 use Rattle.answer.specs.declared.Verdict.{Verdict}
 use Rattle.capture_record.specs.declared.entry.Settings.{Settings}
 use Rattle.element.specs.declared.channel_switch.ChannelSwitch.{ChannelSwitch}
-use Rattle.frame.specs.IbssFrames.{SentInIbss, ibssFrameMeans}
-use Rattle.member.specs.Members.{memberOf, memberStarted, namedBy, foreignAnnouncement, follows, memberTakes, taken, takeOf, advanceOf, startOf}
+use Rattle.member.specs.Members.{memberOf, memberTakes, taken, takeOf, advanceOf, startOf}
 use Rattle.member.specs.Validity.{ValidMember}
 use Rattle.member.specs.declared.Member.{Member}
 use Rattle.member.specs.declared.clock.Stepped.{Stepped}
 use Rattle.member.specs.declared.starting.Started.{Started}
 use Rattle.member.specs.declared.taking.Taken.{Taken}
 use Rattle.owner.specs.Owners.{unknown}
-use Rattle.owner.specs.declared.Owner.{Owner}
 use Rattle.pending.specs.declared.Pending.{Pending}
 use Rattle.station.specs.Asking.{permissionNumber, permissionOf}
 use Rattle.station.specs.Starting.{startMeans, startForbids}
 use Rattle.station.specs.Stations.{fresh}
-use Rattle.station.specs.declared.Station.{Station}
 use Rattle.station.specs.declared.asking.Permission.{Permission}
 use Rattle.claims.specs.Histories.{Call, frame, advance, ask, History, clockAfter, Latest, Throughout}
 use Rattle.claims.specs.MemberRecords.{verdictTold, memberAfter, MemberAgrees}
 use Rattle.claims.specs.MemberRuns.{MemberStarts, MemberTakes, MemberAdvances, MemberAsks, MemberRan}
 use Rattle.claims.specs.Naming.{NeverNamed}
 use Rattle.claims.specs.OpenUnits.{AllOpen, Applies}
-use Rattle.claims.specs.Reigns.{foreignTo, readAs, reigning, ibssListener}
-use Rattle.claims.specs.Standing.{Awaits, LastAnnounced, Switches, at-once, reached, NoSwitch, ChannelIs, PendingIs}
+use Rattle.claims.specs.Reigns.{readAs, reigning, ibssListener}
+use Rattle.claims.specs.Standing.{LastAnnounced, Switches, at-once, reached, NoSwitch, ChannelIs, PendingIs}
 use Rattle.claims.proofs.Agreement.{agreeing}
 use Rattle.claims.proofs.Asked.{answered, granted-open}
 use Rattle.claims.proofs.KeptThroughout.{KeptThroughout}

@@ -4,7 +4,7 @@ use mathlib.Core.Bool.{Bool, true, false, not, _&&_}
 use mathlib.Core.List.{List, [], _∷_}
 use mathlib.Core.Logic.{_⊎_, inl, inr}
 use mathlib.Core.Path.{_≡_, refl, sym, ap, ap₂, _∙_, subst}
-use Prim.Native.Nat.{ℕ, _+_, _≤_}
+use Prim.Native.Nat.{ℕ, _+_}
 use native.Mathlib.Omega.{arith}
 use lib.Dec.{ltb}
 use Rattle.answer.proofs.Booleans.{clash}
@@ -23,7 +23,7 @@ use Rattle.frame.specs.Frames.{Kind, beacon, probeResponse, action}
 use Rattle.frame.specs.IbssFrames.{SentInIbss, ibssFrameMeans}
 use Rattle.member.specs.Members.{memberOf, namedBy, heardBy, foreignAnnouncement, follows, memberTakes, taken, takeOf, stepped, ownerPast, memberAdvances, advanceOf}
 use Rattle.member.specs.declared.Member.{Member}
-use Rattle.owner.specs.Owners.{isOwner, heardFrom, pastTbtts}
+use Rattle.owner.specs.Owners.{heardFrom, pastTbtts}
 use Rattle.owner.specs.Tbtts.{tbttsIn}
 use Rattle.owner.specs.declared.Owner.{Owner}
 use Rattle.pending.specs.declared.Pending.{Pending}
@@ -34,7 +34,7 @@ use Rattle.station.specs.declared.Station.{Station}
 use Rattle.station.specs.declared.clock.Advanced.{Advanced}
 use Rattle.claims.specs.Histories.{Call, frame, advance, ask, History, tooFar, clockAfter}
 use Rattle.claims.specs.MemberRecords.{ownerTold, verdictTold, memberAfter}
-use Rattle.claims.specs.Reigns.{Reigning, overUnits, owns, namingAt, foreignTo, afterKind, afterFrame, readAs, reigning, Accepts, ibssListener}
+use Rattle.claims.specs.Reigns.{Reigning, overUnits, namingAt, foreignTo, afterKind, afterFrame, readAs, reigning, Accepts, ibssListener}
 use Rattle.claims.proofs.Following.{Sound, Follows}
 use Rattle.claims.proofs.IbssReadings.{read-allowed, recovery-some, beacons-only}
 use Rattle.claims.proofs.KeptThroughout.{KeptThroughout, keptBy, heard-keeps, heard-clock, advance-keeps}

@@ -17,7 +17,7 @@ use Rattle.capture_record.specs.declared.entry.Settings.{Settings}
 use Rattle.element.specs.IbssDfs.{Dfs}
 use Rattle.frame.proofs.FromAp.{sound-from-ap}
 use Rattle.frame.specs.Announcements.{announcementIn}
-use Rattle.frame.specs.Frames.{Kind, Sent, frameMeans}
+use Rattle.frame.specs.Frames.{Sent, frameMeans}
 use Rattle.frame.specs.IbssFrames.{SentInIbss}
 use Rattle.header.proofs.Addresses.{same-self}
 use Rattle.header.specs.Headers.{same, sa, fromAp}
@@ -32,10 +32,10 @@ use Rattle.station.specs.declared.Station.{Station}
 use Rattle.station.specs.declared.asking.Permission.{Permission}
 use Rattle.station.specs.declared.clock.Stepped.{Stepped}
 use Rattle.station.specs.declared.taking.Taken.{Taken}
-use Rattle.claims.specs.Histories.{Call, frame, advance, ask, History, Throughout, clockAfter}
+use Rattle.claims.specs.Histories.{frame, advance, ask, History, Throughout, clockAfter}
 use Rattle.claims.specs.MemberRecords.{memberAfter, verdictTold}
 use Rattle.claims.specs.MemberRuns.{MemberTakes, MemberAdvances, MemberAsks, MemberRan}
-use Rattle.claims.specs.OneAddress.{FromOne, CallFromOne, AllFromOne, asFromAp, allFromAp, StationJudges, StationSteps}
+use Rattle.claims.specs.OneAddress.{FromOne, CallFromOne, AllFromOne, allFromAp, StationJudges, StationSteps}
 use Rattle.claims.specs.Records.{recordAfter}
 use Rattle.claims.specs.Reigns.{Reigning, nobody, reigns, reignOf, owns, namingAt, foreignTo, readAs, reigning}
 use Rattle.claims.specs.Runs.{Asks, Ran}

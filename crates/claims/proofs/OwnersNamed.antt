@@ -2,7 +2,7 @@
 -- nothing.
 use mathlib.Core.Bool.{Bool, true, false, not, _&&_}
 use mathlib.Core.List.{List, [], _∷_}
-use mathlib.Core.Logic.{inl, inr, ⊎-elim}
+use mathlib.Core.Logic.{inl, inr}
 use mathlib.Core.Path.{_≡_, refl, sym, ap, ap₂, _∙_, subst}
 use Prim.Native.Nat.{ℕ, zero, suc, _+_}
 use native.Mathlib.Omega.{arith}
@@ -15,7 +15,6 @@ use Rattle.answer.specs.declared.Fault.{Fault}
 use Rattle.beacon.specs.Beacons.{Told}
 use Rattle.beacon.specs.IbssBeacons.{MaybeDfs, absent, is}
 use Rattle.beacon.specs.Notices.{hasSwitch}
-use Rattle.beacon.specs.declared.MaybeSwitch.{MaybeSwitch}
 use Rattle.capture_record.specs.declared.entry.Settings.{Settings}
 use Rattle.element.specs.IbssDfs.{Dfs}
 use Rattle.element.specs.declared.channel_switch.ChannelSwitch.{ChannelSwitch}
@@ -27,7 +26,7 @@ use Rattle.header.specs.Headers.{same}
 use Rattle.owner.specs.Tbtts.{isTbtt}
 use Rattle.claims.specs.Histories.{Call, frame, advance, ask, History, tooFar, clockAfter, Latest, Throughout, Announces}
 use Rattle.claims.specs.Naming.{Names, LastNamed, Nameless, NeverNamed}
-use Rattle.claims.specs.Reigns.{Reign, reignOf, Reigning, nobody, reigns, missedBy, atUnit, overUnits, owns, namingAt, heardAt, foreignTo, afterKind, afterFrame, readAs, reigning, Accepts, ibssListener}
+use Rattle.claims.specs.Reigns.{reignOf, Reigning, nobody, reigns, missedBy, atUnit, overUnits, owns, namingAt, heardAt, foreignTo, afterKind, afterFrame, readAs, reigning, ibssListener}
 
 pub is-read : (x y : SentInIbss) → _≡_ {A = Placed SentInIbss} (accepted x) (accepted y) → x ≡ y
 is-read x y e = cc

@@ -1,12 +1,12 @@
 -- The owner that the calls make, call by call, is the one that the history tells of: what is kept as a count and a flag follows from when a beacon last set the count
 -- to 0 and how many TBTTs have passed since (02, Five). Assumes nothing.
-use mathlib.Core.Bool.{Bool, true, false, not, _&&_}
+use mathlib.Core.Bool.{Bool, true, false, _&&_}
 use mathlib.Core.List.{List}
 use mathlib.Core.Logic.{⊎-elim}
-use mathlib.Core.Path.{_≡_, refl, sym, ap, ap₂, _∙_, subst}
-use Prim.Native.Nat.{ℕ, zero, suc, _+_, _-_, _<_, _≤_}
+use mathlib.Core.Path.{_≡_, refl, sym, ap, ap₂, _∙_}
+use Prim.Native.Nat.{ℕ, zero, suc, _+_, _-_, _≤_}
 use native.Mathlib.Omega.{arith}
-use borrow.Author.Tests.{eqb-true, eqb-false, ne-eqb, lt-leb}
+use borrow.Author.Tests.{ne-eqb, lt-leb}
 use lib.Dec.{leb, eqb}
 use Rattle.answer.proofs.Booleans.{either}
 use Rattle.answer.specs.Checks.{pick}
@@ -14,7 +14,7 @@ use Rattle.beacon.specs.IbssBeacons.{MaybeDfs, absent, is}
 use Rattle.element.specs.IbssDfs.{Dfs}
 use Rattle.header.specs.Headers.{same}
 use Rattle.member.specs.Members.{namedBy}
-use Rattle.owner.specs.Owners.{unknown, isOwner, named, heardFrom, missed, atTbtt, pastTbtts}
+use Rattle.owner.specs.Owners.{unknown, isOwner, heardFrom, atTbtt, pastTbtts}
 use Rattle.owner.specs.Tbtts.{isTbtt, tbttsIn}
 use Rattle.owner.specs.declared.Owner.{Owner}
 use Rattle.claims.specs.Reigns.{Reign, reignOf, Reigning, nobody, reigns, passedBy, missedBy, atUnit, overUnits, owns, namingAt, heardAt}

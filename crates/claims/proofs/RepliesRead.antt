@@ -6,10 +6,7 @@ use mathlib.Core.Logic.{_⊎_, inl, inr}
 use mathlib.Core.Path.{_≡_, refl, ap, _∙_, subst₂}
 use Prim.Native.Nat.{ℕ, _≤_, _<_, _^_}
 use native.Mathlib.Omega.{arith}
-use borrow.Author.Tests.{eq-eqb}
-use lib.Dec.{eqb}
 use lib.ListN.{length}
-use Rattle.answer.proofs.Booleans.{and-go}
 use Rattle.answer.specs.Checks.{accepted}
 use Rattle.element.specs.TpcReport.{TpcReportFits, tpcReportOctets}
 use Rattle.element.specs.declared.tpc_report.TpcReport.{TpcReport}
@@ -18,7 +15,7 @@ use Rattle.frame.specs.Actions.{Body, requests, reports, tpcRequest, tpcReport,
 use Rattle.frame.specs.Frames.{action, frameMeans}
 use Rattle.header.proofs.Heard.{heard-as}
 use Rattle.header.proofs.Addresses.{same-self}
-use Rattle.header.specs.Headers.{same, da, sa, toAll, foreignHeader, foreignAddress, headerMeans}
+use Rattle.header.specs.Headers.{da, sa, toAll, foreignHeader, foreignAddress, headerMeans}
 use Rattle.header.specs.declared.address.Cell.{Cell}
 use Rattle.header.specs.declared.management.Subtype.{Subtype}
 use Rattle.measured_report.specs.declared.Readings.{Readings}

@@ -1,17 +1,17 @@
 -- TBTTs counted unit by unit are those that are counted one after the other, and an owner is given up exactly at one of them (02, Five). Assumes nothing.
 use mathlib.Core.Bool.{Bool, true, false, _&&_}
-use mathlib.Core.Logic.{_⊎_, inl, inr, ⊎-elim, _↔_}
+use mathlib.Core.Logic.{_⊎_, inl, inr, ⊎-elim}
 use mathlib.Core.Path.{_≡_, refl, sym, ap, ap₂, _∙_, subst}
 use Prim.Native.Nat.{ℕ, zero, suc, _+_, _*_, _/_, _<_, _≤_}
 use native.Mathlib.Nat.{div-mul-le-self, lt-div-mul-add, suc-mul}
 use native.Mathlib.Omega.{arith}
 use borrow.Author.Tests.{leb-true, leb-false, le-leb}
 use lib.Dec.{leb}
-use Rattle.answer.proofs.Booleans.{either, both, clash}
+use Rattle.answer.proofs.Booleans.{either, both}
 use Rattle.answer.specs.Checks.{pick}
 use Rattle.owner.proofs.CountingUnits.{passed-tbtts}
 use Rattle.owner.specs.Tbtts.{isTbtt, tbttsIn}
-use Rattle.claims.specs.Reigns.{Reign, Reigning, nobody, reigns, missedBy, atUnit, overUnits}
+use Rattle.claims.specs.Reigns.{Reign, nobody, reigns, missedBy, atUnit, overUnits}
 use Rattle.claims.specs.Tbtts.{CountedTo}
 use Rattle.claims.proofs.CountingTbtts.{counted-at}
 

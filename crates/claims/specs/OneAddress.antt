@@ -1,7 +1,7 @@
 -- All frames from one address, and each announcement in a beacon that names it as the owner (02, Five): what document 01's station is to be told beside it, which is the same
 -- bodies from its AP.
 use mathlib.Core.Bool.{true, false}
-use mathlib.Core.List.{List, [], _∷_, map}
+use mathlib.Core.List.{List, map}
 use mathlib.Core.Path.{_≡_}
 use Prim.Native.Nat.{ℕ}
 use lib.ListN.{length}

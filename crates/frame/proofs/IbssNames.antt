@@ -1,6 +1,5 @@
 -- What the element 41 of an accepted frame may say: a recovery interval of 1 or more, and only in a beacon (02, Five). Assumes nothing.
-use mathlib.Core.Bool.{false}
-use mathlib.Core.List.{List, [], _∷_}
+use mathlib.Core.List.{List}
 use mathlib.Core.Logic.{_⊎_, inl, inr}
 use mathlib.Core.Path.{_≡_, refl, sym, ap, _∙_, subst}
 use Prim.Native.Nat.{ℕ, _≤_}
@@ -22,8 +21,8 @@ use Rattle.header.specs.Headers.{headerLength, bodyOf, sa, headerMeans}
 use Rattle.header.specs.declared.address.Cell.{Cell}
 use Rattle.header.specs.declared.management.Subtype.{Subtype}
 use Rattle.walk.specs.Elements.{Elements, end, cutHeader, cutContents, more, elementsIn}
-use Rattle.frame.specs.Frames.{Kind, beacon, kindOf}
-use Rattle.frame.specs.IbssFrames.{KindInIbss, SentInIbss, nameless, kindInIbss, ibssFrameMeans}
+use Rattle.frame.specs.Frames.{beacon, kindOf}
+use Rattle.frame.specs.IbssFrames.{KindInIbss, SentInIbss, kindInIbss, ibssFrameMeans}
 
 is-kind : {j k : KindInIbss} → _≡_ {A = Placed KindInIbss} (accepted j) (accepted k) → j ≡ k
 is-kind e = cc

@@ -1,13 +1,13 @@
 -- From what `frame::read_in_ibss` hands out to what the frame means to a station of an IBSS. Assumes nothing.
 use mathlib.Core.Bool.{Bool, true, false, not, _&&_}
-use mathlib.Core.List.{List, [], _∷_}
+use mathlib.Core.List.{List}
 use mathlib.Core.Logic.{_⊎_, inl, inr}
 use mathlib.Core.Path.{_≡_, refl, sym, ap, ap₂, _∙_, subst}
 use Prim.Native.Nat.{ℕ, _≤_}
 use native.Mathlib.Omega.{arith}
 use Rattle.answer.proofs.Booleans.{clash}
 use Rattle.answer.proofs.Judged.{never}
-use Rattle.answer.specs.Checks.{refused, accepted, pick, _⇒_, checked, andThen}
+use Rattle.answer.specs.Checks.{refused, accepted, pick, checked, andThen}
 use Rattle.answer.specs.Faults.{Placed, faultNowhere}
 use Rattle.answer.specs.declared.Refusal.{Refusal}
 use Rattle.answer.specs.declared.Verdict.{Verdict}

@@ -1,12 +1,12 @@
 -- What an advance of the station makes of a station of an IBSS: the TBTTs that pass are those among the units that the clock goes on by. Assumes nothing.
 use mathlib.Core.Bool.{Bool, true, false, _||_}
-use mathlib.Core.Path.{_≡_, refl, sym, ap, ap₂, _∙_, subst}
+use mathlib.Core.Path.{_≡_, refl, sym, ap, _∙_, subst}
 use Prim.Native.Nat.{ℕ, _+_, _-_, _/_, _≤_}
 use native.Mathlib.Omega.{arith}
 use lib.Dec.{ltb}
 use Rattle.answer.proofs.Judged.{never}
 use Rattle.answer.specs.Checks.{Outcome, refused, accepted, pick, andThen}
-use Rattle.owner.proofs.CountingUnits.{passed-tbtts, in-order, tbtts-between}
+use Rattle.owner.proofs.CountingUnits.{tbtts-between}
 use Rattle.owner.specs.Owners.{pastTbtts}
 use Rattle.owner.specs.Tbtts.{tbttsIn}
 use Rattle.owner.specs.declared.Owner.{Owner}

@@ -1,7 +1,7 @@
 -- A station of an IBSS (02, Five): document 01's station, whose AP is the BSSID, and the DFS owner that it follows.
 use mathlib.Core.Bool.{Bool, not, _&&_}
 use mathlib.Core.List.{List, [], _∷_}
-use Prim.Native.Nat.{ℕ, _-_}
+use Prim.Native.Nat.{ℕ}
 use Rattle.answer.specs.Checks.{Outcome, refused, accepted, _⇒_, checked, andThen}
 use Rattle.answer.specs.Faults.{Placed, faultNowhere}
 use Rattle.answer.specs.declared.Answer.{Answer}

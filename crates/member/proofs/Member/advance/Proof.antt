@@ -1,14 +1,8 @@
 -- `Member::advance` meets its contract: the station advances, and the TBTTs pass that its clock comes to. Assumes nothing.
-use mathlib.Core.Path.{_≡_, refl, sym, ap, _∙_, subst}
+use mathlib.Core.Path.{_≡_, ap, _∙_}
 use Prim.Native.Nat.{ℕ, _/_, _-_}
 use borrow.Author.Needs.{needs}
 use Rattle.owner.specs.Owners.{pastTbtts}
-use Rattle.owner.specs.declared.Owner.{Owner}
-use Rattle.station.specs.Clock.{advanceOf}
-use Rattle.station.specs.declared.Station.{Station}
-use Rattle.station.specs.declared.clock.Stepped as Clock
-use Rattle.member.specs.Members.{memberOf}
-use Rattle.member.specs.declared.clock.Stepped.{Stepped}
 use Rattle.member.proofs.Passing.{clock-on, advanced-by}
 use Rattle.member.proofs.Member.advance.Statement.{statement}
 use Rattle.member.proofs.Member.advance.Tie as tie

@@ -1,5 +1,5 @@
 -- `Member::take` meets its contract, and the station stays valid: what was read is judged by the owner that it names, and heard. Assumes nothing.
-use mathlib.Core.Bool.{Bool, true, false, not, _&&_}
+use mathlib.Core.Bool.{true, false, not, _&&_}
 use mathlib.Core.Path.{_≡_, sym, ap, ap₂, _∙_, subst}
 use denote.Ref.{now}
 use borrow.Author.Needs.{needs}
