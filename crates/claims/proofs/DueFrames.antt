@@ -18,6 +18,7 @@ use native.Mathlib.Omega.{arith}
 use Rattle.frame.proofs.ActionParts.{parts}
 use Rattle.frame.specs.Actions.{Body, requests, actionMeans}
 use Rattle.header.specs.Headers.{headerLength, bodyOf, same, da, sa, bssid, toAll, foreignAddress, managementMeans, addressMeans, headerMeans}
+use Rattle.header.specs.declared.address.Cell.{Cell}
 use Rattle.header.specs.declared.management.Subtype.{Subtype}
 use Rattle.measurement_body.proofs.PlacesRead.{Reads, place-reads}
 use Rattle.measurement_body.specs.Lists.{measurementsIn, nth}
@@ -53,7 +54,7 @@ pub record OwedByStation (own ap f : List ℕ) (x : Owed) : Type 0 where
 
 module _ (own ap' f : List ℕ) (x : Owed) where
   -- past the checks on the addresses, and not to all ones
-  addressed : addressMeans own ap' f ≡ accepted false → orReturn (bodyOf f) (actionMeans (bodyOf f)) ≡ accepted x → OwedByStation own ap' f x
+  addressed : addressMeans Cell.Ap own ap' f ≡ accepted false → orReturn (bodyOf f) (actionMeans (bodyOf f)) ≡ accepted x → OwedByStation own ap' f x
   unfolding addressMeans foreignAddress
   addressed e is =
       let p = passed _ _ _ e in
@@ -68,7 +69,7 @@ module _ (own ap' f : List ℕ) (x : Owed) where
         is = is;
       }
 
-  by-checks : (m : Outcome Subtype) (o : Outcome Bool) → addressMeans own ap' f ≡ o
+  by-checks : (m : Outcome Subtype) (o : Outcome Bool) → addressMeans Cell.Ap own ap' f ≡ o
       → andThen (andThen m (λ s. andThen o (λ t. accepted (record { subtype = s; toAll = t })))) (afterHeader f) ≡ accepted x → OwedByStation own ap' f x
   by-checks (refused r) o a e = absurd (never e)
   by-checks (accepted s) (refused r) a e = absurd (never e)
@@ -79,7 +80,7 @@ module _ (own ap' f : List ℕ) (x : Owed) where
 
   pub owed-by-station : dueMeans own ap' f ≡ accepted x → OwedByStation own ap' f x
   unfolding dueMeans headerMeans
-  owed-by-station e = by-checks (managementMeans f) (addressMeans own ap' f) refl e
+  owed-by-station e = by-checks (managementMeans f) (addressMeans Cell.Ap own ap' f) refl e
 
 -- what is asked is what the body means
 pub due-asks : (own ap' f : List ℕ) (body : Body) → dueMeans own ap' f ≡ accepted (asks body) → actionMeans (bodyOf f) ≡ accepted body

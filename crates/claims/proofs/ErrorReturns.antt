@@ -19,6 +19,7 @@ use Rattle.frame.specs.Actions.{Body, requests, reports, tpcRequest, tpcReport,
 use Rattle.frame.specs.Frames.{frameMeans}
 use Rattle.header.proofs.Heard.{has-header, not-too-long}
 use Rattle.header.specs.Headers.{headerLength, bodyOf, da, sa}
+use Rattle.header.specs.declared.address.Cell.{Cell}
 use Rattle.measured_report.specs.declared.Readings.{Readings}
 use Rattle.octets.specs.Numbers.{octet}
 use Rattle.reply.proofs.Framed.{head-length}
@@ -69,7 +70,7 @@ returns-body own ap' f os p =
     let a = owed-by-station own ap' f (breaks body) (p .due) in
     let octets : os ≡ replyFrame (da f) (sa f) (errorReturn body) = p .octets ∙ subst₂ (λ (o m : List ℕ). replyFrame o m (errorReturn body) ≡ replyFrame (da f) (sa f) (errorReturn body)) (a .toStation) (a .fromAp) refl in
     let has = some (bodyOf f) (k .free) in
-    let long = has-header own ap' f _ (k .head) in
+    let long = has-header Cell.Ap own ap' f _ (k .head) in
     let size = ap length (k .own-body) in
     let as-long : length os ≡ length f =
     omega (
@@ -90,7 +91,7 @@ returns-body own ap' f os p =
       present = omega (arith, has, length-drop headerLength f);
       free = subst (λ (n : ℕ). n < 128) (first f) (small (bodyOf f) (k .free));
       as-long = as-long;
-      short = omega (arith, as-long, not-too-long own ap' f _ (k .head));
+      short = omega (arith, as-long, not-too-long Cell.Ap own ap' f _ (k .head));
       top-bit =
           ap (octet headerLength) octets ∙ ap (λ (x : List ℕ). octet 0 x + 128) (k .own-body) ∙ ap (λ (n : ℕ). n + 128) (first f);
       same-octets = later f os (ap (drop 25) octets ∙ past-category f body (k .own-body));

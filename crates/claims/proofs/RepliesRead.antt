@@ -18,6 +18,7 @@ use Rattle.frame.specs.Actions.{Body, requests, reports, tpcRequest, tpcReport,
 use Rattle.frame.specs.Frames.{action, frameMeans}
 use Rattle.header.proofs.Heard.{heard-as}
 use Rattle.header.specs.Headers.{same, da, sa, toAll, foreignHeader, foreignAddress, headerMeans}
+use Rattle.header.specs.declared.address.Cell.{Cell}
 use Rattle.header.specs.declared.management.Subtype.{Subtype}
 use Rattle.measured_report.specs.declared.Readings.{Readings}
 use Rattle.measurement_body.specs.Lists.{mayAll, mayList}
@@ -56,12 +57,12 @@ module _ (f os : List ℕ) (one : toAll f ≡ false) (short : length os ≤ long
   unfolding toAll
   to-one = one
 
-  from-ap : foreignAddress (da f) (sa f) heard ≡ false
+  from-ap : foreignAddress Cell.Ap (da f) (sa f) heard ≡ false
   unfolding foreignAddress
   from-ap = rw (same-self (sa f), same-self (da f))
 
-  headed : headerMeans (da f) (sa f) heard ≡ accepted (record { subtype = Subtype.Action; toAll = false })
-  headed = heard-as (da f) (sa f) heard Subtype.Action false (omega arith) (omega arith) not-foreign from-ap refl to-one
+  headed : headerMeans Cell.Ap (da f) (sa f) heard ≡ accepted (record { subtype = Subtype.Action; toAll = false })
+  headed = heard-as Cell.Ap (da f) (sa f) heard Subtype.Action false (omega arith) (omega arith) not-foreign from-ap refl to-one
 
   framed : (b : ℕ) (k : Body) → actionMeans os ≡ accepted k → frameMeans (da f) (sa f) b heard ≡ accepted (record { toAll = false; kind = action k })
   unfolding frameMeans

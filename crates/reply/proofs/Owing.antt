@@ -24,6 +24,7 @@ use Rattle.measurement_element.specs.declared.measurement_request.Reading.{Read
 use Rattle.measurement_element.specs.declared.measurement_request.Request.{Request}
 use Rattle.header.specs.Headers.{bodyOf, headerLength, Head, headerMeans}
 use Rattle.header.proofs.Heard.{not-too-long}
+use Rattle.header.specs.declared.address.Cell.{Cell}
 use Rattle.header.specs.declared.management.Subtype.{Subtype}
 use Rattle.reply.specs.CodeTerms.Asked.{requestReading, requestDue, dueOf}
 use Rattle.reply.specs.Due.{Owed, asks, breaks, isReturned, hasCategory, orReturn, bySubtype, afterHeader, dueMeans}
@@ -107,11 +108,11 @@ module _ (i : ℕ) (x : Reading) where
 -- ---- after the header
 
 module _ (i : ℕ) (own ap' f : List ℕ) where
-  pub header-refused : (r : Refusal) → refused r ≡ headerMeans own ap' f → Due.Refused r ≡ dueOf i (dueMeans own ap' f)
+  pub header-refused : (r : Refusal) → refused r ≡ headerMeans Cell.Ap own ap' f → Due.Refused r ≡ dueOf i (dueMeans own ap' f)
   unfolding dueMeans
   header-refused r e = ap (λ (o : Outcome Head). dueOf i (andThen o (afterHeader f))) e
 
-  module _ (s : Subtype) (toAll : Bool) (e : accepted (record { subtype = s; toAll = toAll }) ≡ headerMeans own ap' f) where
+  module _ (s : Subtype) (toAll : Bool) (e : accepted (record { subtype = s; toAll = toAll }) ≡ headerMeans Cell.Ap own ap' f) where
     after : dueOf i (afterHeader f (record { subtype = s; toAll = toAll })) ≡ dueOf i (dueMeans own ap' f)
     unfolding dueMeans
     after = ap (λ (o : Outcome Head). dueOf i (andThen o (afterHeader f))) e
@@ -126,7 +127,7 @@ module _ (i : ℕ) (own ap' f : List ℕ) where
 
 -- the frame is an action frame to the station, and its body is broken; it has a category under 128, and is no longer than a body may be
 pub record Returned (own ap f body : List ℕ) : Type 0 where
-  pub head : headerMeans own ap f ≡ accepted (record { subtype = Subtype.Action; toAll = false })
+  pub head : headerMeans Cell.Ap own ap f ≡ accepted (record { subtype = Subtype.Action; toAll = false })
   pub fault : Fault
   pub breaks-it : actionMeans (bodyOf f) ≡ refused fault
   pub free : hasCategory (bodyOf f) ≡ true
@@ -139,7 +140,7 @@ module _ (own ap' f : List ℕ) where
     by-test true e = (refl, (let k : breaks (bodyOf f) ≡ breaks body = cc in let g : body ≡ bodyOf f = cc in g))
     by-test false e = absurd (never e)
 
-    by-outcome : headerMeans own ap' f ≡ accepted (record { subtype = Subtype.Action; toAll = false }) → (o : Placed Body) → actionMeans (bodyOf f) ≡ o
+    by-outcome : headerMeans Cell.Ap own ap' f ≡ accepted (record { subtype = Subtype.Action; toAll = false }) → (o : Placed Body) → actionMeans (bodyOf f) ≡ o
         → orReturn (bodyOf f) o ≡ accepted (breaks body) → Returned own ap' f body
     by-outcome h (refused x) a e =
         let p = by-test (isReturned (numberOf (x .refusal)) && hasCategory (bodyOf f)) e in
@@ -149,11 +150,11 @@ module _ (own ap' f : List ℕ) where
           breaks-it = a;
           free = both (isReturned (numberOf (x .refusal))) (hasCategory (bodyOf f)) (p .0) .1;
           own-body = p .1;
-          short = omega (arith, length-drop headerLength f, not-too-long own ap' f _ h);
+          short = omega (arith, length-drop headerLength f, not-too-long Cell.Ap own ap' f _ h);
         }
     by-outcome h (accepted b) a e = absurd (let k : asks b ≡ breaks body = cc in let z : _≡_ {A = ℕ} 0 1 = cc in omega arith)
 
-    by-head : (s : Subtype) (t : Bool) → headerMeans own ap' f ≡ accepted (record { subtype = s; toAll = t })
+    by-head : (s : Subtype) (t : Bool) → headerMeans Cell.Ap own ap' f ≡ accepted (record { subtype = s; toAll = t })
         → pick t (refused Refusal.NoReplyDue) (bySubtype s (bodyOf f)) ≡ accepted (breaks body) → Returned own ap' f body
     by-head s true h e = absurd (never e)
     by-head Subtype.Beacon false h e = absurd (never e)
@@ -164,7 +165,7 @@ module _ (own ap' f : List ℕ) where
     pub returned : Returned own ap' f body
     unfolding dueMeans
     returned =
-        let p = followed (headerMeans own ap' f) (afterHeader f) (breaks body) e in
+        let p = followed (headerMeans Cell.Ap own ap' f) (afterHeader f) (breaks body) e in
         by-head body (p .0 .subtype) (p .0 .toAll) (p .1) (p .2)
 
     -- the body as it is lent, and what is answered with it

@@ -7,6 +7,7 @@ use action::CATEGORY;
 use answer::Refusal;
 use frame::Frame;
 use frame::Reading;
+use header::Cell;
 use header::Header;
 use header::Subtype;
 use measurement_element::measurement_request;
@@ -69,7 +70,7 @@ fn owed_to(body: &[u8], index: usize) -> Due
 pub fn due_to(frame: &[u8], own: [u8; 6], ap: [u8; 6], index: usize) -> Due
     ensures { λ r. ⌜ r ≡ dueOf index (dueMeans own ap (now (frame .entry))) ⌝ }
 {
-    match header::read(frame, own, ap) {
+    match header::read(frame, Cell::Ap, own, ap) {
         Header::Refused(refusal) => Due::Refused(refusal),
         Header::Is { subtype, to_all } => {
             let none = Due::Refused(Refusal::NoReplyDue);

@@ -5,6 +5,7 @@ use Prim.Native.Nat.{ℕ}
 use Rattle.answer.specs.Checks.{accepted}
 use Rattle.frame.specs.Actions.{actionMeans}
 use Rattle.header.specs.Headers.{bodyOf, headerTold, Head, headerMeans}
+use Rattle.header.specs.declared.address.Cell.{Cell}
 use Rattle.header.specs.declared.management.Subtype.{Subtype}
 use Rattle.reply.specs.CodeTerms.Asked.{dueOf}
 use Rattle.reply.specs.Due.{orReturn, bySubtype, dueMeans}
@@ -17,7 +18,7 @@ use Rattle.reply.proofs.due.due_to.Tie as tie
 abbrev head : tie.After-known-told2 → Head
 head c = record { subtype = c .before .subtype .given .0 .0; toAll = c .before .subtype .given .0 .1 .0 }
 
-header-read : (c : tie.After-known-told2) → accepted (head c) ≡ headerMeans (c .before .before .before .before .before .args .own) (c .before .before .before .before .before .args .ap) (c .before .before .before .before .before .args .frame .now)
+header-read : (c : tie.After-known-told2) → accepted (head c) ≡ headerMeans Cell.Ap (c .before .before .before .before .before .args .own) (c .before .before .before .before .before .args .ap) (c .before .before .before .before .before .args .frame .now)
 header-read c = ap headerTold (sym (c .before .subtype .given .1)) ∙ c .before .before .before .read .ensures
 
 -- to the station: by the subtype that was found
