@@ -136,9 +136,12 @@ module _ (s : Settings) where
                 (subst (λ (z : Reigning). markOf z p) (sym u) m)
             by false k m =
                 restarting
-                (inr
-                (sym (m .2), (d, g, m .0), ap (λ (z : Reigning). owns z (p .0)) u ∙ ap (λ (a : List ℕ). same a (r .owner)) (sym (m .0)) ∙ k,
-                ap (same (x .sender)) (sym (m .0)) ∙ subst (λ (b : Bool). same (x .sender) (pick b (reignOf (r .owner) (d .recovery) (r .since) (r .own)) (reignOf (d .owner) (d .recovery) t false) .owner) ≡ false) k y))
+                (inr (
+                  sym (m .2),
+                  (d, g, m .0),
+                  ap (λ (z : Reigning). owns z (p .0)) u ∙ ap (λ (a : List ℕ). same a (r .owner)) (sym (m .0)) ∙ k,
+                  ap (same (x .sender)) (sym (m .0)) ∙ subst (λ (b : Bool). same (x .sender) (pick b (reignOf (r .owner) (d .recovery) (r .since) (r .own)) (reignOf (d .owner) (d .recovery) t false) .owner) ≡ false) k y,
+                ))
                 (m .1)
 
         by-sender : (b : Bool) → owns (namingAt t (x .dfs) w) (x .sender) ≡ b → markOf (heardAt t (x .sender) (namingAt t (x .dfs) w)) p → Goal

@@ -192,8 +192,8 @@ module _ (s : Settings) where
           clock = ap (λ (x : Member). x .station .clock) e ∙ clock ∙ t .clock ∙ sym same-clock;
           lasting = subst (λ (z : Reigning × ℕ). Lasting (z .0) (z .1)) (ap₂ (λ (a : Reigning) (b : ℕ). (a, b)) (sym g) (sym same-clock)) lasting;
           owner =
-            ap (λ (x : Member). x .owner) e ∙ owner
-            ∙ ap₂ (λ (a : Reigning) (b : ℕ). ownerTold (s .interval) b a) (sym g) (sym same-clock);
+              ap (λ (x : Member). x .owner) e ∙ owner
+              ∙ ap₂ (λ (a : Reigning) (b : ℕ). ownerTold (s .interval) b a) (sym g) (sym same-clock);
         }
 
     -- a refused one leaves both as they were
@@ -271,7 +271,7 @@ module _ (s : Settings) where
         record {
           settings = ap (λ (x : Member). keptBy (x .station)) (p .0) ∙ advance-keeps (m' .station) n ∙ t .settings;
           clock =
-            ap (λ (x : Member). x .station .clock) (p .0) ∙ p .1 ∙ ap₂ (λ (b : Bool) (u : ℕ). pick b u (u + n)) far-as (t .clock);
+              ap (λ (x : Member). x .station .clock) (p .0) ∙ p .1 ∙ ap₂ (λ (b : Bool) (u : ℕ). pick b u (u + n)) far-as (t .clock);
           lasting = by-lasting (tooFar (clockAfter h) n);
           owner = ap (λ (x : Member). x .owner) (p .0) ∙ ap (λ (b : Bool). pick b (m' .owner) (ownerPast m' n)) far-as ∙ by-owner (tooFar (clockAfter h) n);
         }

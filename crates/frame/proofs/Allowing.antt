@@ -86,7 +86,7 @@ module _ (b : ℕ) where
       (λ h e. after-value (λ (x : Sent). KindAllowed b (x .kind)) (placedPast headerLength (kindOf b (h .subtype) (bodyOf f))) _
       (λ k g. of-value (λ (x : Sent). KindAllowed b (x .kind)) (kind-allowed (h .subtype) (bodyOf f) k (past-value headerLength (kindOf b (h .subtype) (bodyOf f)) g))))
 
-  received-allowed : (o : Placed Sent) → ((x : Sent) → o ≡ accepted x → KindAllowed b (x .kind)) → ReceivedAllowed b (frameLaid o)
+  pub received-allowed : (o : Placed Sent) → ((x : Sent) → o ≡ accepted x → KindAllowed b (x .kind)) → ReceivedAllowed b (frameLaid o)
   received-allowed (refused r) h = tt
   received-allowed (accepted x) h =
       subst (FrameAllowed b (frameOf (x .kind))) (sym (take-at (quietsOf (x .kind)) _ _ refl)) (h x refl)

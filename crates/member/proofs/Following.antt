@@ -1,21 +1,29 @@
 -- From what `frame::read_in_ibss` hands out to what the frame means to a station of an IBSS. Assumes nothing.
 use mathlib.Core.Bool.{Bool, true, false, not, _&&_}
 use mathlib.Core.List.{List, [], _∷_}
+use mathlib.Core.Logic.{_⊎_, inl, inr}
 use mathlib.Core.Path.{_≡_, refl, sym, ap, ap₂, _∙_, subst}
 use Prim.Native.Nat.{ℕ, _≤_}
+use native.Mathlib.Omega.{arith}
 use Rattle.answer.proofs.Booleans.{clash}
+use Rattle.answer.proofs.Judged.{never}
 use Rattle.answer.specs.Checks.{refused, accepted, pick, _⇒_, checked, andThen}
 use Rattle.answer.specs.Faults.{Placed, faultNowhere}
 use Rattle.answer.specs.declared.Refusal.{Refusal}
 use Rattle.answer.specs.declared.Verdict.{Verdict}
+use Rattle.beacon.specs.Beacons.{Told}
 use Rattle.beacon.specs.IbssBeacons.{MaybeDfs, absent, is, hasDfs}
 use Rattle.beacon.specs.Laid.{dfsFields}
 use Rattle.beacon.specs.Notices.{hasSwitch}
 use Rattle.element.specs.IbssDfs.{Dfs}
 use Rattle.frame.specs.Actions.{requests, reports, tpcRequest, tpcReport, switch}
 use Rattle.frame.specs.Announcements.{announcementIn}
-use Rattle.frame.specs.Frames.{Kind, beacon, probeResponse, action}
-use Rattle.frame.specs.IbssFrames.{SentInIbss}
+use Rattle.frame.proofs.Allowing.{received-allowed}
+use Rattle.frame.proofs.FromAp.{ibss-allowed}
+use Rattle.frame.proofs.IbssNames.{sent-names}
+use Rattle.frame.specs.Allowed.{KindAllowed, ReceivedAllowed}
+use Rattle.frame.specs.Frames.{Kind, beacon, probeResponse, action, Sent}
+use Rattle.frame.specs.IbssFrames.{SentInIbss, ibssFrameMeans}
 use Rattle.frame.specs.IbssLaid.{ibssLaid}
 use Rattle.frame.specs.Laid.{frameOf}
 use Rattle.frame.specs.declared.Reading.{Reading}
@@ -51,6 +59,12 @@ heard-as o a (action (reports token rs)) = refl
 heard-as o a (action (tpcRequest token)) = refl
 heard-as o a (action (tpcReport token t)) = refl
 heard-as o a (action (switch w)) = refl
+
+is-sent : {x y : Sent} → _≡_ {A = Placed Sent} (accepted x) (accepted y) → x ≡ y
+is-sent e = cc
+
+same-recovery : {d d' : Dfs} → is d ≡ is d' → d .recovery ≡ d' .recovery
+same-recovery e = cc
 
 module _ (m : Member) where
   -- ---- what the code asks and makes of it
@@ -120,3 +134,20 @@ module _ (m : Member) where
           → OwnerFits (pick is-beacon (heardFrom (ownerNamed (m .owner) (ibssLaid (accepted x))) (x .sender)) (ownerNamed (m .owner) (ibssLaid (accepted x))))
       by true f = heard-fits (ownerNamed (m .owner) (ibssLaid (accepted x))) (x .sender) f
       by false f = f
+
+-- ---- what the reader hands out is allowed
+
+module _ (own bss : List ℕ) (b : ℕ) (f : List ℕ) where
+  pub laid-allowed : ReceivedAllowed b (ibssLaid (ibssFrameMeans own bss b f) .received)
+  laid-allowed = by (ibssFrameMeans own bss b f) refl
+    where
+      by : (o : Placed SentInIbss) → ibssFrameMeans own bss b f ≡ o → ReceivedAllowed b (ibssLaid o .received)
+      by (refused q) e = received-allowed b (refused q) (λ x g. absurd (never g))
+      by (accepted x) e = received-allowed b (accepted (x .sent)) (λ y g. subst (λ (z : Sent). KindAllowed b (z .kind)) (is-sent g) (ibss-allowed own bss b f x e))
+
+  pub named-recovery : (x : SentInIbss) → ibssFrameMeans own bss b f ≡ accepted x → (d : Dfs) → x .dfs ≡ is d → 1 ≤ d .recovery
+  named-recovery x e d y = by (sent-names own bss b f x e)
+    where
+      by : (x .dfs ≡ absent) ⊎ ((told : Told) × (d' : Dfs) × (x .sent .kind ≡ beacon told) × (x .dfs ≡ is d') × (1 ≤ d' .recovery)) → 1 ≤ d .recovery
+      by (inl z) = absurd (let c : absent ≡ is d = sym z ∙ y in let q : _≡_ {A = ℕ} 0 1 = cc in omega arith)
+      by (inr (told, d', k, z, some)) = subst (λ (n : ℕ). 1 ≤ n) (same-recovery (sym z ∙ y)) some
