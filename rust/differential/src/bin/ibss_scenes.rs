@@ -1,0 +1,969 @@
+//! Scenes of a station of an IBSS (02, Five), in the words of the program
+//! `run_ibss_scenes`: long runs of calls from several senders, each with the
+//! answer that the twin gives. Without the answers the text is the program's
+//! input, and what it writes must be this text.
+//!
+//! All of it comes from fixed seeds. What was given how often is told on
+//! standard error; the run fails if something that can occur never did.
+
+// Other programs use the rest of it.
+#[allow(dead_code)]
+#[path = "../rng.rs"]
+mod rng;
+
+use rng::Rng;
+use std::fmt::Write as _;
+use std::io::Write as _;
+use twin::{read_ibss_frame, Address, Frame, IbssReceived, IbssStation, Notice, Owner, Refusal};
+
+const SCENES: u64 = 480;
+const STEPS: u64 = 900;
+/// So many scenes begin near the clock's limit, which takes 65,538 advances.
+const LATE: u64 = 12;
+
+const OWN: Address = member(1);
+const BSSID: Address = member(9);
+const ALL_ONES: Address = [0xFF; 6];
+/// The interval by which the program reads frames that no station hears.
+const READ_INTERVAL: u16 = 100;
+const LONGEST_ADVANCE: u64 = 65_535;
+
+/// Octets of a header, and of the longest frame that the program can make.
+const HEADER: usize = 24;
+const LONGEST: usize = 2400;
+/// So many numbers has the longest call.
+const NUMBERS: usize = 127;
+
+/// The address of a member that the scenes name by its last octet.
+const fn member(last: u8) -> Address {
+    [2, 0, 0, 0, 0, last]
+}
+
+/// Those that send, the station's own address among them.
+const SENDERS: [u8; 4] = [3, 4, 5, 1];
+
+fn main() {
+    let mut counts = Counts::default();
+    let mut out = std::io::BufWriter::new(std::io::stdout().lock());
+    for seed in 1..=SCENES {
+        let text = Scene::play(seed, &mut counts);
+        out.write_all(text.as_bytes()).expect("the text is taken");
+    }
+    out.flush().expect("the text is taken");
+    if !counts.conclude() {
+        std::process::exit(1);
+    }
+}
+
+// ---------------------------------------------------------------- the counts
+
+/// How often each answer was given, and how often what else is worth seeing.
+#[derive(Default)]
+struct Counts {
+    lines: u64,
+    starts: [u64; 24],
+    frames: [u64; 24],
+    advances: [u64; 24],
+    asks: [u64; 24],
+    reads: [u64; 24],
+    pairs: [u64; 24],
+    events: [u64; EVENTS.len()],
+}
+
+/// What can happen beside a number.
+#[derive(Clone, Copy)]
+enum Event {
+    Named,
+    NamedAgain,
+    Replaced,
+    Heard,
+    GivenUp,
+    GivenUpPending,
+    Missed,
+    ObeyedInBeacon,
+    ObeyedInProbe,
+    ObeyedInAction,
+    ObeyedAtOnce,
+    NamedAndAnnounced,
+    ForeignBeacon,
+    ForeignNaming,
+    ForeignProbe,
+    ForeignAction,
+    Switched,
+    SwitchedOwned,
+    LongAdvance,
+    AtTheLimit,
+}
+
+const EVENTS: [&str; 20] = [
+    "an owner named where none was known",
+    "the same owner named again",
+    "an owner replaced",
+    "an owner heard",
+    "an owner given up",
+    "an owner given up while a switch was pending",
+    "a miss counted",
+    "an announcement in a beacon accepted",
+    "an announcement in a probe response accepted",
+    "an announcement in an action frame accepted",
+    "an announcement of count 0 accepted",
+    "an announcement accepted with the element 41 that names its sender",
+    "23 for a beacon",
+    "23 for a beacon with an element 41",
+    "23 for a probe response",
+    "23 for an action frame",
+    "a switch reached",
+    "a switch reached with an owner known",
+    "an advance of 65,535",
+    "the clock at its limit",
+];
+
+impl Counts {
+    fn event(&mut self, event: Event) {
+        self.events[event as usize] += 1;
+    }
+
+    /// Tells the counts; whether all that can occur did, and nothing else.
+    fn conclude(&self) -> bool {
+        let refusals = [0, 1, 2, 3, 4, 5, 6, 7, 8, 9, 10, 11, 12, 21, 22];
+        let frames = [&refusals[..], &[23]].concat();
+        let pairs = [0, 6, 8, 9, 10, 11, 12, 16];
+        let mut well = true;
+        let tables = [
+            ("start", &self.starts, &[0, 15][..]),
+            ("frame", &self.frames, &frames),
+            ("advance", &self.advances, &[0, 14]),
+            ("ask", &self.asks, &[0, 1, 2, 3, 4, 5]),
+            ("read", &self.reads, &refusals),
+            ("pair", &self.pairs, &pairs),
+        ];
+        let calls: u64 = tables.iter().map(|table| table.1.iter().sum::<u64>()).sum();
+        eprintln!("ibss scenes: {} lines, {calls} calls", self.lines);
+        for (name, given, can) in tables {
+            eprint!("{name:>9}");
+            for (number, &times) in given.iter().enumerate() {
+                if times != 0 {
+                    eprint!("  {number}: {times}");
+                }
+                if (times != 0) != can.contains(&number) {
+                    eprint!("  FAILED: {number} was given {times} times");
+                    well = false;
+                }
+            }
+            eprintln!();
+        }
+        for (name, &times) in EVENTS.iter().zip(&self.events) {
+            eprintln!("{times:>9} times {name}");
+            if times == 0 {
+                eprintln!("FAILED: never {name}");
+                well = false;
+            }
+        }
+        well
+    }
+}
+
+// ---------------------------------------------------------------- the frames
+
+/// A frame in the scenes' words, and its octets.
+struct Sent {
+    words: String,
+    octets: Vec<u8>,
+}
+
+/// Which of the three frames that hold announcements it is.
+#[derive(Clone, Copy, PartialEq)]
+enum Kind {
+    Beacon,
+    Probe,
+    Action,
+}
+
+impl Kind {
+    fn word(self) -> &'static str {
+        match self {
+            Kind::Beacon => "beacon",
+            Kind::Probe => "probe",
+            Kind::Action => "action",
+        }
+    }
+
+    fn subtype(self) -> u8 {
+        match self {
+            Kind::Beacon => 8,
+            Kind::Probe => 5,
+            Kind::Action => 13,
+        }
+    }
+}
+
+/// What follows the header: the parts that the scenes part by commas.
+struct Body {
+    kind: Kind,
+    parts: Vec<Vec<u8>>,
+}
+
+fn spelt(parts: &[Vec<u8>]) -> String {
+    let mut words = String::new();
+    for part in parts {
+        words.push(',');
+        for octet in part {
+            write!(words, " {octet}").expect("a string takes all");
+        }
+    }
+    words
+}
+
+fn header(kind: Kind, da: Address, sa: Address, bssid: Address) -> Vec<u8> {
+    let mut octets = vec![kind.subtype() << 4, 0, 0, 0];
+    octets.extend([da, sa, bssid].concat());
+    octets.extend([0, 0]);
+    octets
+}
+
+impl Body {
+    /// As the verbs of its kind send it, by a member, to the station.
+    fn sent(&self, sender: u8) -> Sent {
+        let mut octets = header(self.kind, OWN, member(sender), BSSID);
+        if self.kind != Kind::Action {
+            octets.extend([7, 0, 0, 0, 0, 0, 0, 0]);
+        }
+        octets.extend(self.parts.concat());
+        let words = format!("{} {sender}{}", self.kind.word(), spelt(&self.parts));
+        Sent { words, octets }
+    }
+
+    /// As a whole frame with this header.
+    fn whole(&self, header: &[u8]) -> Sent {
+        let mut parts = vec![header.to_vec()];
+        if self.kind != Kind::Action {
+            parts.push(vec![7, 0, 0, 0, 0, 0, 0, 0]);
+        }
+        parts.extend(self.parts.iter().cloned());
+        let mut octets = parts.concat();
+        octets.truncate(NUMBERS - 1);
+        cut(&mut parts, octets.len());
+        let words = format!("frame {}{}", octets.len(), spelt(&parts));
+        Sent { words, octets }
+    }
+}
+
+/// Leaves so many octets of these parts.
+fn cut(parts: &mut Vec<Vec<u8>>, length: usize) {
+    let mut left = length;
+    for part in parts.iter_mut() {
+        part.truncate(left);
+        left -= part.len();
+    }
+    parts.retain(|part| !part.is_empty());
+}
+
+fn element(id: u8, contents: &[u8]) -> Vec<u8> {
+    let mut element = vec![id, contents.len() as u8];
+    element.extend(contents);
+    element
+}
+
+/// Element 41, now and then with a fault of its own.
+fn dfs(rng: &mut Rng, owner: Address) -> Vec<u8> {
+    let recovery = rng.pick(&[1, 1, 2, 2, 3, 3, 4, 6, 10, 30, 254, 255]);
+    let mut contents = owner.to_vec();
+    contents.push(recovery);
+    for _ in 0..rng.below(4) {
+        contents.extend([rng.octet(), rng.octet()]);
+    }
+    match rng.below(40) {
+        0 => contents.truncate(6),
+        1 => contents.push(36),
+        2 => contents[6] = 0,
+        3 => contents[0] |= 1,
+        4 => contents.clear(),
+        _ => {}
+    }
+    element(41, &contents)
+}
+
+fn quiet(rng: &mut Rng, interval: u16) -> Vec<u8> {
+    let b = u64::from(interval);
+    let count = rng.pick(&[1, 1, 1, 2, 3, 255]);
+    let period = rng.pick(&[0, 0, 0, 1, 2, 9]);
+    let duration = match rng.below(8) {
+        0 => 0,
+        1 => 1,
+        2 => b.min(65_535),
+        3 => (3 * b).min(65_535),
+        4 => rng.below(65_536),
+        _ => rng.below(b / 3 + 2),
+    } as u16;
+    let offset = match rng.below(20) {
+        0 => b,
+        1 => b - 1,
+        2..=5 => 0,
+        _ => rng.below(b),
+    } as u16;
+    let mut contents = vec![count, period];
+    contents.extend(duration.to_le_bytes());
+    contents.extend(offset.to_le_bytes());
+    match rng.below(40) {
+        0 => contents[0] = 0,
+        1 => contents.truncate(5),
+        _ => {}
+    }
+    element(40, &contents)
+}
+
+fn announcement(rng: &mut Rng) -> Vec<u8> {
+    let mode = rng.pick(&[0, 0, 0, 1, 1]);
+    let channel = rng.pick(&[0, 36, 40, 44, 48, 149, 200]);
+    let count = rng.pick(&[0, 1, 1, 2, 2, 3, 5, 255]);
+    match rng.below(60) {
+        0 => element(37, &[2, channel, count]),
+        1 => element(37, &[mode, 201, count]),
+        2 => element(37, &[mode, channel]),
+        _ => element(37, &[mode, channel, count]),
+    }
+}
+
+// ----------------------------------------------------------------- the scenes
+
+struct Scene<'a> {
+    rng: Rng,
+    interval: u16,
+    station: IbssStation,
+    /// Moments at which something may begin or end.
+    edges: Vec<u64>,
+    /// How often, of ten times, the clock stays within one beacon interval.
+    near: u64,
+    text: String,
+    counts: &'a mut Counts,
+}
+
+impl<'a> Scene<'a> {
+    fn play(seed: u64, counts: &'a mut Counts) -> String {
+        let mut rng = Rng::new(seed * 0x9E37_79B9_7F4A_7C15);
+        let interval = if rng.one_in(4) {
+            rng.between(1, 65_535) as u16
+        } else {
+            rng.pick(&[1, 2, 3, 7, 10, 100, 100, 100, 100, 1000, 65_535])
+        };
+        let mut scene = Scene {
+            interval,
+            station: IbssStation::start(OWN, BSSID, READ_INTERVAL, 36).expect("it may start"),
+            edges: Vec::new(),
+            near: rng.pick(&[5, 8, 9, 9]),
+            text: format!("scene of seed {seed}\n"),
+            rng,
+            counts,
+        };
+        scene.counts.lines += 1;
+        scene.start();
+        if seed % (SCENES / LATE) == 0 {
+            scene.go_late();
+        }
+        for _ in 0..STEPS {
+            scene.step();
+        }
+        scene.text
+    }
+
+    fn say(&mut self, call: &str, answer: &str) {
+        self.counts.lines += 1;
+        writeln!(self.text, "{call} = {answer}").expect("a string takes all");
+    }
+
+    /// Starts that are refused, and then the scene's.
+    fn start(&mut self) {
+        let channel = self.rng.pick(&[0, 36, 200]);
+        let refused = [
+            (0, 2, 2, channel),
+            (self.interval, 3, 2, channel),
+            (self.interval, 2, 3, channel),
+            (self.interval, 2, 2, 201),
+        ];
+        let fault = self.rng.pick(&refused);
+        for (interval, own, bssid, channel) in [fault, (self.interval, 2, 2, channel)] {
+            let own_address = [own, 0, 0, 0, 0, 1];
+            let bssid_address = [bssid, 0, 0, 0, 0, 9];
+            let started = IbssStation::start(own_address, bssid_address, interval, channel);
+            let answer = started.as_ref().err().copied().unwrap_or(0);
+            self.counts.starts[usize::from(answer)] += 1;
+            self.say(
+                &format!("start {interval}, {own}, {bssid}, {channel}"),
+                &answer.to_string(),
+            );
+            if let Ok(station) = started {
+                self.station = station;
+            }
+        }
+    }
+
+    /// Brings the clock near its limit, by advances as the program does.
+    fn go_late(&mut self) {
+        let moment = u32::MAX - self.rng.below(20 * u64::from(self.interval) + 300) as u32;
+        while self.station.clock() < moment {
+            let left = moment - self.station.clock();
+            self.station.advance(left.min(LONGEST_ADVANCE as u32));
+        }
+        self.counts.lines += 1;
+        writeln!(self.text, "at {moment}").expect("a string takes all");
+    }
+
+    fn step(&mut self) {
+        match self.rng.below(100) {
+            0..=21 => self.advance(),
+            22..=43 => self.ask(),
+            44..=91 => {
+                let sent = self.frame();
+                self.take(&sent);
+            }
+            92..=96 => self.read(),
+            _ => self.pair(),
+        }
+        self.look();
+    }
+
+    fn now(&self) -> u64 {
+        u64::from(self.station.clock())
+    }
+
+    /// What the station keeps, of each now and then.
+    fn look(&mut self) {
+        if self.rng.one_in(2) {
+            let owner = match self.station.owner() {
+                None => "0".to_string(),
+                Some(Owner { address, recovery }) => format!(
+                    "{} {recovery} {} {}",
+                    octets(&address),
+                    self.station.misses(),
+                    u8::from(self.station.heard_owner())
+                ),
+            };
+            self.say("owner", &owner);
+        }
+        if self.rng.one_in(4) {
+            let pending = match self.station.pending_switch() {
+                None => "0".to_string(),
+                Some(switch) => format!("{} {} {}", switch.moment, switch.mode, switch.channel),
+            };
+            self.say("pending", &pending);
+        }
+        match self.rng.below(6) {
+            0 => self.say("channel", &self.station.channel().to_string()),
+            1 => self.say("clock", &self.station.clock().to_string()),
+            2 => {
+                let constraint = self.station.constraint();
+                let told = constraint.map_or("none".to_string(), |decibels| decibels.to_string());
+                self.say("constraint", &told);
+            }
+            _ => {}
+        }
+    }
+
+    /// A moment that lies ahead, at which something may begin or end.
+    fn edge(&mut self) -> Option<u64> {
+        let now = self.now();
+        self.edges.retain(|&edge| edge > now);
+        if self.edges.len() > 12 {
+            self.edges.drain(..6);
+        }
+        let pending = self.station.pending_switch().map(|switch| switch.moment);
+        if self.rng.one_in(2) && pending.is_some() {
+            return pending;
+        }
+        if self.edges.is_empty() {
+            return None;
+        }
+        Some(self.rng.pick(&self.edges))
+    }
+
+    fn advance(&mut self) {
+        let b = u64::from(self.interval);
+        let now = self.now();
+        let to_tbtt = b - now % b;
+        let units = if self.rng.below(10) < self.near {
+            match self.rng.below(8) {
+                0 => 0,
+                1 => 1,
+                2 => to_tbtt - 1,
+                3 | 4 => to_tbtt,
+                5 => to_tbtt + 1,
+                6 => self.towards(now).unwrap_or(1),
+                _ => self.rng.below(b),
+            }
+        } else {
+            match self.rng.below(16) {
+                0 | 1 => b - 1,
+                2 | 3 => b,
+                4 | 5 => b + 1,
+                6..=8 => self.rng.between(2, 6) * b,
+                9..=11 => self.towards(now).unwrap_or(b),
+                12 => self.rng.below(LONGEST_ADVANCE + 1),
+                13 => LONGEST_ADVANCE,
+                14 => LONGEST_ADVANCE + 1,
+                _ => self.rng.pick(&[100_000, 4_294_967_295]),
+            }
+        } as u32;
+        let owned = self.station.owner().is_some();
+        let misses = self.station.misses();
+        let pending = self.station.pending_switch();
+        let answer = self.station.advance(units);
+        self.counts.advances[usize::from(answer)] += 1;
+        self.say(&format!("advance {units}"), &answer.to_string());
+        if answer != 0 {
+            return;
+        }
+        if owned && self.station.owner().is_none() {
+            self.counts.event(Event::GivenUp);
+            if self.station.pending_switch().is_some() {
+                self.counts.event(Event::GivenUpPending);
+            }
+        }
+        if self.station.misses() > misses {
+            self.counts.event(Event::Missed);
+        }
+        if pending.is_some() && self.station.pending_switch().is_none() {
+            self.counts.event(Event::Switched);
+            if self.station.owner().is_some() {
+                self.counts.event(Event::SwitchedOwned);
+            }
+        }
+        if u64::from(units) == LONGEST_ADVANCE {
+            self.counts.event(Event::LongAdvance);
+        }
+        if self.station.clock() == u32::MAX {
+            self.counts.event(Event::AtTheLimit);
+        }
+    }
+
+    /// The way to an edge, or one unit less or more.
+    fn towards(&mut self, now: u64) -> Option<u64> {
+        let edge = self.edge()?;
+        let way = (edge - now + self.rng.below(3)).saturating_sub(1);
+        Some(way.min(LONGEST_ADVANCE))
+    }
+
+    fn ask(&mut self) {
+        let now = self.now();
+        let units = match self.rng.below(10) {
+            0 => 0,
+            1 | 2 => 1,
+            3 => u64::from(self.interval),
+            4 => self.rng.below(LONGEST_ADVANCE + 1),
+            5 => self.rng.pick(&[LONGEST_ADVANCE, LONGEST_ADVANCE + 1, 4_294_967_295]),
+            _ => self.towards(now).unwrap_or(2),
+        } as u32;
+        let answer = self.station.ask(units);
+        self.counts.asks[usize::from(answer)] += 1;
+        self.say(&format!("ask {units}"), &answer.to_string());
+    }
+
+    // ------------------------------------------------------ frames at random
+
+    /// The last octet of the owner's address, where it is one of the members.
+    fn known_member(&self) -> Option<u8> {
+        let address = self.station.owner()?.address;
+        SENDERS.into_iter().find(|&last| address == member(last))
+    }
+
+    fn sender(&mut self, announces: bool) -> u8 {
+        let often = if announces { 3 } else { 2 };
+        match self.known_member() {
+            Some(owner) if self.rng.below(5) < often => owner,
+            _ => self.rng.pick(&SENDERS),
+        }
+    }
+
+    /// Whom an element 41 names: its sender, the owner that stands, or another.
+    fn named(&mut self, sender: u8) -> Address {
+        match (self.rng.below(10), self.station.owner()) {
+            (0..=3, _) => member(sender),
+            (4..=7, Some(owner)) => owner.address,
+            (8, _) => self.rng.pick(&[[0; 6], [4, 1, 2, 3, 4, 5], [2, 1, 0, 0, 0, 3], BSSID]),
+            _ => member(self.rng.pick(&SENDERS)),
+        }
+    }
+
+    /// The elements of a beacon or a probe response, in any order.
+    fn elements(&mut self, sender: u8, announces: bool, interval: u16) -> Vec<Vec<u8>> {
+        let mut elements = Vec::new();
+        if self.rng.below(10) < 4 {
+            let owner = self.named(sender);
+            elements.push(dfs(&mut self.rng, owner));
+            if self.rng.one_in(12) {
+                let owner = self.named(sender);
+                elements.push(dfs(&mut self.rng, owner));
+            }
+        }
+        if announces {
+            elements.push(announcement(&mut self.rng));
+            if self.rng.one_in(30) {
+                elements.push(announcement(&mut self.rng));
+            }
+        }
+        let quiets = self.rng.pick(&[0, 0, 0, 0, 1, 1, 1, 2, 3]);
+        let quiets = if self.rng.one_in(40) {
+            self.rng.between(8, 9)
+        } else {
+            quiets
+        };
+        for _ in 0..quiets {
+            elements.push(quiet(&mut self.rng, interval));
+        }
+        if self.rng.one_in(4) {
+            elements.push(element(32, &[self.rng.octet()]));
+        }
+        match self.rng.below(40) {
+            0 => elements.push(element(32, &[3])),
+            1 => elements.push(element(32, &[3, 4])),
+            2 => elements.push(element(35, &[self.rng.octet(), self.rng.octet()])),
+            3 => elements.push(element(35, &[7])),
+            4 => elements.push(element(221, &[1, 2, 3])),
+            5 => elements.push(element(0, &[])),
+            6 => elements.push(element(42, &self.rng.octets(5))),
+            _ => {}
+        }
+        self.rng.shuffle(&mut elements);
+        elements
+    }
+
+    /// A beacon or a probe response.
+    fn notice(&mut self, kind: Kind, sender: u8, announces: bool, interval: u16) -> Body {
+        let said = match self.rng.below(40) {
+            0 => interval ^ 1,
+            1 => interval.wrapping_add(256),
+            _ => interval,
+        };
+        let mut parts = vec![said.to_le_bytes().to_vec(), vec![0, 1]];
+        parts.extend(self.elements(sender, announces, interval));
+        let length: usize = parts.iter().map(Vec::len).sum();
+        let kept = match self.rng.below(40) {
+            0 => self.rng.place(length + 1),
+            1 => length - 1,
+            _ => length,
+        };
+        cut(&mut parts, kept.min(NUMBERS - 3));
+        Body { kind, parts }
+    }
+
+    /// An action body that announces nothing, or a broken one.
+    fn other_action(&mut self) -> Body {
+        let measure = element(38, &[7, 0, 0, 36, 0, 0, 0, 0, 0, 0, 0, 0, 10, 0]);
+        let enable = element(38, &[8, 2, 0]);
+        let report = element(39, &[7, 1, 0]);
+        let vendor = element(221, &[1, 2]);
+        let parts = match self.rng.below(16) {
+            0 => vec![vec![0, 0, 7], measure, enable],
+            1 => vec![vec![0, 0, 7], measure.clone(), vendor, measure],
+            2 => vec![vec![0, 1, 0], report.clone(), report],
+            3 => vec![vec![0, 2, 7], element(34, &[])],
+            4 => vec![vec![0, 2, 0], element(34, &[])],
+            5 => vec![vec![0, 3, 7], element(35, &[self.rng.octet(), self.rng.octet()]), vendor],
+            6 => vec![vec![1, 4]],
+            7 => vec![vec![0, 5, 7]],
+            8 => vec![vec![0]],
+            9 => vec![vec![0, 2]],
+            10 => vec![vec![0, 4]],
+            11 => vec![vec![0, 4], element(34, &[])],
+            12 => vec![vec![0, 4], element(37, &[0, 44, 1]), vec![0]],
+            13 => vec![vec![0, 4], vec![37, 3, 0, 44]],
+            14 => vec![vec![0, 4], element(37, &[0, 44])],
+            _ => vec![vec![0, 3, 7], vec![35]],
+        };
+        Body {
+            kind: Kind::Action,
+            parts,
+        }
+    }
+
+    fn body(&mut self, sender: u8, announces: bool, interval: u16) -> Body {
+        match self.rng.below(10) {
+            0..=5 => self.notice(Kind::Beacon, sender, announces, interval),
+            6 | 7 => self.notice(Kind::Probe, sender, announces, interval),
+            _ if announces => {
+                let mut parts = vec![vec![0, 4], announcement(&mut self.rng)];
+                if self.rng.one_in(6) {
+                    parts.push(element(221, &[9]));
+                }
+                Body {
+                    kind: Kind::Action,
+                    parts,
+                }
+            }
+            _ => self.other_action(),
+        }
+    }
+
+    fn frame(&mut self) -> Sent {
+        let announces = self.rng.below(10) < 3;
+        let sender = self.sender(announces);
+        let body = self.body(sender, announces, self.interval);
+        if self.rng.one_in(8) {
+            self.with_header(&body, sender)
+        } else {
+            body.sent(sender)
+        }
+    }
+
+    /// The frame with a header of its own: to all ones, from an address that
+    /// the scenes have no word for, or with a fault.
+    fn with_header(&mut self, body: &Body, sender: u8) -> Sent {
+        let owner = self.station.owner().map(|owner| owner.address);
+        let sa = match self.rng.below(10) {
+            0 => [3, 0, 0, 0, 0, 3],
+            1 => [0; 6],
+            2 => [4, 1, 2, 3, 4, 5],
+            3 => [2, 1, 0, 0, 0, 3],
+            4 => BSSID,
+            5 | 6 => owner.unwrap_or(member(sender)),
+            _ => member(sender),
+        };
+        let da = match self.rng.below(10) {
+            0 => member(3),
+            1 => [0xFF, 0xFF, 0xFF, 0xFF, 0xFF, 0xFE],
+            2..=4 => OWN,
+            _ => ALL_ONES,
+        };
+        let bssid = match self.rng.below(12) {
+            0 => member(8),
+            1 => sa,
+            _ => BSSID,
+        };
+        let mut header = header(body.kind, da, sa, bssid);
+        match self.rng.below(24) {
+            0 => header[0] |= 1,
+            1 => header[0] |= 4,
+            2 => header[0] ^= 0x30,
+            3 => header[1] = self.rng.pick(&[1, 2, 4, 64]),
+            4 => header[22] = 1,
+            5 => header[22] = 0xF0,
+            6 => header[1] = 0x98,
+            7 => header.truncate(self.rng.place(HEADER)),
+            _ => {}
+        }
+        if header.len() < HEADER {
+            let body = Body {
+                kind: Kind::Action,
+                parts: Vec::new(),
+            };
+            return body.whole(&header);
+        }
+        let mut sent = body.whole(&header);
+        if self.rng.one_in(12) {
+            self.lengthen(&mut sent);
+        }
+        sent
+    }
+
+    /// Zeros after the octets, up to the longest frame and past it.
+    fn lengthen(&mut self, sent: &mut Sent) {
+        let length = match self.rng.below(4) {
+            0 => sent.octets.len() + self.rng.place(300),
+            1 => 2336,
+            2 => 2337,
+            _ => self.rng.between(2330, LONGEST as u64) as usize,
+        };
+        let given = format!("frame {}", sent.octets.len());
+        let rest = sent.words.strip_prefix(&given).expect("so a frame begins");
+        sent.words = format!("frame {length}{rest}");
+        sent.octets.resize(length, 0);
+    }
+
+    // ------------------------------------------------------- what comes of it
+
+    fn take(&mut self, sent: &Sent) {
+        let before = self.station.owner();
+        let answer = self.station.take(&sent.octets);
+        let number = answer.err().map_or(0, |refusal| refusal.number);
+        self.counts.frames[usize::from(number)] += 1;
+        self.say(&sent.words, &told(answer));
+        let heard = read_ibss_frame(&sent.octets, OWN, BSSID, self.interval);
+        if let Ok(received) = heard {
+            match answer {
+                Ok(()) => self.accepted(&received, before),
+                Err(_) => self.foreign(&received),
+            }
+        }
+    }
+
+    fn accepted(&mut self, received: &IbssReceived, before: Option<Owner>) {
+        let switch = switch_of(&received.frame);
+        if let Some(switch) = switch {
+            self.counts.event(match received.frame {
+                Frame::Beacon(_) => Event::ObeyedInBeacon,
+                Frame::ProbeResponse(_) => Event::ObeyedInProbe,
+                _ => Event::ObeyedInAction,
+            });
+            if switch.count == 0 {
+                self.counts.event(Event::ObeyedAtOnce);
+            }
+            if received.dfs.is_some() {
+                self.counts.event(Event::NamedAndAnnounced);
+            }
+        }
+        if let (Frame::Beacon(_), Some(owner)) = (&received.frame, self.station.owner()) {
+            if owner.address == received.sender {
+                self.counts.event(Event::Heard);
+            }
+            if received.dfs.is_some() {
+                self.counts.event(match before {
+                    None => Event::Named,
+                    Some(before) if before.address == owner.address => Event::NamedAgain,
+                    Some(_) => Event::Replaced,
+                });
+            }
+        }
+        if let Frame::Beacon(notice) | Frame::ProbeResponse(notice) = &received.frame {
+            self.note_edges(notice);
+        }
+    }
+
+    /// When the Quiet elements begin and end.
+    fn note_edges(&mut self, notice: &Notice) {
+        let b = u64::from(self.interval);
+        let latest_tbtt = self.now() / b * b;
+        for quiet in &notice.quiets {
+            let start = latest_tbtt + u64::from(quiet.count) * b + u64::from(quiet.offset);
+            let end = start + u64::from(quiet.duration);
+            let again = u64::from(quiet.period) * b;
+            self.edges.extend([start, end, start + again, end + again]);
+        }
+    }
+
+    fn foreign(&mut self, received: &IbssReceived) {
+        self.counts.event(match received.frame {
+            Frame::Beacon(_) => Event::ForeignBeacon,
+            Frame::ProbeResponse(_) => Event::ForeignProbe,
+            _ => Event::ForeignAction,
+        });
+        if received.dfs.is_some() {
+            self.counts.event(Event::ForeignNaming);
+        }
+    }
+
+    // ------------------------------------------------------- frames read alone
+
+    fn read(&mut self) {
+        let announces = self.rng.one_in(3);
+        let sender = self.sender(announces);
+        let body = self.body(sender, announces, READ_INTERVAL);
+        let sent = if self.rng.one_in(2) {
+            self.with_header(&body, sender)
+        } else {
+            body.sent(sender)
+        };
+        let read = read_ibss_frame(&sent.octets, OWN, BSSID, READ_INTERVAL);
+        let number = read.as_ref().err().map_or(0, |refusal| refusal.number);
+        self.counts.reads[usize::from(number)] += 1;
+        let answer = match read {
+            Ok(received) => received_told(&received),
+            Err(refusal) => told(Err(refusal)),
+        };
+        self.say(&format!("read-{}", sent.words), &answer);
+    }
+
+    fn pair(&mut self) {
+        let sender = self.rng.pick(&SENDERS);
+        let mut body = self.notice(Kind::Beacon, sender, false, READ_INTERVAL);
+        let length: usize = body.parts.iter().map(Vec::len).sum();
+        cut(&mut body.parts, length.clamp(4, NUMBERS - 4));
+        let sent = body.sent(sender);
+        if length < 4 {
+            return;
+        }
+        let index = self.rng.pick(&[0, 0, 1, 1, 2, 3, 4, u64::MAX / 4]);
+        let read = read_ibss_frame(&sent.octets, OWN, BSSID, READ_INTERVAL);
+        let pair = match read {
+            Ok(received) => received.pair(index as usize),
+            Err(refusal) => Err(refusal.number),
+        };
+        let answer = match pair {
+            Ok(pair) => format!("0 {} {}", pair.channel, pair.map),
+            Err(number) => number.to_string(),
+        };
+        self.counts.pairs[usize::from(pair.err().unwrap_or(0))] += 1;
+        let words = sent.words.strip_prefix("beacon").expect("so a beacon begins");
+        self.say(&format!("pair {index},{words}"), &answer);
+    }
+}
+
+fn switch_of(frame: &Frame) -> Option<twin::Switch> {
+    match frame {
+        Frame::Beacon(notice) | Frame::ProbeResponse(notice) => notice.switch,
+        Frame::ChannelSwitch(switch) => Some(*switch),
+        _ => None,
+    }
+}
+
+// ------------------------------------------------------------- in the words of
+// ------------------------------------------------------------------ the scenes
+
+fn octets(octets: &[u8]) -> String {
+    let words: Vec<String> = octets.iter().map(u8::to_string).collect();
+    words.join(" ")
+}
+
+fn told(answer: Result<(), Refusal>) -> String {
+    match answer {
+        Ok(()) => "0".to_string(),
+        Err(Refusal {
+            number,
+            offset: None,
+        }) => number.to_string(),
+        Err(Refusal {
+            number,
+            offset: Some(offset),
+        }) => format!("{number} {offset}"),
+    }
+}
+
+fn received_told(received: &IbssReceived) -> String {
+    let to_all = if received.broadcast { " to all" } else { "" };
+    let mut words = format!("0{to_all} from {}", octets(&received.sender));
+    words += &match &received.frame {
+        Frame::Beacon(notice) => format!(" beacon{}", notice_told(notice)),
+        Frame::ProbeResponse(notice) => format!(" probe response{}", notice_told(notice)),
+        Frame::MeasurementRequest { token, requests } => {
+            format!(" measurement request {token} {}", requests.len())
+        }
+        Frame::MeasurementReport { token, reports } => {
+            format!(" measurement report {token} {}", reports.len())
+        }
+        Frame::TpcRequest { token } => format!(" tpc request {token}"),
+        Frame::TpcReport {
+            token,
+            power,
+            margin,
+        } => format!(" tpc report {token} report {} {}", *power as u8, *margin as u8),
+        Frame::ChannelSwitch(switch) => switch_told(switch),
+    };
+    if let Some(dfs) = &received.dfs {
+        words += &format!(" dfs {} {} {}", octets(&dfs.owner), dfs.recovery, dfs.pairs.len());
+    }
+    if let Frame::Beacon(notice) | Frame::ProbeResponse(notice) = &received.frame {
+        for quiet in &notice.quiets {
+            words += &format!(
+                " quiet {} {} {} {}",
+                quiet.count, quiet.period, quiet.duration, quiet.offset
+            );
+        }
+    }
+    words
+}
+
+fn notice_told(notice: &Notice) -> String {
+    let mut words = format!(" {} {}", notice.timestamp, notice.capability);
+    if let Some(decibels) = notice.constraint {
+        words += &format!(" constraint {decibels}");
+    }
+    if let Some((power, margin)) = notice.tpc_report {
+        words += &format!(" report {} {}", power as u8, margin as u8);
+    }
+    if let Some(switch) = &notice.switch {
+        words += &switch_told(switch);
+    }
+    words
+}
+
+fn switch_told(switch: &twin::Switch) -> String {
+    format!(" switch {} {} {}", switch.mode, switch.channel, switch.count)
+}
