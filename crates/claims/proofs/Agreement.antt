@@ -15,6 +15,7 @@ use Rattle.beacon.specs.declared.MaybePower.{MaybePower}
 use Rattle.beacon.specs.declared.MaybeSwitch.{MaybeSwitch}
 use Rattle.element.specs.declared.channel_switch.ChannelSwitch.{ChannelSwitch}
 use Rattle.element.specs.declared.quiet.Quiet.{Quiet}
+use Rattle.frame.specs.Announcements.{announcementIn}
 use Rattle.frame.specs.Actions.{Body, requests, reports, tpcRequest, tpcReport, switch}
 use Rattle.frame.specs.Allowed.{KindAllowed}
 use Rattle.frame.specs.Frames.{Kind, beacon, probeResponse, action}
@@ -24,7 +25,7 @@ use Rattle.station.specs.Stations.{inUse, fresh, withClock, withUntil}
 use Rattle.station.specs.Taking.{schedulesOf, latestEnd, outlasting, rescheduled, constrained, announced, announcedIf, informed, heard}
 use Rattle.station.specs.declared.Station.{Station}
 use Rattle.capture_record.specs.declared.entry.Settings.{Settings}
-use Rattle.claims.specs.Histories.{Call, frame, advance, ask, History, tooFar, clockAfter, Listener, listener, Says, announcementIn, Tells, Announces, Latest, Throughout}
+use Rattle.claims.specs.Histories.{Call, frame, advance, ask, History, tooFar, clockAfter, Listener, listener, Says, Tells, Announces, Latest, Throughout}
 use Rattle.claims.specs.Records.{recordAfter, Agreeing, Agrees}
 use Rattle.claims.specs.Standing.{NoAnnouncement, Switches, at-once, NoSwitch, ChannelIs, PowerIs, PendingIs, SetsEach, SchedulesAre, UntilIs}
 use Rattle.claims.specs.Standing as Standing

@@ -17,12 +17,13 @@ use Rattle.capture_record.specs.declared.entry.Settings.{Settings}
 use Rattle.element.specs.IbssDfs.{Dfs}
 use Rattle.frame.specs.Frames.{Kind, beacon, probeResponse, action}
 use Rattle.frame.specs.IbssFrames.{SentInIbss}
+use Rattle.header.proofs.Addresses.{same-is}
 use Rattle.header.specs.Headers.{same}
 use Rattle.owner.specs.Tbtts.{isTbtt}
 use Rattle.claims.specs.Histories.{Call, frame, advance, ask, History, tooFar, clockAfter, Latest}
 use Rattle.claims.specs.Naming.{Restarts, FromOwner, NamesAnother, LastRestarted}
 use Rattle.claims.specs.Reigns.{Reign, reignOf, Reigning, nobody, reigns, missedBy, atUnit, overUnits, owns, namingAt, heardAt, foreignTo, afterKind, afterFrame, readAs, reigning}
-use Rattle.claims.proofs.OwnersNamed.{same-is, is-read}
+use Rattle.claims.proofs.OwnersNamed.{is-read}
 
 -- an owner by who it is, when the count was last set to 0, and whether by a beacon of its own
 abbrev Mark : Type 0

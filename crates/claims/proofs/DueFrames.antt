@@ -17,6 +17,7 @@ use Rattle.answer.specs.declared.Refusal.{Refusal}
 use native.Mathlib.Omega.{arith}
 use Rattle.frame.proofs.ActionParts.{parts}
 use Rattle.frame.specs.Actions.{Body, requests, actionMeans}
+use Rattle.header.proofs.Addresses.{same-is}
 use Rattle.header.specs.Headers.{headerLength, bodyOf, same, da, sa, bssid, toAll, foreignAddress, managementMeans, addressMeans, headerMeans}
 use Rattle.header.specs.declared.address.Cell.{Cell}
 use Rattle.header.specs.declared.management.Subtype.{Subtype}
@@ -31,14 +32,6 @@ use Rattle.measurement_element.specs.declared.measurement_request.Request.{Requ
 use Rattle.octets.specs.Numbers.{Octets}
 use Rattle.walk.proofs.RunLaws.{octets-front, octets-after}
 use Rattle.reply.specs.Due.{Owed, asks, breaks, isReturned, hasCategory, orReturn, afterHeader, dueMeans}
-
-same-is-equal : (xs ys : List ℕ) → same xs ys ≡ true → xs ≡ ys
-same-is-equal [] [] e = refl
-same-is-equal [] (y ∷ ys) e = clash (sym e)
-same-is-equal (x ∷ xs) [] e = clash (sym e)
-same-is-equal (x ∷ xs) (y ∷ ys) e =
-    let p = both (eqb x y) (same xs ys) e in
-    ap₂ (λ (z : ℕ) (zs : List ℕ). z ∷ zs) (eqb-true x y (p .0)) (same-is-equal xs ys (p .1))
 
 first-holds : (a b : Bool) → (a || b) ≡ true → b ≡ false → a ≡ true
 first-holds true b e k = refl
@@ -62,10 +55,10 @@ module _ (own ap' f : List ℕ) (x : Owed) where
       let from = neither _ _ (p .0) in
       let bss = neither _ _ (from .1) in
       record {
-        toStation = same-is-equal _ _ (first-holds _ _ (not-false _ (bss .1)) one);
+        toStation = same-is _ _ (first-holds _ _ (not-false _ (bss .1)) one);
         toOne = one;
-        fromAp = same-is-equal _ _ (not-false _ (from .0));
-        ofBss = same-is-equal _ _ (not-false _ (bss .0));
+        fromAp = same-is _ _ (not-false _ (from .0));
+        ofBss = same-is _ _ (not-false _ (bss .0));
         is = is;
       }
 

@@ -18,6 +18,7 @@ pub mod ElementsBefore
 pub mod ErrorReturns
 pub mod FedFilesListed
 pub mod Filtered
+pub mod FilteredIbss
 pub mod Following
 pub mod HistoriesTell
 pub mod IbssReadings
@@ -31,10 +32,12 @@ pub mod MemberFollows
 pub mod MomentsHold
 pub mod NoticeFields
 pub mod Numbers
+pub mod OneAddress
 pub mod OneOutcomeCaptures
 pub mod OneOutcomeElements
 pub mod OneOutcomeFrames
 pub mod OneOutcomeLeaves
+pub mod OneOutcomeMembers
 pub mod OneOutcomeOwners
 pub mod OneOutcomeWalk
 pub mod OneRecord

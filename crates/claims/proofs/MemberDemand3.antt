@@ -66,19 +66,19 @@ module _ (s : Settings) where
         subst ValidMember result (promise .1 accepts),
       )
 
-  leaves-take : (before m : Member) (f : List ℕ) (v : Verdict) → MemberTakes before f v m
+  pub leaves-take : (before m : Member) (f : List ℕ) (v : Verdict) → MemberTakes before f v m
       → (v ≡ takeOf before f .verdict) × (m ≡ takeOf before f .member) × ValidMember m
   leaves-take before m f v (κs, a, x, e, promise, (self, octets, verdict, result)) =
       let same : x ≡ takeOf before f = rw (← self, ← octets) (promise .0) in
       (sym verdict ∙ ap (λ (y : Taken). y .verdict) same, sym result ∙ ap (λ (y : Taken). y .member) same, subst ValidMember result (promise .1))
 
-  leaves-advance : (before m : Member) (n : ℕ) (r : Answer) → MemberAdvances before n r m
+  pub leaves-advance : (before m : Member) (n : ℕ) (r : Answer) → MemberAdvances before n r m
       → (r ≡ advanceOf before n .answer) × (m ≡ advanceOf before n .member) × ValidMember m
   leaves-advance before m n r (κs, a, x, e, promise, (self, units, answer, result)) =
       let same : x ≡ advanceOf before n = rw (← self, ← units) (promise .0) in
       (sym answer ∙ ap (λ (y : Stepped). y .answer) same, sym result ∙ ap (λ (y : Stepped). y .member) same, subst ValidMember result (promise .1))
 
-  answers-ask : (m : Member) (n : ℕ) (p : Permission) → MemberAsks m n p → p ≡ permissionOf (m .station) n
+  pub answers-ask : (m : Member) (n : ℕ) (p : Permission) → MemberAsks m n p → p ≡ permissionOf (m .station) n
   answers-ask m n p (κs, a, x, e, promise, (self, units, result)) = sym result ∙ rw (← self, ← units) promise
 
   -- ---- any calls
@@ -179,4 +179,4 @@ module _ (s : Settings) where
 
       by-pending : (p : Pending) → PendingIs (ibssListener s) h p → p ≡ Pending.Nothing
       by-pending Pending.Nothing x = refl
-      by-pending (Pending.Switch q) (w, x, y) = absurd (never-announced h (q .at) w none (x .0))
+      by-pending (Pending.Switch q) (w, x, mode, channel) = absurd (never-announced h (q .at) w none (x .0))

@@ -9,10 +9,11 @@ use Rattle.beacon.specs.declared.MaybePower.{MaybePower}
 use Rattle.beacon.specs.declared.MaybeSwitch.{MaybeSwitch}
 use Rattle.element.specs.declared.channel_switch.ChannelSwitch.{ChannelSwitch}
 use Rattle.element.specs.declared.power_constraint.PowerConstraint.{PowerConstraint}
+use Rattle.frame.specs.Announcements.{announcementIn}
 use Rattle.frame.specs.Frames.{Kind, beacon, probeResponse, action}
 use Rattle.pending.specs.declared.Pending.{Pending}
 use Rattle.pending.specs.declared.Switch.{Switch}
-use Rattle.claims.specs.Histories.{Call, frame, advance, ask, History, clockAfter, Listener, Says, announcementIn, Tells, Announces, Constrains, Latest, Throughout}
+use Rattle.claims.specs.Histories.{Call, frame, advance, ask, History, clockAfter, Listener, Says, Tells, Announces, Constrains, Latest, Throughout}
 use Rattle.claims.specs.Standing.{NoAnnouncement, LastAnnounced, Switches, at-once, reached, NoSwitch, Counts, ChannelIs, LastConstrained, PowerIs, PendingIs}
 use Rattle.claims.specs.Tbtts.{CountedTo}
 use Rattle.claims.proofs.CountingTbtts.{one-moment}

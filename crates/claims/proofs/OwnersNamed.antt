@@ -6,9 +6,8 @@ use mathlib.Core.Logic.{inl, inr, ⊎-elim}
 use mathlib.Core.Path.{_≡_, refl, sym, ap, ap₂, _∙_, subst}
 use Prim.Native.Nat.{ℕ, zero, suc, _+_}
 use native.Mathlib.Omega.{arith}
-use borrow.Author.Tests.{eqb-true}
-use lib.Dec.{leb, eqb}
-use Rattle.answer.proofs.Booleans.{either, clash, both}
+use lib.Dec.{leb}
+use Rattle.answer.proofs.Booleans.{clash}
 use Rattle.answer.proofs.Judged.{never}
 use Rattle.answer.specs.Checks.{refused, accepted, pick}
 use Rattle.answer.specs.Faults.{Placed}
@@ -23,18 +22,12 @@ use Rattle.element.specs.declared.channel_switch.ChannelSwitch.{ChannelSwitch}
 use Rattle.frame.specs.Announcements.{announcementIn}
 use Rattle.frame.specs.Frames.{Kind, beacon, probeResponse, action}
 use Rattle.frame.specs.IbssFrames.{SentInIbss}
+use Rattle.header.proofs.Addresses.{same-is}
 use Rattle.header.specs.Headers.{same}
 use Rattle.owner.specs.Tbtts.{isTbtt}
 use Rattle.claims.specs.Histories.{Call, frame, advance, ask, History, tooFar, clockAfter, Latest, Throughout, Announces}
 use Rattle.claims.specs.Naming.{Names, LastNamed, Nameless, NeverNamed}
 use Rattle.claims.specs.Reigns.{Reign, reignOf, Reigning, nobody, reigns, missedBy, atUnit, overUnits, owns, namingAt, heardAt, foreignTo, afterKind, afterFrame, readAs, reigning, Accepts, ibssListener}
-
--- addresses that compare as the same are
-pub same-is : (xs ys : List ℕ) → same xs ys ≡ true → xs ≡ ys
-same-is [] [] e = refl
-same-is [] (y ∷ ys) e = clash (sym e)
-same-is (x ∷ xs) [] e = clash (sym e)
-same-is (x ∷ xs) (y ∷ ys) e = let w = both (eqb x y) (same xs ys) e in ap₂ (λ z zs. z ∷ zs) (eqb-true x y (w .0)) (same-is xs ys (w .1))
 
 pub is-read : (x y : SentInIbss) → _≡_ {A = Placed SentInIbss} (accepted x) (accepted y) → x ≡ y
 is-read x y e = cc

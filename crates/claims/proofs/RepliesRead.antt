@@ -17,6 +17,7 @@ use Rattle.frame.proofs.ActionTrip.{action-trip}
 use Rattle.frame.specs.Actions.{Body, requests, reports, tpcRequest, tpcReport, actionMeans, actionOctets, actionMay, ActionFits}
 use Rattle.frame.specs.Frames.{action, frameMeans}
 use Rattle.header.proofs.Heard.{heard-as}
+use Rattle.header.proofs.Addresses.{same-self}
 use Rattle.header.specs.Headers.{same, da, sa, toAll, foreignHeader, foreignAddress, headerMeans}
 use Rattle.header.specs.declared.address.Cell.{Cell}
 use Rattle.header.specs.declared.management.Subtype.{Subtype}
@@ -39,10 +40,6 @@ use Rattle.claims.specs.Exchanged.{exchanged}
 use Rattle.claims.specs.RepliesRead.{TpcReadsBack, ReadsBack}
 
 -- ---- the header
-
-same-self : (xs : List ℕ) → same xs xs ≡ true
-same-self [] = refl
-same-self (x ∷ xs) = and-go (eqb x x) (eq-eqb x x refl) ∙ same-self xs
 
 -- between the addresses of a frame that went to one station
 module _ (f os : List ℕ) (one : toAll f ≡ false) (short : length os ≤ longestReplyBody) where

@@ -13,7 +13,7 @@ use Rattle.beacon.specs.declared.MaybeSwitch.{MaybeSwitch}
 use Rattle.capture_record.specs.declared.entry.Settings.{Settings}
 use Rattle.element.specs.declared.channel_switch.ChannelSwitch.{ChannelSwitch}
 use Rattle.element.specs.declared.power_constraint.PowerConstraint.{PowerConstraint}
-use Rattle.frame.specs.Actions.{requests, reports, tpcRequest, tpcReport, switch}
+use Rattle.frame.specs.Announcements.{announcementIn}
 use Rattle.frame.specs.Frames.{Kind, beacon, probeResponse, action, frameMeans}
 
 -- a call as it was made: the octets of a frame, an advance by so many TU, a question to send for so many TU
@@ -63,16 +63,6 @@ abbrev pub Says : Kind → Told → Type 0
 Says (beacon t) said = t ≡ said
 Says (probeResponse t) said = t ≡ said
 Says (action body) said = ⊥
-
--- an announcement stands in a beacon, in a probe response, or in an action frame of its own
-abbrev pub announcementIn : Kind → MaybeSwitch
-announcementIn (beacon t) = t .notice .switch
-announcementIn (probeResponse t) = t .notice .switch
-announcementIn (action (requests token rs)) = MaybeSwitch.Absent
-announcementIn (action (reports token rs)) = MaybeSwitch.Absent
-announcementIn (action (tpcRequest token)) = MaybeSwitch.Absent
-announcementIn (action (tpcReport token t)) = MaybeSwitch.Absent
-announcementIn (action (switch w)) = MaybeSwitch.Is w
 
 -- the call, made after h, was an accepted beacon or probe response
 abbrev pub Tells : Listener → Call → History → Told → Type 0

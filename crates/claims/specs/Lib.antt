@@ -5,6 +5,7 @@ pub mod ErrorReturns
 pub mod Exchanged
 pub mod FedFiles
 pub mod FilteredFrames
+pub mod FilteredIbss
 pub mod Filters
 pub mod Histories
 pub mod HistoryLines
@@ -13,6 +14,7 @@ pub mod MemberRuns
 pub mod Moments
 pub mod Naming
 pub mod Numbered
+pub mod OneAddress
 pub mod OpenUnits
 pub mod PassedOver
 pub mod Places

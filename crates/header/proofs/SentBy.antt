@@ -5,7 +5,7 @@ use mathlib.Core.Logic.{⊎-elim}
 use mathlib.Core.Path.{_≡_, refl, sym, ap, ap₂, _∙_}
 use Prim.Native.Nat.{ℕ, zero, suc, _+_, _≤_}
 use native.Mathlib.Omega.{arith}
-use borrow.Author.Tests.{lt-ltb, eq-eqb, ltb-true, ltb-false}
+use borrow.Author.Tests.{lt-ltb, ltb-true, ltb-false}
 use lib.Dec.{ltb}
 use lib.ListN.{length, take, drop, replicate, length-append, length-take, length-drop, drop-of-length-le, take-append-drop, List·getD-append}
 use lib.Seq.{length-take-le, getD-append-add, drop-append-add, drop-drop}
@@ -18,6 +18,7 @@ use Rattle.octets.specs.Numbers.{octet, octetsFrom, bit}
 use Rattle.header.specs.Headers.{headerLength, bodyOf, same, da, sa, bssid, foreignHeader, toAll, foreignAddress, managementMeans, addressMeans, Head, headerMeans, fromAp}
 use Rattle.header.specs.declared.address.Cell.{Cell}
 use Rattle.header.specs.declared.management.Subtype.{Subtype}
+use Rattle.header.proofs.Addresses.{same-self}
 
 -- ---- octets of two lists, the one after the other
 
@@ -26,15 +27,11 @@ module _ (xs ys : List ℕ) where
   in-front zero i h = refl
   in-front (suc k) i h = ap₂ (λ (o : ℕ) (os : List ℕ). o ∷ os) (List·getD-append xs ys 0 i (omega arith)) (in-front k (i + 1) (omega arith))
 
-  behind : (k i : ℕ) → octetsFrom k (length xs + i) (xs ++ ys) ≡ octetsFrom k i ys
-  behind zero i = refl
-  behind (suc k) i =
+  after-these : (k i : ℕ) → octetsFrom k (length xs + i) (xs ++ ys) ≡ octetsFrom k i ys
+  after-these zero i = refl
+  after-these (suc k) i =
       ap₂ (λ (o : ℕ) (os : List ℕ). o ∷ os) (getD-append-add xs ys i 0)
-      (ap (λ (n : ℕ). octetsFrom k n (xs ++ ys)) (let e : length xs + i + 1 ≡ length xs + (i + 1) = omega arith in e) ∙ behind k (i + 1))
-
-same-self : (xs : List ℕ) → same xs xs ≡ true
-same-self [] = refl
-same-self (x ∷ xs) = simp (eq-eqb x x refl, same-self xs)
+      (ap (λ (n : ℕ). octetsFrom k n (xs ++ ys)) (let e : length xs + i + 1 ≡ length xs + (i + 1) = omega arith in e) ∙ after-these k (i + 1))
 
 -- ---- SA replaced by an address
 
@@ -59,7 +56,7 @@ module _ (a : List ℕ) (six : length a ≡ 6) (f : List ℕ) where
     unfolding fromAp
     its-sender =
         ap (λ (n : ℕ). octetsFrom 6 n (take 10 f ++ (a ++ drop 16 f))) (let e : 10 ≡ length (take 10 f) + 0 = omega (arith, ten) in e)
-        ∙ behind (take 10 f) (a ++ drop 16 f) 6 0
+        ∙ after-these (take 10 f) (a ++ drop 16 f) 6 0
         ∙ in-front a (drop 16 f) 6 0 (omega (arith, six))
         ∙ all-from 6 a six
 
@@ -67,9 +64,9 @@ module _ (a : List ℕ) (six : length a ≡ 6) (f : List ℕ) where
     unfolding fromAp
     after k i =
         ap (λ (n : ℕ). octetsFrom k n (take 10 f ++ (a ++ drop 16 f))) (let e : 16 + i ≡ length (take 10 f) + (length a + i) = omega (arith, ten, six) in e)
-        ∙ behind (take 10 f) (a ++ drop 16 f) k (length a + i)
-        ∙ behind a (drop 16 f) k i
-        ∙ sym (behind (take 16 f) (drop 16 f) k i)
+        ∙ after-these (take 10 f) (a ++ drop 16 f) k (length a + i)
+        ∙ after-these a (drop 16 f) k i
+        ∙ sym (after-these (take 16 f) (drop 16 f) k i)
         ∙ ap₂ (octetsFrom k) (let e : length (take 16 f) + i ≡ 16 + i = omega (arith, length-take-le 16 f (omega arith)) in e) (take-append-drop 16 f)
 
     same-first : octet 0 (fromAp a f) ≡ octet 0 f

@@ -33,10 +33,10 @@ impl Member {
         let stepped = station.advance(units);
         let answer = stepped.answer;
         let next = stepped.station;
-        let owner = owner.past(tbtts_between(station.clock, next.clock, station.interval));
+        let past = owner.past(tbtts_between(station.clock, next.clock, station.interval));
         let member = Member {
             station: next,
-            owner,
+            owner: past,
         };
         Stepped { answer, member }
     }
