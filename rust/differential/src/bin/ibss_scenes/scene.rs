@@ -1,29 +1,21 @@
-//! Scenes of a station of an IBSS (02, Five), in the words of the program
-//! `run_ibss_scenes`: long runs of calls from several senders, each with the
-//! answer that the twin gives. Without the answers the text is the program's
-//! input, and what it writes must be this text.
-//!
-//! All of it comes from fixed seeds. What was given how often is told on
-//! standard error; the run fails if something that can occur never did.
+//! One scene: calls at random, with the twin's answers.
 
-// Other programs use the rest of it.
-#[allow(dead_code)]
-#[path = "../rng.rs"]
-mod rng;
+use crate::counts::{Counts, Event};
+use crate::frames::{
+    announcement, cut, dfs, element, header, member, quiet, Body, Kind, Sent, BSSID, NUMBERS, OWN,
+};
+use crate::rng::Rng;
+use crate::words::{octets, received_told, told};
+use std::collections::HashMap;
+use std::fmt::Write;
+use twin::{read_ibss_frame, Address, Frame, IbssReceived, IbssStation, Notice, Owner, Switch};
 
-use rng::Rng;
-use std::fmt::Write as _;
-use std::io::Write as _;
-use twin::{read_ibss_frame, Address, Frame, IbssReceived, IbssStation, Notice, Owner, Refusal};
-
-const SCENES: u64 = 480;
+/// So many calls has a scene, beside those that look at what is kept.
 const STEPS: u64 = 900;
-/// So many scenes begin near the clock's limit, which takes 65,538 advances.
-const LATE: u64 = 12;
 
-const OWN: Address = member(1);
-const BSSID: Address = member(9);
 const ALL_ONES: Address = [0xFF; 6];
+/// Those that send, the station's own address among them.
+const SENDERS: [u8; 4] = [3, 4, 5, 1];
 /// The interval by which the program reads frames that no station hears.
 const READ_INTERVAL: u16 = 100;
 const LONGEST_ADVANCE: u64 = 65_535;
@@ -31,307 +23,16 @@ const LONGEST_ADVANCE: u64 = 65_535;
 /// Octets of a header, and of the longest frame that the program can make.
 const HEADER: usize = 24;
 const LONGEST: usize = 2400;
-/// So many numbers has the longest call.
-const NUMBERS: usize = 127;
 
-/// The address of a member that the scenes name by its last octet.
-const fn member(last: u8) -> Address {
-    [2, 0, 0, 0, 0, last]
-}
-
-/// Those that send, the station's own address among them.
-const SENDERS: [u8; 4] = [3, 4, 5, 1];
-
-fn main() {
-    let mut counts = Counts::default();
-    let mut out = std::io::BufWriter::new(std::io::stdout().lock());
-    for seed in 1..=SCENES {
-        let text = Scene::play(seed, &mut counts);
-        out.write_all(text.as_bytes()).expect("the text is taken");
-    }
-    out.flush().expect("the text is taken");
-    if !counts.conclude() {
-        std::process::exit(1);
-    }
-}
-
-// ---------------------------------------------------------------- the counts
-
-/// How often each answer was given, and how often what else is worth seeing.
-#[derive(Default)]
-struct Counts {
-    lines: u64,
-    starts: [u64; 24],
-    frames: [u64; 24],
-    advances: [u64; 24],
-    asks: [u64; 24],
-    reads: [u64; 24],
-    pairs: [u64; 24],
-    events: [u64; EVENTS.len()],
-}
-
-/// What can happen beside a number.
-#[derive(Clone, Copy)]
-enum Event {
-    Named,
-    NamedAgain,
-    Replaced,
-    Heard,
-    GivenUp,
-    GivenUpPending,
-    Missed,
-    ObeyedInBeacon,
-    ObeyedInProbe,
-    ObeyedInAction,
-    ObeyedAtOnce,
-    NamedAndAnnounced,
-    ForeignBeacon,
-    ForeignNaming,
-    ForeignProbe,
-    ForeignAction,
-    Switched,
-    SwitchedOwned,
-    LongAdvance,
-    AtTheLimit,
-}
-
-const EVENTS: [&str; 20] = [
-    "an owner named where none was known",
-    "the same owner named again",
-    "an owner replaced",
-    "an owner heard",
-    "an owner given up",
-    "an owner given up while a switch was pending",
-    "a miss counted",
-    "an announcement in a beacon accepted",
-    "an announcement in a probe response accepted",
-    "an announcement in an action frame accepted",
-    "an announcement of count 0 accepted",
-    "an announcement accepted with the element 41 that names its sender",
-    "23 for a beacon",
-    "23 for a beacon with an element 41",
-    "23 for a probe response",
-    "23 for an action frame",
-    "a switch reached",
-    "a switch reached with an owner known",
-    "an advance of 65,535",
-    "the clock at its limit",
-];
-
-impl Counts {
-    fn event(&mut self, event: Event) {
-        self.events[event as usize] += 1;
-    }
-
-    /// Tells the counts; whether all that can occur did, and nothing else.
-    fn conclude(&self) -> bool {
-        let refusals = [0, 1, 2, 3, 4, 5, 6, 7, 8, 9, 10, 11, 12, 21, 22];
-        let frames = [&refusals[..], &[23]].concat();
-        let pairs = [0, 6, 8, 9, 10, 11, 12, 16];
-        let mut well = true;
-        let tables = [
-            ("start", &self.starts, &[0, 15][..]),
-            ("frame", &self.frames, &frames),
-            ("advance", &self.advances, &[0, 14]),
-            ("ask", &self.asks, &[0, 1, 2, 3, 4, 5]),
-            ("read", &self.reads, &refusals),
-            ("pair", &self.pairs, &pairs),
-        ];
-        let calls: u64 = tables.iter().map(|table| table.1.iter().sum::<u64>()).sum();
-        eprintln!("ibss scenes: {} lines, {calls} calls", self.lines);
-        for (name, given, can) in tables {
-            eprint!("{name:>9}");
-            for (number, &times) in given.iter().enumerate() {
-                if times != 0 {
-                    eprint!("  {number}: {times}");
-                }
-                if (times != 0) != can.contains(&number) {
-                    eprint!("  FAILED: {number} was given {times} times");
-                    well = false;
-                }
-            }
-            eprintln!();
-        }
-        for (name, &times) in EVENTS.iter().zip(&self.events) {
-            eprintln!("{times:>9} times {name}");
-            if times == 0 {
-                eprintln!("FAILED: never {name}");
-                well = false;
-            }
-        }
-        well
-    }
-}
-
-// ---------------------------------------------------------------- the frames
-
-/// A frame in the scenes' words, and its octets.
-struct Sent {
-    words: String,
-    octets: Vec<u8>,
-}
-
-/// Which of the three frames that hold announcements it is.
-#[derive(Clone, Copy, PartialEq)]
-enum Kind {
-    Beacon,
-    Probe,
-    Action,
-}
-
-impl Kind {
-    fn word(self) -> &'static str {
-        match self {
-            Kind::Beacon => "beacon",
-            Kind::Probe => "probe",
-            Kind::Action => "action",
-        }
-    }
-
-    fn subtype(self) -> u8 {
-        match self {
-            Kind::Beacon => 8,
-            Kind::Probe => 5,
-            Kind::Action => 13,
-        }
-    }
-}
-
-/// What follows the header: the parts that the scenes part by commas.
-struct Body {
-    kind: Kind,
-    parts: Vec<Vec<u8>>,
-}
-
-fn spelt(parts: &[Vec<u8>]) -> String {
-    let mut words = String::new();
-    for part in parts {
-        words.push(',');
-        for octet in part {
-            write!(words, " {octet}").expect("a string takes all");
-        }
-    }
-    words
-}
-
-fn header(kind: Kind, da: Address, sa: Address, bssid: Address) -> Vec<u8> {
-    let mut octets = vec![kind.subtype() << 4, 0, 0, 0];
-    octets.extend([da, sa, bssid].concat());
-    octets.extend([0, 0]);
-    octets
-}
-
-impl Body {
-    /// As the verbs of its kind send it, by a member, to the station.
-    fn sent(&self, sender: u8) -> Sent {
-        let mut octets = header(self.kind, OWN, member(sender), BSSID);
-        if self.kind != Kind::Action {
-            octets.extend([7, 0, 0, 0, 0, 0, 0, 0]);
-        }
-        octets.extend(self.parts.concat());
-        let words = format!("{} {sender}{}", self.kind.word(), spelt(&self.parts));
-        Sent { words, octets }
-    }
-
-    /// As a whole frame with this header.
-    fn whole(&self, header: &[u8]) -> Sent {
-        let mut parts = vec![header.to_vec()];
-        if self.kind != Kind::Action {
-            parts.push(vec![7, 0, 0, 0, 0, 0, 0, 0]);
-        }
-        parts.extend(self.parts.iter().cloned());
-        let mut octets = parts.concat();
-        octets.truncate(NUMBERS - 1);
-        cut(&mut parts, octets.len());
-        let words = format!("frame {}{}", octets.len(), spelt(&parts));
-        Sent { words, octets }
-    }
-}
-
-/// Leaves so many octets of these parts.
-fn cut(parts: &mut Vec<Vec<u8>>, length: usize) {
-    let mut left = length;
-    for part in parts.iter_mut() {
-        part.truncate(left);
-        left -= part.len();
-    }
-    parts.retain(|part| !part.is_empty());
-}
-
-fn element(id: u8, contents: &[u8]) -> Vec<u8> {
-    let mut element = vec![id, contents.len() as u8];
-    element.extend(contents);
-    element
-}
-
-/// Element 41, now and then with a fault of its own.
-fn dfs(rng: &mut Rng, owner: Address) -> Vec<u8> {
-    let recovery = rng.pick(&[1, 1, 2, 2, 3, 3, 4, 6, 10, 30, 254, 255]);
-    let mut contents = owner.to_vec();
-    contents.push(recovery);
-    for _ in 0..rng.below(4) {
-        contents.extend([rng.octet(), rng.octet()]);
-    }
-    match rng.below(40) {
-        0 => contents.truncate(6),
-        1 => contents.push(36),
-        2 => contents[6] = 0,
-        3 => contents[0] |= 1,
-        4 => contents.clear(),
-        _ => {}
-    }
-    element(41, &contents)
-}
-
-fn quiet(rng: &mut Rng, interval: u16) -> Vec<u8> {
-    let b = u64::from(interval);
-    let count = rng.pick(&[1, 1, 1, 2, 3, 255]);
-    let period = rng.pick(&[0, 0, 0, 1, 2, 9]);
-    let duration = match rng.below(8) {
-        0 => 0,
-        1 => 1,
-        2 => b.min(65_535),
-        3 => (3 * b).min(65_535),
-        4 => rng.below(65_536),
-        _ => rng.below(b / 3 + 2),
-    } as u16;
-    let offset = match rng.below(20) {
-        0 => b,
-        1 => b - 1,
-        2..=5 => 0,
-        _ => rng.below(b),
-    } as u16;
-    let mut contents = vec![count, period];
-    contents.extend(duration.to_le_bytes());
-    contents.extend(offset.to_le_bytes());
-    match rng.below(40) {
-        0 => contents[0] = 0,
-        1 => contents.truncate(5),
-        _ => {}
-    }
-    element(40, &contents)
-}
-
-fn announcement(rng: &mut Rng) -> Vec<u8> {
-    let mode = rng.pick(&[0, 0, 0, 1, 1]);
-    let channel = rng.pick(&[0, 36, 40, 44, 48, 149, 200]);
-    let count = rng.pick(&[0, 1, 1, 2, 2, 3, 5, 255]);
-    match rng.below(60) {
-        0 => element(37, &[2, channel, count]),
-        1 => element(37, &[mode, 201, count]),
-        2 => element(37, &[mode, channel]),
-        _ => element(37, &[mode, channel, count]),
-    }
-}
-
-// ----------------------------------------------------------------- the scenes
-
-struct Scene<'a> {
+/// A scene as it goes on.
+pub struct Scene<'a> {
     rng: Rng,
     interval: u16,
     station: IbssStation,
     /// Moments at which something may begin or end.
     edges: Vec<u64>,
+    /// When each address last sent a beacon that was accepted.
+    beacons: HashMap<Address, u64>,
     /// How often, of ten times, the clock stays within one beacon interval.
     near: u64,
     text: String,
@@ -339,7 +40,8 @@ struct Scene<'a> {
 }
 
 impl<'a> Scene<'a> {
-    fn play(seed: u64, counts: &'a mut Counts) -> String {
+    /// The text of the scene of this seed.
+    pub fn play(seed: u64, is_late: bool, counts: &'a mut Counts) -> String {
         let mut rng = Rng::new(seed * 0x9E37_79B9_7F4A_7C15);
         let interval = if rng.one_in(4) {
             rng.between(1, 65_535) as u16
@@ -350,6 +52,7 @@ impl<'a> Scene<'a> {
             interval,
             station: IbssStation::start(OWN, BSSID, READ_INTERVAL, 36).expect("it may start"),
             edges: Vec::new(),
+            beacons: HashMap::new(),
             near: rng.pick(&[5, 8, 9, 9]),
             text: format!("scene of seed {seed}\n"),
             rng,
@@ -357,7 +60,7 @@ impl<'a> Scene<'a> {
         };
         scene.counts.lines += 1;
         scene.start();
-        if seed % (SCENES / LATE) == 0 {
+        if is_late {
             scene.go_late();
         }
         for _ in 0..STEPS {
@@ -549,15 +252,15 @@ impl<'a> Scene<'a> {
             1 | 2 => 1,
             3 => u64::from(self.interval),
             4 => self.rng.below(LONGEST_ADVANCE + 1),
-            5 => self.rng.pick(&[LONGEST_ADVANCE, LONGEST_ADVANCE + 1, 4_294_967_295]),
+            5 => self
+                .rng
+                .pick(&[LONGEST_ADVANCE, LONGEST_ADVANCE + 1, 4_294_967_295]),
             _ => self.towards(now).unwrap_or(2),
         } as u32;
         let answer = self.station.ask(units);
         self.counts.asks[usize::from(answer)] += 1;
         self.say(&format!("ask {units}"), &answer.to_string());
     }
-
-    // ------------------------------------------------------ frames at random
 
     /// The last octet of the owner's address, where it is one of the members.
     fn known_member(&self) -> Option<u8> {
@@ -578,7 +281,9 @@ impl<'a> Scene<'a> {
         match (self.rng.below(10), self.station.owner()) {
             (0..=3, _) => member(sender),
             (4..=7, Some(owner)) => owner.address,
-            (8, _) => self.rng.pick(&[[0; 6], [4, 1, 2, 3, 4, 5], [2, 1, 0, 0, 0, 3], BSSID]),
+            (8, _) => self
+                .rng
+                .pick(&[[0; 6], [4, 1, 2, 3, 4, 5], [2, 1, 0, 0, 0, 3], BSSID]),
             _ => member(self.rng.pick(&SENDERS)),
         }
     }
@@ -657,7 +362,11 @@ impl<'a> Scene<'a> {
             2 => vec![vec![0, 1, 0], report.clone(), report],
             3 => vec![vec![0, 2, 7], element(34, &[])],
             4 => vec![vec![0, 2, 0], element(34, &[])],
-            5 => vec![vec![0, 3, 7], element(35, &[self.rng.octet(), self.rng.octet()]), vendor],
+            5 => vec![
+                vec![0, 3, 7],
+                element(35, &[self.rng.octet(), self.rng.octet()]),
+                vendor,
+            ],
             6 => vec![vec![1, 4]],
             7 => vec![vec![0, 5, 7]],
             8 => vec![vec![0]],
@@ -768,8 +477,6 @@ impl<'a> Scene<'a> {
         sent.octets.resize(length, 0);
     }
 
-    // ------------------------------------------------------- what comes of it
-
     fn take(&mut self, sent: &Sent) {
         let before = self.station.owner();
         let answer = self.station.take(&sent.octets);
@@ -800,20 +507,45 @@ impl<'a> Scene<'a> {
                 self.counts.event(Event::NamedAndAnnounced);
             }
         }
-        if let (Frame::Beacon(_), Some(owner)) = (&received.frame, self.station.owner()) {
-            if owner.address == received.sender {
-                self.counts.event(Event::Heard);
-            }
-            if received.dfs.is_some() {
-                self.counts.event(match before {
-                    None => Event::Named,
-                    Some(before) if before.address == owner.address => Event::NamedAgain,
-                    Some(_) => Event::Replaced,
-                });
-            }
+        if let Frame::Beacon(_) = received.frame {
+            self.beacon_accepted(received, before);
         }
         if let Frame::Beacon(notice) | Frame::ProbeResponse(notice) = &received.frame {
             self.note_edges(notice);
+        }
+    }
+
+    /// What an accepted beacon has to do with the owner.
+    fn beacon_accepted(&mut self, received: &IbssReceived, before: Option<Owner>) {
+        let now = self.now();
+        let latest_tbtt = now - now % u64::from(self.interval);
+        if let Some(owner) = self.station.owner() {
+            if owner.address == received.sender {
+                self.counts.event(Event::Heard);
+                if now == latest_tbtt {
+                    self.counts.event(Event::HeardAtTbtt);
+                }
+            }
+            if received.dfs.is_some() {
+                self.named_owner(owner, before, latest_tbtt);
+            }
+        }
+        self.beacons.insert(received.sender, now);
+    }
+
+    fn named_owner(&mut self, owner: Owner, before: Option<Owner>, latest_tbtt: u64) {
+        let is_same = before.map_or(false, |before| before.address == owner.address);
+        self.counts.event(match before {
+            None => Event::Named,
+            Some(_) if is_same => Event::NamedAgain,
+            Some(_) => Event::Replaced,
+        });
+        if is_same && self.station.misses() >= owner.recovery {
+            self.counts.event(Event::Shortened);
+        }
+        let sent = self.beacons.get(&owner.address);
+        if !self.station.heard_owner() && sent.map_or(false, |&moment| moment >= latest_tbtt) {
+            self.counts.event(Event::NamedUnheard);
         }
     }
 
@@ -839,8 +571,6 @@ impl<'a> Scene<'a> {
             self.counts.event(Event::ForeignNaming);
         }
     }
-
-    // ------------------------------------------------------- frames read alone
 
     fn read(&mut self) {
         let announces = self.rng.one_in(3);
@@ -881,89 +611,18 @@ impl<'a> Scene<'a> {
             Err(number) => number.to_string(),
         };
         self.counts.pairs[usize::from(pair.err().unwrap_or(0))] += 1;
-        let words = sent.words.strip_prefix("beacon").expect("so a beacon begins");
+        let words = sent
+            .words
+            .strip_prefix("beacon")
+            .expect("so a beacon begins");
         self.say(&format!("pair {index},{words}"), &answer);
     }
 }
 
-fn switch_of(frame: &Frame) -> Option<twin::Switch> {
+fn switch_of(frame: &Frame) -> Option<Switch> {
     match frame {
         Frame::Beacon(notice) | Frame::ProbeResponse(notice) => notice.switch,
         Frame::ChannelSwitch(switch) => Some(*switch),
         _ => None,
     }
-}
-
-// ------------------------------------------------------------- in the words of
-// ------------------------------------------------------------------ the scenes
-
-fn octets(octets: &[u8]) -> String {
-    let words: Vec<String> = octets.iter().map(u8::to_string).collect();
-    words.join(" ")
-}
-
-fn told(answer: Result<(), Refusal>) -> String {
-    match answer {
-        Ok(()) => "0".to_string(),
-        Err(Refusal {
-            number,
-            offset: None,
-        }) => number.to_string(),
-        Err(Refusal {
-            number,
-            offset: Some(offset),
-        }) => format!("{number} {offset}"),
-    }
-}
-
-fn received_told(received: &IbssReceived) -> String {
-    let to_all = if received.broadcast { " to all" } else { "" };
-    let mut words = format!("0{to_all} from {}", octets(&received.sender));
-    words += &match &received.frame {
-        Frame::Beacon(notice) => format!(" beacon{}", notice_told(notice)),
-        Frame::ProbeResponse(notice) => format!(" probe response{}", notice_told(notice)),
-        Frame::MeasurementRequest { token, requests } => {
-            format!(" measurement request {token} {}", requests.len())
-        }
-        Frame::MeasurementReport { token, reports } => {
-            format!(" measurement report {token} {}", reports.len())
-        }
-        Frame::TpcRequest { token } => format!(" tpc request {token}"),
-        Frame::TpcReport {
-            token,
-            power,
-            margin,
-        } => format!(" tpc report {token} report {} {}", *power as u8, *margin as u8),
-        Frame::ChannelSwitch(switch) => switch_told(switch),
-    };
-    if let Some(dfs) = &received.dfs {
-        words += &format!(" dfs {} {} {}", octets(&dfs.owner), dfs.recovery, dfs.pairs.len());
-    }
-    if let Frame::Beacon(notice) | Frame::ProbeResponse(notice) = &received.frame {
-        for quiet in &notice.quiets {
-            words += &format!(
-                " quiet {} {} {} {}",
-                quiet.count, quiet.period, quiet.duration, quiet.offset
-            );
-        }
-    }
-    words
-}
-
-fn notice_told(notice: &Notice) -> String {
-    let mut words = format!(" {} {}", notice.timestamp, notice.capability);
-    if let Some(decibels) = notice.constraint {
-        words += &format!(" constraint {decibels}");
-    }
-    if let Some((power, margin)) = notice.tpc_report {
-        words += &format!(" report {} {}", power as u8, margin as u8);
-    }
-    if let Some(switch) = &notice.switch {
-        words += &switch_told(switch);
-    }
-    words
-}
-
-fn switch_told(switch: &twin::Switch) -> String {
-    format!(" switch {} {} {}", switch.mode, switch.channel, switch.count)
 }
