@@ -78,10 +78,11 @@ impl Counts {
 
     /// Tells the counts; whether all that can occur did, and nothing else.
     pub fn conclude(&self) -> bool {
+        // Of a pair no header is wrong, and no action body; frames that are read
+        // alone, no station judges.
         let refusals = [0, 1, 2, 3, 4, 5, 6, 7, 8, 9, 10, 11, 12, 21, 22];
         let frames = [&refusals[..], &[23]].concat();
-        let pairs = [0, 6, 8, 9, 10, 11, 12, 16];
-        let mut well = true;
+        let pairs = [0, 1, 6, 8, 9, 10, 11, 12, 16];
         let tables = [
             ("start", &self.starts, &[0, 15][..]),
             ("frame", &self.frames, &frames),
@@ -92,6 +93,7 @@ impl Counts {
         ];
         let calls: u64 = tables.iter().map(|table| table.1.iter().sum::<u64>()).sum();
         eprintln!("ibss scenes: {} lines, {calls} calls", self.lines);
+        let mut well = true;
         for (name, given, can) in tables {
             eprint!("{name:>9}");
             for (number, &times) in given.iter().enumerate() {
@@ -106,11 +108,9 @@ impl Counts {
             eprintln!();
         }
         for (name, &times) in EVENTS.iter().zip(&self.events) {
-            eprintln!("{times:>9} times {name}");
-            if times == 0 {
-                eprintln!("FAILED: never {name}");
-                well = false;
-            }
+            let failed = if times == 0 { "FAILED: " } else { "" };
+            eprintln!("{times:>9} times {failed}{name}");
+            well &= times != 0;
         }
         well
     }

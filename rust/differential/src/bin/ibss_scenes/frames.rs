@@ -15,10 +15,29 @@ pub const fn member(last: u8) -> Address {
     [2, 0, 0, 0, 0, last]
 }
 
-/// A frame in the scenes' words, and its octets.
+/// A frame, and what of it the scenes spell: all of a whole one, and of one by
+/// its kind and the sender's last octet what follows the header and the
+/// timestamp.
 pub struct Sent {
-    pub words: String,
+    by: Option<(Kind, u8)>,
+    parts: Vec<Vec<u8>>,
     pub octets: Vec<u8>,
+}
+
+impl Sent {
+    /// In the words of the scenes.
+    pub fn words(&self) -> String {
+        let parts = spelt(&self.parts);
+        match self.by {
+            Some((kind, sender)) => format!("{} {sender}{parts}", kind.word()),
+            None => format!("frame {}{parts}", self.octets.len()),
+        }
+    }
+
+    /// Lets zeros follow, which the scenes do not spell.
+    pub fn lengthen(&mut self, length: usize) {
+        self.octets.resize(length, 0);
+    }
 }
 
 /// Which of the three frames that hold announcements it is.
@@ -53,7 +72,8 @@ pub struct Body {
     pub parts: Vec<Vec<u8>>,
 }
 
-fn spelt(parts: &[Vec<u8>]) -> String {
+/// The parts, with a comma before each.
+pub fn spelt(parts: &[Vec<u8>]) -> String {
     let mut words = String::new();
     for part in parts {
         words.push(',');
@@ -79,26 +99,30 @@ impl Body {
             octets.extend([7, 0, 0, 0, 0, 0, 0, 0]);
         }
         octets.extend(self.parts.concat());
-        let words = format!("{} {sender}{}", self.kind.word(), spelt(&self.parts));
-        Sent { words, octets }
+        Sent {
+            by: Some((self.kind, sender)),
+            parts: self.parts.clone(),
+            octets,
+        }
     }
 
-    /// As a whole frame with this header.
+    /// As a whole frame with this header, cut where a call has no more room.
     pub fn whole(&self, header: &[u8]) -> Sent {
         let mut parts = vec![header.to_vec()];
         if self.kind != Kind::Action {
             parts.push(vec![7, 0, 0, 0, 0, 0, 0, 0]);
         }
         parts.extend(self.parts.iter().cloned());
-        let mut octets = parts.concat();
-        octets.truncate(NUMBERS - 1);
-        cut(&mut parts, octets.len());
-        let words = format!("frame {}{}", octets.len(), spelt(&parts));
-        Sent { words, octets }
+        cut(&mut parts, NUMBERS - 1);
+        Sent {
+            by: None,
+            octets: parts.concat(),
+            parts,
+        }
     }
 }
 
-/// Leaves so many octets of these parts.
+/// Leaves so many octets of these parts, at most.
 pub fn cut(parts: &mut Vec<Vec<u8>>, length: usize) {
     let mut left = length;
     for part in parts.iter_mut() {

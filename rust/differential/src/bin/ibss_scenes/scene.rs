@@ -2,7 +2,8 @@
 
 use crate::counts::{Counts, Event};
 use crate::frames::{
-    announcement, cut, dfs, element, header, member, quiet, Body, Kind, Sent, BSSID, NUMBERS, OWN,
+    announcement, cut, dfs, element, header, member, quiet, spelt, Body, Kind, Sent, BSSID,
+    NUMBERS, OWN,
 };
 use crate::rng::Rng;
 use crate::words::{octets, received_told, told};
@@ -180,53 +181,66 @@ impl<'a> Scene<'a> {
     }
 
     fn advance(&mut self) {
-        let b = u64::from(self.interval);
-        let now = self.now();
-        let to_tbtt = b - now % b;
+        let before = self.station.clone();
         let units = if self.rng.below(10) < self.near {
-            match self.rng.below(8) {
-                0 => 0,
-                1 => 1,
-                2 => to_tbtt - 1,
-                3 | 4 => to_tbtt,
-                5 => to_tbtt + 1,
-                6 => self.towards(now).unwrap_or(1),
-                _ => self.rng.below(b),
-            }
+            self.few_units()
         } else {
-            match self.rng.below(16) {
-                0 | 1 => b - 1,
-                2 | 3 => b,
-                4 | 5 => b + 1,
-                6..=8 => self.rng.between(2, 6) * b,
-                9..=11 => self.towards(now).unwrap_or(b),
-                12 => self.rng.below(LONGEST_ADVANCE + 1),
-                13 => LONGEST_ADVANCE,
-                14 => LONGEST_ADVANCE + 1,
-                _ => self.rng.pick(&[100_000, 4_294_967_295]),
-            }
+            self.many_units()
         } as u32;
-        let owned = self.station.owner().is_some();
-        let misses = self.station.misses();
-        let pending = self.station.pending_switch();
         let answer = self.station.advance(units);
         self.counts.advances[usize::from(answer)] += 1;
         self.say(&format!("advance {units}"), &answer.to_string());
-        if answer != 0 {
-            return;
+        if answer == 0 {
+            self.advanced(&before, units);
         }
-        if owned && self.station.owner().is_none() {
+    }
+
+    /// To about the next TBTT at most.
+    fn few_units(&mut self) -> u64 {
+        let b = u64::from(self.interval);
+        let to_tbtt = b - self.now() % b;
+        match self.rng.below(8) {
+            0 => 0,
+            1 => 1,
+            2 => to_tbtt - 1,
+            3 | 4 => to_tbtt,
+            5 => to_tbtt + 1,
+            6 => self.towards_edge().unwrap_or(1),
+            _ => self.rng.below(b),
+        }
+    }
+
+    fn many_units(&mut self) -> u64 {
+        let b = u64::from(self.interval);
+        match self.rng.below(16) {
+            0 | 1 => b - 1,
+            2 | 3 => b,
+            4 | 5 => b + 1,
+            6..=8 => self.rng.between(2, 6) * b,
+            9..=11 => self.towards_edge().unwrap_or(b),
+            12 => self.rng.below(LONGEST_ADVANCE + 1),
+            13 => LONGEST_ADVANCE,
+            14 => LONGEST_ADVANCE + 1,
+            _ => self.rng.pick(&[100_000, 4_294_967_295]),
+        }
+    }
+
+    /// What came of an accepted advance.
+    fn advanced(&mut self, before: &IbssStation, units: u32) {
+        let is_owned = self.station.owner().is_some();
+        let is_pending = self.station.pending_switch().is_some();
+        if before.owner().is_some() && !is_owned {
             self.counts.event(Event::GivenUp);
-            if self.station.pending_switch().is_some() {
+            if is_pending {
                 self.counts.event(Event::GivenUpPending);
             }
         }
-        if self.station.misses() > misses {
+        if self.station.misses() > before.misses() {
             self.counts.event(Event::Missed);
         }
-        if pending.is_some() && self.station.pending_switch().is_none() {
+        if before.pending_switch().is_some() && !is_pending {
             self.counts.event(Event::Switched);
-            if self.station.owner().is_some() {
+            if is_owned {
                 self.counts.event(Event::SwitchedOwned);
             }
         }
@@ -239,14 +253,13 @@ impl<'a> Scene<'a> {
     }
 
     /// The way to an edge, or one unit less or more.
-    fn towards(&mut self, now: u64) -> Option<u64> {
+    fn towards_edge(&mut self) -> Option<u64> {
         let edge = self.edge()?;
-        let way = (edge - now + self.rng.below(3)).saturating_sub(1);
+        let way = edge - self.now() + self.rng.below(3) - 1;
         Some(way.min(LONGEST_ADVANCE))
     }
 
     fn ask(&mut self) {
-        let now = self.now();
         let units = match self.rng.below(10) {
             0 => 0,
             1 | 2 => 1,
@@ -255,7 +268,7 @@ impl<'a> Scene<'a> {
             5 => self
                 .rng
                 .pick(&[LONGEST_ADVANCE, LONGEST_ADVANCE + 1, 4_294_967_295]),
-            _ => self.towards(now).unwrap_or(2),
+            _ => self.towards_edge().unwrap_or(2),
         } as u32;
         let answer = self.station.ask(units);
         self.counts.asks[usize::from(answer)] += 1;
@@ -305,11 +318,10 @@ impl<'a> Scene<'a> {
                 elements.push(announcement(&mut self.rng));
             }
         }
-        let quiets = self.rng.pick(&[0, 0, 0, 0, 1, 1, 1, 2, 3]);
         let quiets = if self.rng.one_in(40) {
-            self.rng.between(8, 9)
+            self.rng.pick(&[8, 9])
         } else {
-            quiets
+            self.rng.pick(&[0, 0, 0, 0, 1, 1, 1, 2, 3])
         };
         for _ in 0..quiets {
             elements.push(quiet(&mut self.rng, interval));
@@ -346,7 +358,8 @@ impl<'a> Scene<'a> {
             1 => length - 1,
             _ => length,
         };
-        cut(&mut parts, kept.min(NUMBERS - 3));
+        // In front of them stand a sender and maybe an index.
+        cut(&mut parts, kept.min(NUMBERS - 2));
         Body { kind, parts }
     }
 
@@ -446,35 +459,32 @@ impl<'a> Scene<'a> {
             4 => header[22] = 1,
             5 => header[22] = 0xF0,
             6 => header[1] = 0x98,
-            7 => header.truncate(self.rng.place(HEADER)),
             _ => {}
         }
-        if header.len() < HEADER {
-            let body = Body {
+        if self.rng.one_in(24) {
+            header.truncate(self.rng.place(HEADER));
+            return Body {
                 kind: Kind::Action,
                 parts: Vec::new(),
-            };
-            return body.whole(&header);
+            }
+            .whole(&header);
         }
         let mut sent = body.whole(&header);
         if self.rng.one_in(12) {
-            self.lengthen(&mut sent);
+            let length = self.lengthened(sent.octets.len());
+            sent.lengthen(length);
         }
         sent
     }
 
-    /// Zeros after the octets, up to the longest frame and past it.
-    fn lengthen(&mut self, sent: &mut Sent) {
-        let length = match self.rng.below(4) {
-            0 => sent.octets.len() + self.rng.place(300),
+    /// With zeros after its octets, up to the longest frame and past it.
+    fn lengthened(&mut self, length: usize) -> usize {
+        match self.rng.below(4) {
+            0 => length + self.rng.place(300),
             1 => 2336,
             2 => 2337,
             _ => self.rng.between(2330, LONGEST as u64) as usize,
-        };
-        let given = format!("frame {}", sent.octets.len());
-        let rest = sent.words.strip_prefix(&given).expect("so a frame begins");
-        sent.words = format!("frame {length}{rest}");
-        sent.octets.resize(length, 0);
+        }
     }
 
     fn take(&mut self, sent: &Sent) {
@@ -482,7 +492,7 @@ impl<'a> Scene<'a> {
         let answer = self.station.take(&sent.octets);
         let number = answer.err().map_or(0, |refusal| refusal.number);
         self.counts.frames[usize::from(number)] += 1;
-        self.say(&sent.words, &told(answer));
+        self.say(&sent.words(), &told(answer));
         let heard = read_ibss_frame(&sent.octets, OWN, BSSID, self.interval);
         if let Ok(received) = heard {
             match answer {
@@ -588,34 +598,25 @@ impl<'a> Scene<'a> {
             Ok(received) => received_told(&received),
             Err(refusal) => told(Err(refusal)),
         };
-        self.say(&format!("read-{}", sent.words), &answer);
+        self.say(&format!("read-{}", sent.words()), &answer);
     }
 
     fn pair(&mut self) {
         let sender = self.rng.pick(&SENDERS);
-        let mut body = self.notice(Kind::Beacon, sender, false, READ_INTERVAL);
-        let length: usize = body.parts.iter().map(Vec::len).sum();
-        cut(&mut body.parts, length.clamp(4, NUMBERS - 4));
-        let sent = body.sent(sender);
-        if length < 4 {
-            return;
-        }
+        let body = self.notice(Kind::Beacon, sender, false, READ_INTERVAL);
         let index = self.rng.pick(&[0, 0, 1, 1, 2, 3, 4, u64::MAX / 4]);
-        let read = read_ibss_frame(&sent.octets, OWN, BSSID, READ_INTERVAL);
+        let read = read_ibss_frame(&body.sent(sender).octets, OWN, BSSID, READ_INTERVAL);
         let pair = match read {
             Ok(received) => received.pair(index as usize),
             Err(refusal) => Err(refusal.number),
         };
+        self.counts.pairs[usize::from(pair.err().unwrap_or(0))] += 1;
         let answer = match pair {
             Ok(pair) => format!("0 {} {}", pair.channel, pair.map),
             Err(number) => number.to_string(),
         };
-        self.counts.pairs[usize::from(pair.err().unwrap_or(0))] += 1;
-        let words = sent
-            .words
-            .strip_prefix("beacon")
-            .expect("so a beacon begins");
-        self.say(&format!("pair {index},{words}"), &answer);
+        let words = format!("pair {index}, {sender}{}", spelt(&body.parts));
+        self.say(&words, &answer);
     }
 }
 
