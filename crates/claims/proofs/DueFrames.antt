@@ -31,7 +31,7 @@ use Rattle.measurement_element.specs.MeasurementRequest.{requestMeans, requestF
 use Rattle.measurement_element.specs.declared.measurement_request.Request.{Request}
 use Rattle.octets.specs.Numbers.{Octets}
 use Rattle.walk.proofs.RunLaws.{octets-front, octets-after}
-use Rattle.reply.specs.Due.{Owed, asks, breaks, isReturned, hasCategory, orReturn, afterHeader, dueMeans}
+use Rattle.reply.specs.Due.{Owed, asks, breaks, isReturned, hasCategory, orReturn, afterHeader, dueMeans, dueIn}
 
 first-holds : (a b : Bool) → (a || b) ≡ true → b ≡ false → a ≡ true
 first-holds true b e k = refl
@@ -72,7 +72,7 @@ module _ (own ap' f : List ℕ) (x : Owed) where
   by-checks (accepted Subtype.Action) (accepted false) a e = addressed a e
 
   pub owed-by-station : dueMeans own ap' f ≡ accepted x → OwedByStation own ap' f x
-  unfolding dueMeans headerMeans
+  unfolding dueIn headerMeans
   owed-by-station e = by-checks (managementMeans f) (addressMeans Cell.Ap own ap' f) refl e
 
 -- what is asked is what the body means

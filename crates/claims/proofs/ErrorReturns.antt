@@ -26,8 +26,8 @@ use Rattle.reply.proofs.Framed.{head-length}
 use Rattle.reply.proofs.Owing.{action-returned, Returned, returned}
 use Rattle.reply.proofs.Returning.{some, small, same-size}
 use Rattle.reply.specs.Due.{Owed, breaks, isReturned, hasCategory, orReturn, dueMeans}
-use Rattle.reply.specs.Frames.{replyHead, replyFrame, errorReturn}
-use Rattle.reply.specs.Replies.{tpcReply, measurementReply}
+use Rattle.reply.specs.Frames.{headTo, replyFrame, errorReturn}
+use Rattle.reply.specs.Replies.{tpcReply, measurementReply, tpcReplyIn, measurementReplyIn}
 use Rattle.claims.proofs.DueFrames.{owed-by-station}
 use Rattle.claims.proofs.ReplyParts.{ReturnParts}
 use Rattle.claims.specs.ErrorReturns.{category, ReturnsBody}
@@ -45,7 +45,7 @@ octet-past (suc n) i (x ∷ xs) = ap (λ (k : ℕ). octet k (x ∷ xs)) (let e :
 
 -- ---- a frame that is owed its body back
 
-refused-so : (own ap' f body : List ℕ) (b : ℕ) (p : Returned own ap' f body) → frameMeans own ap' b f ≡ refused (faultPast headerLength (p .fault))
+refused-so : (own ap' f body : List ℕ) (b : ℕ) (p : Returned Cell.Ap own ap' f body) → frameMeans own ap' b f ≡ refused (faultPast headerLength (p .fault))
 unfolding frameMeans
 refused-so own ap' f body b p = rw (p .head, p .breaks-it) refl
 
@@ -66,7 +66,7 @@ first f = sym (octet-past headerLength 0 f)
 pub returns-body : (own ap' f os : List ℕ) → ReturnParts own ap' f os → ReturnsBody own ap' f os
 returns-body own ap' f os p =
     let body = p .body in
-    let k = returned own ap' f (p .due) in
+    let k = returned Cell.Ap own ap' f (p .due) in
     let a = owed-by-station own ap' f (breaks body) (p .due) in
     let octets : os ≡ replyFrame (da f) (sa f) (errorReturn body) = p .octets ∙ subst₂ (λ (o m : List ℕ). replyFrame o m (errorReturn body) ≡ replyFrame (da f) (sa f) (errorReturn body)) (a .toStation) (a .fromAp) refl in
     let has = some (bodyOf f) (k .free) in
@@ -76,8 +76,8 @@ returns-body own ap' f os p =
     omega (
       arith,
       ap length octets,
-      length-append (replyHead (da f) (sa f)) (errorReturn body),
-      head-length (da f) (sa f) refl refl,
+      length-append (headTo (da f) (sa f) (sa f)) (errorReturn body),
+      head-length (da f) (sa f) (sa f) refl refl refl,
       same-size body (omega (arith, has, size)),
       size,
       length-drop headerLength f,
@@ -130,11 +130,11 @@ module _ (own ap' g : List ℕ) (top : 128 ≤ category g) where
       by (accepted b) a k = let q = parts (bodyOf g) b a in leads b (q .run) (q .front)
 
   pub never-tpc : (report : TpcReport) (os : List ℕ) → tpcReply own ap' report g ≡ accepted os → ⊥
-  unfolding tpcReply
+  unfolding tpcReplyIn
   never-tpc report os e = let p = followed (dueMeans own ap' g) _ os e in nothing-owed (p .0) (p .1)
 
   pub never-measurement : (clock index : ℕ) (readings : Readings) (os : List ℕ) → measurementReply own ap' clock index readings g ≡ accepted os → ⊥
-  unfolding measurementReply
+  unfolding measurementReplyIn
   never-measurement clock index readings os e = let p = followed (dueMeans own ap' g) _ os e in nothing-owed (p .0) (p .1)
 
 -- so an error return is not answered with another, nor with anything else

@@ -22,6 +22,7 @@ pub mod FilteredIbss
 pub mod Following
 pub mod HistoriesTell
 pub mod IbssReadings
+pub mod IbssReplies
 pub mod KeptThroughout
 pub mod LatestEnds
 pub mod ListedFiles

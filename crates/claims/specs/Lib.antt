@@ -9,6 +9,7 @@ pub mod FilteredIbss
 pub mod Filters
 pub mod Histories
 pub mod HistoryLines
+pub mod IbssReplies
 pub mod MemberRecords
 pub mod MemberRuns
 pub mod Moments

@@ -43,5 +43,9 @@ bySubtype Subtype.Action body = orReturn body (actionMeans body)
 abbrev pub afterHeader : List ℕ → Head → Outcome Owed
 afterHeader f h = pick (h .toAll) (refused Refusal.NoReplyDue) (bySubtype (h .subtype) (bodyOf f))
 
-unfoldable pub dueMeans : List ℕ → List ℕ → List ℕ → Outcome Owed
-dueMeans own ap f = andThen (headerMeans Cell.Ap own ap f) (afterHeader f)
+-- in a cell of either kind, by its BSSID (02, Five)
+unfoldable pub dueIn : Cell → List ℕ → List ℕ → List ℕ → Outcome Owed
+dueIn cell own bss f = andThen (headerMeans cell own bss f) (afterHeader f)
+
+abbrev pub dueMeans : List ℕ → List ℕ → List ℕ → Outcome Owed
+dueMeans own ap f = dueIn Cell.Ap own ap f
