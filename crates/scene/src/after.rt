@@ -1,6 +1,6 @@
 // The octets of a call that stand after its first numbers.
 ghost use Prim.Native.Nat.{_≤_};
-use scene::line;
+use crate::line;
 
 // Where they end, with so many numbers in all and none of the first `from` among them.
 pub fn end(count: usize, from: usize) -> usize
