@@ -1,4 +1,5 @@
 pub mod Agreement
+pub mod AnnouncedByOwner
 pub mod AnsweredRequests
 pub mod Asked
 pub mod BeaconItems
