@@ -21,9 +21,9 @@ use Rattle.header.proofs.Addresses.{same-is}
 use Rattle.header.specs.Headers.{same}
 use Rattle.claims.specs.Histories.{frame, History, clockAfter}
 use Rattle.claims.specs.Naming.{LastNamed}
-use Rattle.claims.specs.Reigns.{Reigning, nobody, reigns, reignOf, owns, namingAt, heardAt, foreignTo, afterKind, afterFrame, readAs, reigning}
+use Rattle.claims.specs.Reigns.{ownerOf, Reigning, nobody, reigns, reignOf, owns, namingAt, heardAt, foreignTo, afterKind, afterFrame, readAs, reigning}
 use Rattle.claims.proofs.IbssReadings.{beacons-only}
-use Rattle.claims.proofs.OwnersNamed.{ownerOf, last-named}
+use Rattle.claims.proofs.OwnersNamed.{last-named}
 
 -- whoever owns is the owner, with some interval, and is so after a beacon from it
 owner-is : (v : Reigning) (a : List ℕ) → owns v a ≡ true → (n : ℕ) × ownerOf v (a, n)

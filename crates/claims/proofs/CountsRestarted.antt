@@ -22,16 +22,12 @@ use Rattle.header.specs.Headers.{same}
 use Rattle.owner.specs.Tbtts.{isTbtt}
 use Rattle.claims.specs.Histories.{frame, advance, ask, History, tooFar, clockAfter, Latest}
 use Rattle.claims.specs.Naming.{Restarts, FromOwner, NamesAnother, LastRestarted}
-use Rattle.claims.specs.Reigns.{reignOf, Reigning, nobody, reigns, missedBy, atUnit, overUnits, owns, namingAt, heardAt, foreignTo, afterKind, afterFrame, readAs, reigning}
+use Rattle.claims.specs.Reigns.{markOf, reignOf, Reigning, nobody, reigns, missedBy, atUnit, overUnits, owns, namingAt, heardAt, foreignTo, afterKind, afterFrame, readAs, reigning}
 use Rattle.claims.proofs.OwnersNamed.{is-read}
 
 -- an owner by who it is, when the count was last set to 0, and whether by a beacon of its own
 abbrev Mark : Type 0
 Mark = List ℕ × ℕ × Bool
-
-abbrev pub markOf : Reigning → Mark → Type 0
-markOf nobody p = ⊥
-markOf (reigns r) p = (r .owner ≡ p .0) × (r .since ≡ p .1) × (r .own ≡ p .2)
 
 one-dfs : (d d' : Dfs) → is d ≡ is d' → d .owner ≡ d' .owner
 one-dfs d d' e = cc
@@ -129,7 +125,7 @@ module _ (s : Settings) where
         from-elsewhere (is d) g (reigns r) u y o = by (same (d .owner) (r .owner)) refl o
           where
             by : (b : Bool) → same (d .owner) (r .owner) ≡ b
-                → markOf (reigns (pick b (reignOf (r .owner) (d .recovery) (r .since) (r .own)) (reignOf (d .owner) (d .recovery) t false))) p → Goal
+                → markOf (reigns (pick b (reignOf (r .owner) (d .recovery) (r .since) (r .by-owner)) (reignOf (d .owner) (d .recovery) t false))) p → Goal
             by true k m =
                 passes
                 (beacon-calm x e (ap₂ (λ (z : MaybeDfs) (q : Reigning). owns (namingAt t z q) (x .sender)) g u ∙ y)
@@ -141,7 +137,7 @@ module _ (s : Settings) where
                   sym (m .2),
                   (d, g, m .0),
                   ap (λ (z : Reigning). owns z (p .0)) u ∙ ap (λ (a : List ℕ). same a (r .owner)) (sym (m .0)) ∙ k,
-                  ap (same (x .sender)) (sym (m .0)) ∙ subst (λ (b : Bool). same (x .sender) (pick b (reignOf (r .owner) (d .recovery) (r .since) (r .own)) (reignOf (d .owner) (d .recovery) t false) .owner) ≡ false) k y,
+                  ap (same (x .sender)) (sym (m .0)) ∙ subst (λ (b : Bool). same (x .sender) (pick b (reignOf (r .owner) (d .recovery) (r .since) (r .by-owner)) (reignOf (d .owner) (d .recovery) t false) .owner) ≡ false) k y,
                 ))
                 (m .1)
 

@@ -46,6 +46,7 @@ pub mod OneRecord
 pub mod OneSaying
 pub mod Others
 pub mod OwedReports
+pub mod OwnersExactly
 pub mod OwnersNamed
 pub mod OwnersTold
 pub mod PassedOver

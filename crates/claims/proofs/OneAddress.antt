@@ -51,7 +51,7 @@ named-owns t d nobody = same-self (d .owner)
 named-owns t d (reigns r) = by (same (d .owner) (r .owner)) refl
   where
     by : (b : Bool) → same (d .owner) (r .owner) ≡ b
-        → same (d .owner) (pick b (reignOf (r .owner) (d .recovery) (r .since) (r .own)) (reignOf (d .owner) (d .recovery) t false) .owner) ≡ true
+        → same (d .owner) (pick b (reignOf (r .owner) (d .recovery) (r .since) (r .by-owner)) (reignOf (d .owner) (d .recovery) t false) .owner) ≡ true
     by true e = e
     by false e = same-self (d .owner)
 

@@ -2,9 +2,9 @@
 -- nothing.
 use mathlib.Core.Bool.{Bool, true, false, not, _&&_}
 use mathlib.Core.List.{List, [], _∷_}
-use mathlib.Core.Logic.{inl, inr}
+use mathlib.Core.Logic.{_⊎_, inl, inr}
 use mathlib.Core.Path.{_≡_, refl, sym, ap, ap₂, _∙_, subst}
-use Prim.Native.Nat.{ℕ, zero, suc, _+_}
+use Prim.Native.Nat.{ℕ, zero, suc, _+_, _≤_}
 use native.Mathlib.Omega.{arith}
 use lib.Dec.{leb}
 use Rattle.answer.proofs.Booleans.{clash}
@@ -18,6 +18,7 @@ use Rattle.beacon.specs.Notices.{hasSwitch}
 use Rattle.capture_record.specs.declared.entry.Settings.{Settings}
 use Rattle.element.specs.IbssDfs.{Dfs}
 use Rattle.element.specs.declared.channel_switch.ChannelSwitch.{ChannelSwitch}
+use Rattle.frame.proofs.IbssNames.{sent-names}
 use Rattle.frame.specs.Announcements.{announcementIn}
 use Rattle.frame.specs.Frames.{Kind, beacon, probeResponse, action}
 use Rattle.frame.specs.IbssFrames.{SentInIbss}
@@ -25,16 +26,11 @@ use Rattle.header.proofs.Addresses.{same-is}
 use Rattle.header.specs.Headers.{same}
 use Rattle.owner.specs.Tbtts.{isTbtt}
 use Rattle.claims.specs.Histories.{Call, frame, advance, ask, History, tooFar, clockAfter, Latest, Throughout, Announces}
-use Rattle.claims.specs.Naming.{Names, LastNamed, Nameless, NeverNamed}
-use Rattle.claims.specs.Reigns.{reignOf, Reigning, nobody, reigns, missedBy, atUnit, overUnits, owns, namingAt, heardAt, foreignTo, afterKind, afterFrame, readAs, reigning, ibssListener}
+use Rattle.claims.specs.Naming.{Names, LastNamed, NeverNamed}
+use Rattle.claims.specs.Reigns.{ownerOf, reignOf, Reigning, nobody, reigns, missedBy, atUnit, overUnits, owns, namingAt, heardAt, foreignTo, afterKind, afterFrame, readAs, reigning, ibssListener}
 
 pub is-read : (x y : SentInIbss) → _≡_ {A = Placed SentInIbss} (accepted x) (accepted y) → x ≡ y
 is-read x y e = cc
-
--- what is decided of an owner by who it is and by its interval alone
-abbrev pub ownerOf : Reigning → List ℕ × ℕ → Type 0
-ownerOf nobody p = ⊥
-ownerOf (reigns r) p = (r .owner ≡ p .0) × (r .recovery ≡ p .1)
 
 module _ (s : Settings) where
   -- ---- the clock names nobody
@@ -67,7 +63,7 @@ module _ (s : Settings) where
   naming-owner t d (reigns r) p o = by (same (d .owner) (r .owner)) refl o
     where
       by : (as-before : Bool) → same (d .owner) (r .owner) ≡ as-before
-          → ownerOf (reigns (pick as-before (reignOf (r .owner) (d .recovery) (r .since) (r .own)) (reignOf (d .owner) (d .recovery) t false))) p
+          → ownerOf (reigns (pick as-before (reignOf (r .owner) (d .recovery) (r .since) (r .by-owner)) (reignOf (d .owner) (d .recovery) t false))) p
           → (d .owner ≡ p .0) × (d .recovery ≡ p .1)
       by true e x = (same-is (d .owner) (r .owner) e ∙ x .0, x .1)
       by false e x = x
@@ -149,12 +145,7 @@ module _ (s : Settings) where
   never-named : (h : History) (a : List ℕ) (n : ℕ) → NeverNamed s h → LastNamed s h a n → ⊥
   unfolding Latest Throughout
   never-named [] a n none x = x
-  never-named (c ∷ h) a n none (inl z) = by c (none .0) z
-    where
-      by : (d : Call) → Nameless s d h → Names s d h a n → ⊥
-      by (frame f) q y = q (y .sent) (y .dfs) (y .accepts .0) (y .has-dfs)
-      by (advance m) q y = y .accepts
-      by (ask m) q y = y .accepts
+  never-named (c ∷ h) a n none (inl z) = none .0 a n z
   never-named (c ∷ h) a n none (inr (z, last)) = never-named h a n (none .1) last
 
   pub nobody-reigns : (h : History) → NeverNamed s h → reigning s h ≡ nobody
@@ -170,13 +161,17 @@ module _ (s : Settings) where
   unfolding Throughout
   none-obeyed (advance n) h w none (k, (x, a, e), y) = a
   none-obeyed (ask n) h w none (k, (x, a, e), y) = a
-  none-obeyed (frame f) h w none (k, (x, (read, ours), e), y) =
-      clash (sym (by (x .dfs) refl) ∙ ours)
+  none-obeyed (frame f) h w none (k, (x, (read, ours), e), y) = by (sent-names (s .own) (s .ap) (s .interval) f x read)
     where
       announces : hasSwitch (announcementIn (x .sent .kind)) ≡ true
       announces = ap hasSwitch (ap announcementIn e ∙ y)
 
-      by : (d : MaybeDfs) → x .dfs ≡ d → foreignTo (clockAfter h) (reigning s h) x ≡ true
-      by (is d) z = absurd (none .0 x d read z)
-      by absent z =
-          ap₂ (λ (t : Bool) (v : Reigning). t && not (owns v (x .sender))) announces (ap (λ (d : MaybeDfs). namingAt (clockAfter h) d (reigning s h)) z ∙ nobody-reigns h (none .1))
+      by : (x .dfs ≡ absent) ⊎ ((told : Told) × (d : Dfs) × (x .sent .kind ≡ beacon told) × (x .dfs ≡ is d) × (1 ≤ d .recovery)) → ⊥
+      by (inl z) =
+          clash
+          (sym
+          (ap₂ (λ (t : Bool) (v : Reigning). t && not (owns v (x .sender))) announces (ap (λ (d : MaybeDfs). namingAt (clockAfter h) d (reigning s h)) z ∙ nobody-reigns h (none .1)))
+          ∙ ours)
+      by (inr (told, d, in-beacon, has, some)) =
+          none .0 (d .owner) (d .recovery)
+          (record { sent = x; accepts = (read, ours); told = told; in-beacon = in-beacon; dfs = d; has-dfs = has; owner = refl; interval = refl })

@@ -62,7 +62,7 @@ module _ (b : ℕ) where
     plain-unit n =
         let same-count : passedBy b r (suc u) ≡ passedBy b r u = unit-counted ∙ ap (λ (t : Bool). passedBy b r u + pick t 1 0) n ∙ (let e : passedBy b r u + 0 ≡ passedBy b r u = omega arith in e) in
         ap (λ (t : Bool). ownerTold b (suc u) (pick (t && leb (r .recovery) (missedBy b r (suc u))) nobody (reigns r))) n
-        ∙ ap (λ (k : ℕ). ownerAs r (k - pick (r .own) 1 0) (r .own && eqb k 0)) same-count
+        ∙ ap (λ (k : ℕ). ownerAs r (k - pick (r .by-owner) 1 0) (r .by-owner && eqb k 0)) same-count
 
     -- a TBTT
     tbtt-unit : 1 ≤ r .recovery → isTbtt b (suc u) ≡ true → ownerTold b (suc u) (atUnit b (suc u) (reigns r)) ≡ atTbtt (ownerTold b u (reigns r))
@@ -70,8 +70,8 @@ module _ (b : ℕ) where
         let one-passed : passedBy b r (suc u) ≡ passedBy b r u + 1 = unit-counted ∙ ap (λ (t : Bool). passedBy b r u + pick t 1 0) y in
         ap (λ (t : Bool). ownerTold b (suc u) (pick (t && leb (r .recovery) (missedBy b r (suc u))) nobody (reigns r))) y
         ∙ told-if (leb (r .recovery) (missedBy b r (suc u)))
-        ∙ ap (λ (k : ℕ). pick (leb (r .recovery) (k - pick (r .own) 1 0)) unknown (ownerAs r (k - pick (r .own) 1 0) (r .own && eqb k 0))) one-passed
-        ∙ by-beacon (r .own) (passedBy b r u)
+        ∙ ap (λ (k : ℕ). pick (leb (r .recovery) (k - pick (r .by-owner) 1 0)) unknown (ownerAs r (k - pick (r .by-owner) 1 0) (r .by-owner && eqb k 0))) one-passed
+        ∙ by-beacon (r .by-owner) (passedBy b r u)
       where
         told-if : (ends : Bool) → ownerTold b (suc u) (pick ends nobody (reigns r)) ≡ pick ends unknown (ownerTold b (suc u) (reigns r))
         told-if true = refl
@@ -166,9 +166,9 @@ module _ (b : ℕ) where
     naming-told (reigns r) (is d) = by (same (d .owner) (r .owner))
       where
         by : (as-before : Bool)
-            → ownerTold b t (reigns (pick as-before (reignOf (r .owner) (d .recovery) (r .since) (r .own)) (reignOf (d .owner) (d .recovery) t false)))
+            → ownerTold b t (reigns (pick as-before (reignOf (r .owner) (d .recovery) (r .since) (r .by-owner)) (reignOf (d .owner) (d .recovery) t false)))
             ≡ pick as-before
-            (record { known = true; address = r .owner; recovery = d .recovery; misses = missedBy b r t; heard = r .own && eqb (passedBy b r t) 0 })
+            (record { known = true; address = r .owner; recovery = d .recovery; misses = missedBy b r t; heard = r .by-owner && eqb (passedBy b r t) 0 })
             (record { known = true; address = d .owner; recovery = d .recovery; misses = 0; heard = false })
         by true = refl
         by false = just-now false (d .owner) (d .recovery)
@@ -187,7 +187,7 @@ module _ (b : ℕ) where
     naming-lasts nobody d some l = (omega arith, some)
     naming-lasts (reigns r) d some l = by (same (d .owner) (r .owner))
       where
-        by : (as-before : Bool) → Lasting (reigns (pick as-before (reignOf (r .owner) (d .recovery) (r .since) (r .own)) (reignOf (d .owner) (d .recovery) t false))) t
+        by : (as-before : Bool) → Lasting (reigns (pick as-before (reignOf (r .owner) (d .recovery) (r .since) (r .by-owner)) (reignOf (d .owner) (d .recovery) t false))) t
         by true = (l .0, some)
         by false = (omega arith, some)
 

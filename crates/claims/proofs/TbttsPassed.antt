@@ -11,7 +11,7 @@ use Rattle.answer.proofs.Booleans.{either, both}
 use Rattle.answer.specs.Checks.{pick}
 use Rattle.owner.proofs.CountingUnits.{passed-tbtts}
 use Rattle.owner.specs.Tbtts.{isTbtt, tbttsIn}
-use Rattle.claims.specs.Reigns.{Reign, nobody, reigns, missedBy, atUnit, overUnits}
+use Rattle.claims.specs.Reigns.{GivenUp, Reign, nobody, reigns, missedBy, atUnit, overUnits}
 use Rattle.claims.specs.Tbtts.{CountedTo}
 use Rattle.claims.proofs.CountingTbtts.{counted-at}
 
@@ -30,14 +30,6 @@ module _ (b : ℕ) (pos : 1 ≤ b) (t n : ℕ) where
       omega (arith, at, suc-mul ((t + n) / b) b, lt-div-mul-add {a = t + n} {b = b} pos)
 
 -- ---- an owner that is given up
-
--- a TBTT after t, of n units, at which the misses have come to the recovery interval
-pub record GivenUp (b t n : ℕ) (r : Reign) : Type 0 where
-  pub tbtt : ℕ
-  pub after : t < tbtt
-  pub within : tbtt ≤ t + n
-  pub is-tbtt : isTbtt b tbtt ≡ true
-  pub missed : r .recovery ≤ missedBy b r tbtt
 
 module _ (b t : ℕ) (r : Reign) where
   -- at a unit it ends there, or goes on

@@ -24,7 +24,7 @@ use Rattle.claims.specs.Reigns.{Reigning, nobody, reigns, passedBy, miss
 abbrev pub ownerTold : ℕ → ℕ → Reigning → Owner
 ownerTold b t nobody = unknown
 ownerTold b t (reigns r) =
-    record { known = true; address = r .owner; recovery = r .recovery; misses = missedBy b r t; heard = r .own && eqb (passedBy b r t) 0 }
+    record { known = true; address = r .owner; recovery = r .recovery; misses = missedBy b r t; heard = r .by-owner && eqb (passedBy b r t) 0 }
 
 -- the verdict on a frame that was read so, when the clock is at t and this owner reigns: 23 comes last, and has no place
 abbrev pub verdictTold : ℕ → Reigning → Placed SentInIbss → Verdict

@@ -4,7 +4,6 @@ use mathlib.Core.List.{List}
 use mathlib.Core.Logic.{_⊎_}
 use mathlib.Core.Path.{_≡_}
 use Prim.Native.Nat.{ℕ}
-use Rattle.answer.specs.Checks.{accepted}
 use Rattle.beacon.specs.Beacons.{Told}
 use Rattle.beacon.specs.IbssBeacons.{is}
 use Rattle.capture_record.specs.declared.entry.Settings.{Settings}
@@ -12,8 +11,8 @@ use Rattle.element.specs.IbssDfs.{Dfs}
 use Rattle.frame.specs.Frames.{beacon}
 use Rattle.frame.specs.IbssFrames.{SentInIbss}
 use Rattle.header.specs.Headers.{same}
-use Rattle.claims.specs.Histories.{Call, frame, advance, ask, History, clockAfter, Latest, Throughout}
-use Rattle.claims.specs.Reigns.{owns, namingAt, readAs, reigning, Accepts}
+use Rattle.claims.specs.Histories.{Call, frame, advance, ask, History, tooFar, clockAfter, Latest, Throughout}
+use Rattle.claims.specs.Reigns.{Reign, reigns, GivenUp, owns, namingAt, reigning, Accepts}
 
 module _ (s : Settings) where
   -- the call was an accepted beacon with element 41, which names this owner and this interval
@@ -33,31 +32,42 @@ module _ (s : Settings) where
 
   -- a beacon from the owner that then stands, its own element 41 applied first
   abbrev pub FromOwner : History → SentInIbss → List ℕ → Bool → Type 0
-  FromOwner h x a own = (own ≡ true) × (x .sender ≡ a) × (owns (namingAt (clockAfter h) (x .dfs) (reigning s h)) a ≡ true)
+  FromOwner h x a by-owner = (by-owner ≡ true) × (x .sender ≡ a) × (owns (namingAt (clockAfter h) (x .dfs) (reigning s h)) a ≡ true)
 
   -- one from elsewhere that names another owner than the one before, if there was one
   abbrev pub NamesAnother : History → SentInIbss → List ℕ → Bool → Type 0
-  NamesAnother h x a own =
-      (own ≡ false) × ((d : Dfs) × (x .dfs ≡ is d) × (d .owner ≡ a)) × (owns (reigning s h) a ≡ false) × (same (x .sender) a ≡ false)
+  NamesAnother h x a by-owner =
+      (by-owner ≡ false) × ((d : Dfs) × (x .dfs ≡ is d) × (d .owner ≡ a)) × (owns (reigning s h) a ≡ false) × (same (x .sender) a ≡ false)
 
-  -- "A beacon from the owner, or naming another, sets the count to 0": the call was one, after which this is the owner; `own` says that it came from it
-  pub record Restarts (c : Call) (h : History) (a : List ℕ) (own : Bool) : Type 0 where
+  -- "A beacon from the owner, or naming another, sets the count to 0": the call was one, after which this is the owner; `by-owner` says that it came from it
+  pub record Restarts (c : Call) (h : History) (a : List ℕ) (by-owner : Bool) : Type 0 where
     pub sent : SentInIbss
     pub accepts : Accepts s c h sent
     pub told : Told
     pub in-beacon : sent .sent .kind ≡ beacon told
-    pub how : FromOwner h sent a own ⊎ NamesAnother h sent a own
+    pub how : FromOwner h sent a by-owner ⊎ NamesAnother h sent a by-owner
 
   -- the latest of these left this owner, when the clock was at t
   abbrev pub LastRestarted : History → List ℕ → ℕ → Bool → Type 0
-  LastRestarted h a t own = Latest (λ c g. (x : List ℕ) (y : Bool) → Restarts c g x y → ⊥) (λ c g. Restarts c g a own × (clockAfter g ≡ t)) h
+  LastRestarted h a t by-owner = Latest (λ c g. (x : List ℕ) (y : Bool) → Restarts c g x y → ⊥) (λ c g. Restarts c g a by-owner × (clockAfter g ≡ t)) h
 
-  -- the call is no frame with an element 41 that is read
-  abbrev pub Nameless : Call → History → Type 0
-  Nameless (frame f) h = (x : SentInIbss) (d : Dfs) → readAs s f ≡ accepted x → x .dfs ≡ is d → ⊥
-  Nameless (advance n) h = Unit {0}
-  Nameless (ask n) h = Unit {0}
-
-  -- no element 41 is ever heard
+  -- no element 41 is ever heard: no accepted beacon has one
   abbrev pub NeverNamed : History → Type 0
-  NeverNamed h = Throughout Nameless h
+  NeverNamed h = Throughout (λ c g. (a : List ℕ) (n : ℕ) → Names c g a n → ⊥) h
+
+  -- ---- exactly who owns, and from when misses are counted
+
+  -- the call was an advance on which the owner was given up
+  abbrev pub GivesUp : Call → History → Type 0
+  GivesUp (frame f) h = ⊥
+  GivesUp (advance n) h = (tooFar (clockAfter h) n ≡ false) × ((r : Reign) × (reigning s h ≡ reigns r) × GivenUp (s .interval) (clockAfter h) n r)
+  GivesUp (ask n) h = ⊥
+
+  -- the latest accepted beacon with element 41 named it, and it was not given up since
+  abbrev pub Owned : History → List ℕ → ℕ → Type 0
+  Owned h a recovery = Latest (λ c g. ((x : List ℕ) (n : ℕ) → Names c g x n → ⊥) × (GivesUp c g → ⊥)) (λ c g. Names c g a recovery) h
+
+  -- the latest beacon that set the count to 0 left it, when the clock was at t, and it was not given up since
+  abbrev pub Counted : History → List ℕ → ℕ → Bool → Type 0
+  Counted h a t by-owner =
+      Latest (λ c g. ((x : List ℕ) (y : Bool) → Restarts c g x y → ⊥) × (GivesUp c g → ⊥)) (λ c g. Restarts c g a by-owner × (clockAfter g ≡ t)) h

@@ -3,7 +3,7 @@
 use mathlib.Core.Bool.{Bool, true, false, not, _&&_}
 use mathlib.Core.List.{List, [], _∷_}
 use mathlib.Core.Path.{_≡_}
-use Prim.Native.Nat.{ℕ, zero, suc, _+_, _-_}
+use Prim.Native.Nat.{ℕ, zero, suc, _+_, _-_, _<_, _≤_}
 use lib.Dec.{leb}
 use Rattle.answer.specs.Checks.{refused, accepted, pick}
 use Rattle.answer.specs.Faults.{Placed}
@@ -24,14 +24,23 @@ pub record Reign : Type 0 where
   pub owner : List ℕ
   pub recovery : ℕ
   pub since : ℕ
-  pub own : Bool
+  pub by-owner : Bool
 
 abbrev pub reignOf : List ℕ → ℕ → ℕ → Bool → Reign
-reignOf a recovery since own = record { owner = a; recovery = recovery; since = since; own = own }
+reignOf a recovery since by-owner = record { owner = a; recovery = recovery; since = since; by-owner = by-owner }
 
 pub data Reigning : Type 0 where
   nobody : Reigning
   reigns : Reign → Reigning
+
+-- who it is, with its interval; and from when its misses are counted, and whether from a beacon of its own
+abbrev pub ownerOf : Reigning → List ℕ × ℕ → Type 0
+ownerOf nobody p = ⊥
+ownerOf (reigns r) p = (r .owner ≡ p .0) × (r .recovery ≡ p .1)
+
+abbrev pub markOf : Reigning → List ℕ × ℕ × Bool → Type 0
+markOf nobody p = ⊥
+markOf (reigns r) p = (r .owner ≡ p .0) × (r .since ≡ p .1) × (r .by-owner ≡ p .2)
 
 -- ---- TBTTs without a beacon from the owner. `b` is B
 
@@ -42,7 +51,7 @@ module _ (b : ℕ) where
 
   -- each of them is a miss, but for the first where that beacon came from the owner
   abbrev pub missedBy : Reign → ℕ → ℕ
-  missedBy r t = passedBy r t - pick (r .own) 1 0
+  missedBy r t = passedBy r t - pick (r .by-owner) 1 0
 
   -- "there, at or past the recovery interval, the owner is unknown"
   abbrev pub atUnit : ℕ → Reigning → Reigning
@@ -53,6 +62,14 @@ module _ (b : ℕ) where
   unfoldable pub overUnits : ℕ → ℕ → Reigning → Reigning
   overUnits t zero w = w
   overUnits t (suc n) w = atUnit (t + suc n) (overUnits t n w)
+
+-- a TBTT after t, of n units, at which the misses have come to the recovery interval
+pub record GivenUp (b t n : ℕ) (r : Reign) : Type 0 where
+  pub tbtt : ℕ
+  pub after : t < tbtt
+  pub within : tbtt ≤ t + n
+  pub is-tbtt : isTbtt b tbtt ≡ true
+  pub missed : r .recovery ≤ missedBy b r tbtt
 
 -- ---- beacons
 
@@ -65,7 +82,7 @@ owns (reigns r) a = same a (r .owner)
 abbrev namedAt : ℕ → Dfs → Reigning → Reigning
 namedAt t d nobody = reigns (reignOf (d .owner) (d .recovery) t false)
 namedAt t d (reigns r) =
-    reigns (pick (same (d .owner) (r .owner)) (reignOf (r .owner) (d .recovery) (r .since) (r .own)) (reignOf (d .owner) (d .recovery) t false))
+    reigns (pick (same (d .owner) (r .owner)) (reignOf (r .owner) (d .recovery) (r .since) (r .by-owner)) (reignOf (d .owner) (d .recovery) t false))
 
 abbrev pub namingAt : ℕ → MaybeDfs → Reigning → Reigning
 namingAt t absent w = w
