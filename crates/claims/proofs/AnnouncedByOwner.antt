@@ -23,6 +23,7 @@ use Rattle.claims.specs.Histories.{frame, History, clockAfter}
 use Rattle.claims.specs.Naming.{LastNamed}
 use Rattle.claims.specs.Reigns.{ownerOf, Reigning, nobody, reigns, reignOf, owns, namingAt, heardAt, foreignTo, afterKind, afterFrame, readAs, reigning}
 use Rattle.claims.proofs.IbssReadings.{beacons-only}
+use Rattle.claims.proofs.OwnersExactly.{accepted-leaves}
 use Rattle.claims.proofs.OwnersNamed.{last-named}
 
 -- whoever owns is the owner, with some interval, and is so after a beacon from it
@@ -60,10 +61,5 @@ module _ (s : Settings) (f : List ℕ) (h : History) (x : SentInIbss) (e : readA
   by-kind (probeResponse told) y = owner-is v (x .sender) (unnamed (probeResponse told) y (λ u z. let q : _≡_ {A = ℕ} 0 1 = cc in omega arith))
   by-kind (action body) y = owner-is v (x .sender) (unnamed (action body) y (λ u z. let q : _≡_ {A = ℕ} 0 1 = cc in omega arith))
 
-  after : reigning s (frame f ∷ h) ≡ afterKind t x (x .sent .kind) v
-  unfolding reigning
-  after =
-      ap (λ (o : Placed SentInIbss). afterFrame t o v) e ∙ ap (λ (b : Bool). pick b v (afterKind t x (x .sent .kind) v)) ours
-
   pub announced-by-owner : (n : ℕ) × LastNamed s (frame f ∷ h) (x .sender) n
-  announced-by-owner = let w = by-kind (x .sent .kind) refl in (w .0, last-named s (frame f ∷ h) (x .sender, w .0) (subst (λ (z : Reigning). ownerOf z (x .sender, w .0)) (sym after) (w .1)))
+  announced-by-owner = let w = by-kind (x .sent .kind) refl in (w .0, last-named s (frame f ∷ h) (x .sender, w .0) (subst (λ (z : Reigning). ownerOf z (x .sender, w .0)) (sym (accepted-leaves s f h x e ours)) (w .1)))

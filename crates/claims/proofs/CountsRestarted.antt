@@ -23,7 +23,7 @@ use Rattle.owner.specs.Tbtts.{isTbtt}
 use Rattle.claims.specs.Histories.{frame, advance, ask, History, tooFar, clockAfter, Latest}
 use Rattle.claims.specs.Naming.{Restarts, FromOwner, NamesAnother, LastRestarted}
 use Rattle.claims.specs.Reigns.{markOf, reignOf, Reigning, nobody, reigns, missedBy, atUnit, overUnits, owns, namingAt, heardAt, foreignTo, afterKind, afterFrame, readAs, reigning}
-use Rattle.claims.proofs.OwnersNamed.{is-read}
+use Rattle.claims.proofs.Same.{accepted-once}
 
 -- an owner by who it is, when the count was last set to 0, and whether by a beacon of its own
 abbrev Mark : Type 0
@@ -62,11 +62,11 @@ module _ (s : Settings) where
 
     module _ (x : SentInIbss) (e : readAs s f ≡ accepted x) where
       foreign-calm : foreignTo t w x ≡ true → (a : List ℕ) (y : Bool) → Restarts s (frame f) h a y → ⊥
-      foreign-calm g a y z = clash (sym g ∙ ap (foreignTo t w) (is-read x (z .sent) (sym e ∙ z .accepts .0)) ∙ z .accepts .1)
+      foreign-calm g a y z = clash (sym g ∙ ap (foreignTo t w) (accepted-once (sym e ∙ z .accepts .0)) ∙ z .accepts .1)
 
       no-beacon-calm : (k : Kind) → x .sent .kind ≡ k → ((told : Told) → k ≡ beacon told → ⊥) → (a : List ℕ) (y : Bool) → Restarts s (frame f) h a y → ⊥
       no-beacon-calm k g none a y z =
-          none (z .told) (sym g ∙ ap (λ (v : SentInIbss). v .sent .kind) (is-read x (z .sent) (sym e ∙ z .accepts .0)) ∙ z .in-beacon)
+          none (z .told) (sym g ∙ ap (λ (v : SentInIbss). v .sent .kind) (accepted-once (sym e ∙ z .accepts .0)) ∙ z .in-beacon)
 
       -- a beacon neither from the owner nor naming another
       beacon-calm : owns (namingAt t (x .dfs) w) (x .sender) ≡ false → ((d : Dfs) → x .dfs ≡ is d → owns w (d .owner) ≡ true)
@@ -74,7 +74,7 @@ module _ (s : Settings) where
       beacon-calm elsewhere as-before a y z = by (z .how)
         where
           same-sent : z .sent ≡ x
-          same-sent = sym (is-read x (z .sent) (sym e ∙ z .accepts .0))
+          same-sent = sym (accepted-once (sym e ∙ z .accepts .0))
 
           by : FromOwner s h (z .sent) a y ⊎ NamesAnother s h (z .sent) a y → ⊥
           by (inl (own, sender, stands)) =

@@ -6,7 +6,7 @@ use mathlib.Core.Logic.{inl, inr, ⊎-elim, _↔_}
 use mathlib.Core.Path.{_≡_, refl, sym, ap, ap₂, _∙_, subst}
 use Prim.Native.Nat.{ℕ, _≤_}
 use native.Mathlib.Omega.{arith}
-use Rattle.answer.specs.Checks.{refused, accepted, checked}
+use Rattle.answer.specs.Checks.{refused, accepted, checked, pick}
 use Rattle.answer.specs.Faults.{Placed}
 use Rattle.answer.proofs.Booleans.{either}
 use Rattle.answer.specs.declared.Answer.{Answer}
@@ -27,7 +27,7 @@ use Rattle.station.specs.Asking.{permissionNumber, permissionOf}
 use Rattle.station.specs.Starting.{startMeans, startForbids}
 use Rattle.station.specs.Stations.{fresh}
 use Rattle.station.specs.declared.asking.Permission.{Permission}
-use Rattle.claims.specs.Histories.{Call, frame, advance, ask, History, clockAfter, Latest, Throughout}
+use Rattle.claims.specs.Histories.{Call, frame, advance, ask, History, tooFar, clockAfter, Latest, Throughout}
 use Rattle.claims.specs.MemberRecords.{verdictTold, memberAfter, MemberAgrees}
 use Rattle.claims.specs.MemberRuns.{MemberStarts, MemberTakes, MemberAdvances, MemberAsks, MemberRan}
 use Rattle.claims.specs.Naming.{NeverNamed}
@@ -37,7 +37,7 @@ use Rattle.claims.specs.Standing.{LastAnnounced, Switches, at-once, reac
 use Rattle.claims.proofs.Agreement.{agreeing}
 use Rattle.claims.proofs.Asked.{answered, granted-open}
 use Rattle.claims.proofs.KeptThroughout.{KeptThroughout}
-use Rattle.claims.proofs.MemberFollows.{tells, verdict-as, member-follows, sound}
+use Rattle.claims.proofs.MemberFollows.{tells, step-as, verdict-as, member-follows, sound}
 use Rattle.claims.proofs.OneRecord.{alike, same-station}
 use Rattle.claims.proofs.OwnersNamed.{none-obeyed}
 
@@ -128,6 +128,10 @@ module _ (s : Settings) where
     -- each verdict on a frame is the one that the history says
     pub judged : (f : List ℕ) (v : Verdict) (next : Member) → MemberTakes m f v next → v ≡ verdictTold (clockAfter h) (reigning s h) (readAs s f)
     judged f v next x = leaves-take m next f v x .0 ∙ ap (λ (y : Member). takeOf y f .verdict) (arrives h m ran .0) ∙ verdict-as s f h
+
+    -- each advance is answered as the history says: 14 where it goes too far, else 0
+    pub stepped : (n : ℕ) (r : Answer) (next : Member) → MemberAdvances m n r next → r ≡ pick (tooFar (clockAfter h) n) (Answer.Refused Refusal.PastClock) Answer.Accepted
+    stepped n r next x = leaves-advance m next n r x .0 ∙ ap (λ (y : Member). advanceOf y n .answer) (arrives h m ran .0) ∙ step-as s n h
 
     -- a frame that is refused, with whatever number, changes nothing
     pub refused-same : (f : List ℕ) (q : Fault) (next : Member) → MemberTakes m f (Verdict.Refused q) next → next ≡ m

@@ -11,6 +11,7 @@ use Rattle.answer.proofs.Booleans.{clash}
 use Rattle.answer.proofs.Judged.{never}
 use Rattle.answer.specs.Checks.{Outcome, refused, accepted, pick, _⇒_, checked, andThen}
 use Rattle.answer.specs.Faults.{Placed, faultNowhere}
+use Rattle.answer.specs.declared.Answer.{Answer}
 use Rattle.answer.specs.declared.Refusal.{Refusal}
 use Rattle.answer.specs.declared.Verdict.{Verdict}
 use Rattle.beacon.specs.Beacons.{Told}
@@ -38,14 +39,14 @@ use Rattle.claims.specs.Reigns.{Reigning, overUnits, namingAt, foreignTo
 use Rattle.claims.proofs.Following.{Sound, Follows}
 use Rattle.claims.proofs.IbssReadings.{read-allowed, recovery-some, beacons-only}
 use Rattle.claims.proofs.KeptThroughout.{KeptThroughout, keptBy, heard-keeps, heard-clock, advance-keeps}
-use Rattle.claims.proofs.OwnersNamed.{is-read}
 use Rattle.claims.proofs.OwnersTold.{Lasting, units-last, units-told, owns-told, naming-told, heard-told, naming-lasts, hearing-lasts}
+use Rattle.claims.proofs.Same.{accepted-once}
 
 -- ---- what it hears
 
 module _ (s : Settings) where
   hears-one : (c : Call) (h : History) (x y : SentInIbss) → Accepts s c h x → Accepts s c h y → x ≡ y
-  hears-one (frame f) h x y a b = is-read x y (sym (a .0) ∙ b .0)
+  hears-one (frame f) h x y a b = accepted-once (sym (a .0) ∙ b .0)
   hears-one (advance n) h x y a b = absurd a
   hears-one (ask n) h x y a b = absurd a
 
@@ -57,7 +58,7 @@ module _ (s : Settings) where
     where
       by-test : (x : SentInIbss) → readAs s f ≡ accepted x → (foreign : Bool) → foreignTo (clockAfter h) (reigning s h) x ≡ foreign
           → ((k : Kind) × Heard (frame f) h k) ⊎ ((k : Kind) → Heard (frame f) h k → ⊥)
-      by-test x e true y = inr (λ k z. clash (sym y ∙ ap (foreignTo (clockAfter h) (reigning s h)) (is-read x (z .0) (sym e ∙ z .1 .0)) ∙ z .1 .1))
+      by-test x e true y = inr (λ k z. clash (sym y ∙ ap (foreignTo (clockAfter h) (reigning s h)) (accepted-once (sym e ∙ z .1 .0)) ∙ z .1 .1))
       by-test x e false y = inl (x .sent .kind, (x, (e, y), refl))
 
       by-outcome : (o : Placed SentInIbss) → readAs s f ≡ o → ((k : Kind) × Heard (frame f) h k) ⊎ ((k : Kind) → Heard (frame f) h k → ⊥)
@@ -93,23 +94,25 @@ module _ (m : Member) (n : ℕ) where
       (stepped m (andThen o (λ next. accepted (memberOf next (ownerPast m n)))) .member
       ≡ memberOf (Clock.stepped r o .station) (pick far (m .owner) (ownerPast m n)))
       × (Clock.stepped r o .station .clock ≡ pick far (r .clock) (r .clock + n))
+      × (stepped m (andThen o (λ next. accepted (memberOf next (ownerPast m n)))) .answer ≡ pick far (Answer.Refused Refusal.PastClock) Answer.Accepted)
 
   advance-parts :
       (advanceOf m n .member ≡ memberOf (Clock.advanceOf r n .station) (pick (tooFar (r .clock) n) (m .owner) (ownerPast m n)))
       × (Clock.advanceOf r n .station .clock ≡ pick (tooFar (r .clock) n) (r .clock) (r .clock + n))
+      × (advanceOf m n .answer ≡ pick (tooFar (r .clock) n) (Answer.Refused Refusal.PastClock) Answer.Accepted)
   unfolding memberAdvances advanceMeans clockAdvance
   advance-parts = by-test (tooFar (r .clock) n)
     where
       by-switch : (coming : Bool) (channel : ℕ) → AdvancesBy false (advancedTo r (pick coming (Advanced.Goes (r .clock + n)) (Advanced.Switches (r .clock + n) channel)))
-      by-switch true channel = (refl, refl)
-      by-switch false channel = (refl, refl)
+      by-switch true channel = (refl, refl, refl)
+      by-switch false channel = (refl, refl, refl)
 
       by-pending : (p : Pending) → AdvancesBy false (advancedTo r (reached (r .clock + n) p))
-      by-pending Pending.Nothing = (refl, refl)
+      by-pending Pending.Nothing = (refl, refl, refl)
       by-pending (Pending.Switch q) = by-switch (ltb (r .clock + n) (q .at)) (q .channel)
 
       by-test : (far : Bool) → AdvancesBy far (advancedTo r (pick far Advanced.Refused (reached (r .clock + n) (r .pending))))
-      by-test true = (refl, refl)
+      by-test true = (refl, refl, refl)
       by-test false = by-pending (r .pending)
 
 -- what the outcome of reading a frame makes of it
@@ -296,6 +299,13 @@ module _ (s : Settings) where
   tells (frame f ∷ h) = by-outcome f h (tells h) (readAs s f) refl
   tells (advance n ∷ h) = advancing n h (tells h)
   tells (ask n ∷ h) = asking n h (tells h)
+
+  -- ---- an advance is refused exactly where it goes too far
+
+  pub step-as : (n : ℕ) (h : History) → advanceOf (memberAfter s h) n .answer ≡ pick (tooFar (clockAfter h) n) (Answer.Refused Refusal.PastClock) Answer.Accepted
+  step-as n h =
+      advance-parts (memberAfter s h) n .2
+      ∙ ap (λ (u : ℕ). pick (tooFar u n) (Answer.Refused Refusal.PastClock) Answer.Accepted) (tells h .clock)
 
   -- ---- the verdict on a frame is the one that the history tells of
 

@@ -28,9 +28,7 @@ use Rattle.owner.specs.Tbtts.{isTbtt}
 use Rattle.claims.specs.Histories.{Call, frame, advance, ask, History, tooFar, clockAfter, Latest, Throughout, Announces}
 use Rattle.claims.specs.Naming.{Names, LastNamed, NeverNamed}
 use Rattle.claims.specs.Reigns.{ownerOf, reignOf, Reigning, nobody, reigns, missedBy, atUnit, overUnits, owns, namingAt, heardAt, foreignTo, afterKind, afterFrame, readAs, reigning, ibssListener}
-
-pub is-read : (x y : SentInIbss) → _≡_ {A = Placed SentInIbss} (accepted x) (accepted y) → x ≡ y
-is-read x y e = cc
+use Rattle.claims.proofs.Same.{accepted-once}
 
 module _ (s : Settings) where
   -- ---- the clock names nobody
@@ -72,7 +70,7 @@ module _ (s : Settings) where
 
   module _ (f : List ℕ) (h : History) where
     one-reading : (x y : SentInIbss) → readAs s f ≡ accepted x → readAs s f ≡ accepted y → x ≡ y
-    one-reading x y e g = is-read x y (sym e ∙ g)
+    one-reading x y e g = accepted-once (sym e ∙ g)
 
     -- a frame that was refused names nobody
     refused-nameless : (q : Fault) → readAs s f ≡ refused q → (a : List ℕ) (n : ℕ) → Names s (frame f) h a n → ⊥

@@ -16,6 +16,7 @@ use Rattle.claims.specs.Histories.{Call, frame, advance, ask, History, H
 use Rattle.claims.specs.Records.{recordAfter}
 use Rattle.claims.proofs.Following.{Sound, Follows}
 use Rattle.claims.proofs.KeptThroughout.{KeptThroughout, keptBy, heard-keeps, advance-keeps}
+use Rattle.claims.proofs.Same.{accepted-once}
 
 -- what the outcome of reading a frame makes of the record
 abbrev leaves : Station → Placed Sent → Station
@@ -29,14 +30,11 @@ take-keeps r f = by-outcome (frameMeans (r .own) (r .ap) (r .interval) f)
     by-outcome (refused q) = refl
     by-outcome (accepted x) = heard-keeps r (x .kind)
 
-is-sent : {x y : Sent} → _≡_ {A = Placed Sent} (accepted x) (accepted y) → x ≡ y
-is-sent e = cc
-
 module _ (s : Settings) where
   -- ---- what it hears
 
   hears-one : (c : Call) (k k' : Kind) → Hears s c k → Hears s c k' → k ≡ k'
-  hears-one (frame f) k k' (a, x) (b, y) = ap (λ (z : Sent). z .kind) (is-sent (sym x ∙ y))
+  hears-one (frame f) k k' (a, x) (b, y) = ap (λ (z : Sent). z .kind) (accepted-once (sym x ∙ y))
   hears-one (advance n) k k' x y = absurd x
   hears-one (ask n) k k' x y = absurd x
 
