@@ -109,7 +109,9 @@ fn compare_with(
     );
     place(count, stage, frame, library.err(), received.as_ref().err());
     let quiets = twin.map_or(0, |received| quiets_of(received).len());
-    let pairs = twin.map_or(0, |received| received.dfs.as_ref().map_or(0, |dfs| dfs.pairs.len()));
+    let pairs = twin.map_or(0, |received| {
+        received.dfs.as_ref().map_or(0, |dfs| dfs.pairs.len())
+    });
     // Where there is none, one frame in four is asked all the same.
     if quiets > 0 || frame.len() % 4 == 0 {
         for index in indices(quiets) {
@@ -231,11 +233,28 @@ fn addresses(count: &mut Count) {
     let usual = Stage::usual(100);
     let stages = [
         usual,
-        Stage { own: ALL_ONES, ..usual },
-        Stage { ap: ALL_ONES, ..usual },
-        Stage { own: usual.ap, ..usual },
-        Stage { own: GROUP, ap: GROUP, ..usual },
-        Stage { own: [0; 6], ap: [0; 6], ..usual },
+        Stage {
+            own: ALL_ONES,
+            ..usual
+        },
+        Stage {
+            ap: ALL_ONES,
+            ..usual
+        },
+        Stage {
+            own: usual.ap,
+            ..usual
+        },
+        Stage {
+            own: GROUP,
+            ap: GROUP,
+            ..usual
+        },
+        Stage {
+            own: [0; 6],
+            ap: [0; 6],
+            ..usual
+        },
     ];
     for stage in stages {
         for sample in samples(&stage) {
@@ -334,7 +353,11 @@ fn values(count: &mut Count) {
                 let dfs = dfs(owner, recovery, pairs);
                 for subtype in [BEACON, PROBE_RESPONSE] {
                     for elements in around(&dfs) {
-                        compare(count, &stage, &from(PEER, notice(&stage, subtype, &elements)));
+                        compare(
+                            count,
+                            &stage,
+                            &from(PEER, notice(&stage, subtype, &elements)),
+                        );
                     }
                 }
             }
@@ -403,7 +426,14 @@ fn every_pair(count: &mut Count) {
         for subtype in [BEACON, PROBE_RESPONSE] {
             let elements = [element(32, &[7]), dfs(OWNER, 3, octets), element(33, &[1])].concat();
             let frame = from(PEER, notice(&stage, subtype, &elements));
-            let far = [1 << 31, 1 << 32, 1 << 62, 1 << 63, usize::MAX - 3, usize::MAX];
+            let far = [
+                1 << 31,
+                1 << 32,
+                1 << 62,
+                1 << 63,
+                usize::MAX - 3,
+                usize::MAX,
+            ];
             compare_with(count, &stage, &frame, |many| {
                 (0..many + 3).chain(far).collect()
             });
@@ -420,14 +450,21 @@ fn laid(received: &twin::IbssReceived) -> Vec<u8> {
     match &received.frame {
         twin::Frame::Beacon(notice) => said = Some(notice),
         twin::Frame::ProbeResponse(notice) => (kind, said) = (1, Some(notice)),
-        twin::Frame::MeasurementRequest { token: of, requests } => {
+        twin::Frame::MeasurementRequest {
+            token: of,
+            requests,
+        } => {
             (kind, token, elements) = (2, *of, requests.len());
         }
         twin::Frame::MeasurementReport { token: of, reports } => {
             (kind, token, elements) = (3, *of, reports.len());
         }
         twin::Frame::TpcRequest { token: of } => (kind, token) = (4, *of),
-        twin::Frame::TpcReport { token: of, power, margin } => {
+        twin::Frame::TpcReport {
+            token: of,
+            power,
+            margin,
+        } => {
             (kind, token, report) = (5, *of, Some((*power, *margin)));
         }
         twin::Frame::ChannelSwitch(told) => (kind, switch) = (6, Some(*told)),
@@ -482,7 +519,12 @@ fn short_buffers(count: &mut Count) {
         frames.push([&sample[..], &[0]].concat());
     }
     let quiets = element(40, &quiet(1, 0, 1, 0)).repeat(9);
-    for elements in [dfs(OWNER, 0, 2), dfs(OWNER, 1, 1), dfs(OWNER, 1, 2).repeat(2), quiets] {
+    for elements in [
+        dfs(OWNER, 0, 2),
+        dfs(OWNER, 1, 1),
+        dfs(OWNER, 1, 2).repeat(2),
+        quiets,
+    ] {
         frames.push(from(PEER, notice(&stage, BEACON, &elements)));
     }
     frames.push(from(PEER, action(&stage, &[0, 2, 1, 33, 0])));
@@ -507,10 +549,18 @@ fn in_short_buffers(count: &mut Count, stage: &Stage, frame: &[u8]) {
             let library = lend(length, |out| raw::read_ibss_quiet(stage, frame, index, out));
             let expected = lend(length, |out| {
                 let said = quiets_of(twin?).get(index).ok_or(IMPOSSIBLE)?;
-                put(&quiet(said.count, said.period, said.duration, said.offset), out)
+                put(
+                    &quiet(said.count, said.period, said.duration, said.offset),
+                    out,
+                )
             });
             count.buffers(Call::IbssQuiet, &library, &expected, || {
-                format!("quiet {}, buffer of {}, {}", index, length, input(stage, frame))
+                format!(
+                    "quiet {}, buffer of {}, {}",
+                    index,
+                    length,
+                    input(stage, frame)
+                )
             });
         }
         for length in 0..=places::PAIR_LENGTH + 2 {
@@ -520,7 +570,12 @@ fn in_short_buffers(count: &mut Count, stage: &Stage, frame: &[u8]) {
                 put(&[pair.channel, pair.map], out)
             });
             count.buffers(Call::DfsPair, &library, &expected, || {
-                format!("pair {}, buffer of {}, {}", index, length, input(stage, frame))
+                format!(
+                    "pair {}, buffer of {}, {}",
+                    index,
+                    length,
+                    input(stage, frame)
+                )
             });
         }
     }
@@ -564,7 +619,11 @@ fn last_places(count: &mut Count, rng: &mut Rng) {
                 for tail in tails {
                     let pad = vendors(rng, length - NOTICE - front.len() - tail.len());
                     let elements = [&front[..], &pad, tail].concat();
-                    compare(count, &stage, &from(PEER, notice(&stage, subtype, &elements)));
+                    compare(
+                        count,
+                        &stage,
+                        &from(PEER, notice(&stage, subtype, &elements)),
+                    );
                 }
             }
         }
@@ -594,7 +653,11 @@ fn last_actions(count: &mut Count, rng: &mut Rng, stage: &Stage, length: usize) 
     for body in [&[0, 2, 1, 34, 0][..], &[0, 4, 37, 3, 0, 36, 1]] {
         for tail in [&[34][..], &[VENDOR], &[34, 0]] {
             let pad = vendors(rng, length - HEADER - body.len() - tail.len());
-            compare(count, stage, &from(PEER, action(stage, &[body, &pad, tail].concat())));
+            compare(
+                count,
+                stage,
+                &from(PEER, action(stage, &[body, &pad, tail].concat())),
+            );
         }
     }
 }
@@ -605,7 +668,9 @@ fn sender(rng: &mut Rng, stage: &Stage) -> Address {
     if !rng.one_in(6) {
         some[0] &= !1;
     }
-    rng.pick(&[some, some, some, stage.own, stage.ap, PEER, PEER, GROUP, ALL_ONES, [0; 6]])
+    rng.pick(&[
+        some, some, some, stage.own, stage.ap, PEER, PEER, GROUP, ALL_ONES, [0; 6],
+    ])
 }
 
 /// An element 41 that is right, or wrong in one way or another once in `faults`
@@ -622,7 +687,11 @@ fn some_dfs(rng: &mut Rng, faults: u64) -> Vec<u8> {
     if wrong(rng) {
         octets += 1;
     }
-    let recovery = if wrong(rng) { 0 } else { rng.between(1, 255) as u8 };
+    let recovery = if wrong(rng) {
+        0
+    } else {
+        rng.between(1, 255) as u8
+    };
     let mut contents = owner.to_vec();
     contents.push(recovery);
     contents.extend_from_slice(&rng.octets(octets));
@@ -693,9 +762,18 @@ fn built(count: &mut Count, rng: &mut Rng) {
         // The same frame as another station, or one of another IBSS, hears it.
         let other = Stage::at_random(rng);
         for elsewhere in [
-            Stage { own: other.own, ..stage },
-            Stage { ap: other.ap, ..stage },
-            Stage { interval: other.interval, ..stage },
+            Stage {
+                own: other.own,
+                ..stage
+            },
+            Stage {
+                ap: other.ap,
+                ..stage
+            },
+            Stage {
+                interval: other.interval,
+                ..stage
+            },
         ] {
             compare(count, &elsewhere, &frame);
         }
@@ -739,8 +817,15 @@ fn twin_writes(owner: Address, recovery: u8, octets: &[u8], out: &mut [u8]) -> R
     if octets.len() % 2 != 0 {
         return Err(IMPOSSIBLE);
     }
-    let pair = |pair: &[u8]| twin::ChannelMap { channel: pair[0], map: pair[1] };
-    let dfs = twin::IbssDfs { owner, recovery, pairs: octets.chunks_exact(2).map(pair).collect() };
+    let pair = |pair: &[u8]| twin::ChannelMap {
+        channel: pair[0],
+        map: pair[1],
+    };
+    let dfs = twin::IbssDfs {
+        owner,
+        recovery,
+        pairs: octets.chunks_exact(2).map(pair).collect(),
+    };
     twin::write_ibss_dfs(&dfs, out)
 }
 
@@ -764,7 +849,10 @@ fn written(count: &mut Count, owner: Address, recovery: u8, octets: &[u8], every
     };
     let read = twin::read_ibss_dfs(&written[2..]);
     let pairs = read.as_ref().map_or(Vec::new(), |dfs| {
-        dfs.pairs.iter().flat_map(|pair| [pair.channel, pair.map]).collect()
+        dfs.pairs
+            .iter()
+            .flat_map(|pair| [pair.channel, pair.map])
+            .collect()
     });
     let read = read.map(|dfs| (dfs.owner, dfs.recovery, pairs));
     count.twin_gives(&read, &Ok((owner, recovery, octets.to_vec())), || {
@@ -773,8 +861,13 @@ fn written(count: &mut Count, owner: Address, recovery: u8, octets: &[u8], every
     let stage = Stage::usual(100);
     let frame = from(PEER, notice(&stage, BEACON, &written));
     compare(count, &stage, &frame);
-    let library = oneiralth::read_ibss_frame(&frame, stage.in_ibss()).map(|read| (read.sender, read.dfs));
-    let dfs = oneiralth::IbssDfs { owner, recovery, pairs: octets.len() / 2 };
+    let library =
+        oneiralth::read_ibss_frame(&frame, stage.in_ibss()).map(|read| (read.sender, read.dfs));
+    let dfs = oneiralth::IbssDfs {
+        owner,
+        recovery,
+        pairs: octets.len() / 2,
+    };
     count.read_back(Call::ReadIbss, &library, (PEER, Some(dfs)), || {
         format!("read back from {}", hex(&frame))
     });

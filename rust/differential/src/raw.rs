@@ -6,8 +6,20 @@
 use crate::builder::{Address, Stage};
 
 extern "C" {
-    fn oneiralth_fault_offset(frame: *const u8, frame_length: usize, own: u64, ap: u64, interval: u16) -> u64;
-    fn oneiralth_ibss_fault_offset(frame: *const u8, frame_length: usize, own: u64, bssid: u64, interval: u16) -> u64;
+    fn oneiralth_fault_offset(
+        frame: *const u8,
+        frame_length: usize,
+        own: u64,
+        ap: u64,
+        interval: u16,
+    ) -> u64;
+    fn oneiralth_ibss_fault_offset(
+        frame: *const u8,
+        frame_length: usize,
+        own: u64,
+        bssid: u64,
+        interval: u16,
+    ) -> u64;
     fn oneiralth_read_ibss_frame(
         frame: *const u8,
         frame_length: usize,
@@ -62,7 +74,9 @@ pub fn fault_offset(stage: &Stage, frame: &[u8]) -> Result<usize, u8> {
 /// The same of a frame of an IBSS.
 pub fn ibss_fault_offset(stage: &Stage, frame: &[u8]) -> Result<usize, u8> {
     let (own, bssid) = (address(stage.own), address(stage.ap));
-    number(unsafe { oneiralth_ibss_fault_offset(frame.as_ptr(), frame.len(), own, bssid, stage.interval) })
+    number(unsafe {
+        oneiralth_ibss_fault_offset(frame.as_ptr(), frame.len(), own, bssid, stage.interval)
+    })
 }
 
 /// The fields of a frame of an IBSS.
@@ -70,25 +84,61 @@ pub fn read_ibss_frame(stage: &Stage, frame: &[u8], out: &mut [u8]) -> Result<us
     let (own, bssid) = (address(stage.own), address(stage.ap));
     let (octets, length) = (out.as_mut_ptr(), out.len());
     number(unsafe {
-        oneiralth_read_ibss_frame(frame.as_ptr(), frame.len(), own, bssid, stage.interval, octets, length)
+        oneiralth_read_ibss_frame(
+            frame.as_ptr(),
+            frame.len(),
+            own,
+            bssid,
+            stage.interval,
+            octets,
+            length,
+        )
     })
 }
 
 /// A Quiet element of it.
-pub fn read_ibss_quiet(stage: &Stage, frame: &[u8], index: usize, out: &mut [u8]) -> Result<usize, u8> {
+pub fn read_ibss_quiet(
+    stage: &Stage,
+    frame: &[u8],
+    index: usize,
+    out: &mut [u8],
+) -> Result<usize, u8> {
     let (own, bssid) = (address(stage.own), address(stage.ap));
     let (octets, length) = (out.as_mut_ptr(), out.len());
     number(unsafe {
-        oneiralth_read_ibss_quiet(frame.as_ptr(), frame.len(), own, bssid, stage.interval, index, octets, length)
+        oneiralth_read_ibss_quiet(
+            frame.as_ptr(),
+            frame.len(),
+            own,
+            bssid,
+            stage.interval,
+            index,
+            octets,
+            length,
+        )
     })
 }
 
 /// A pair of its element 41.
-pub fn read_dfs_pair(stage: &Stage, frame: &[u8], index: usize, out: &mut [u8]) -> Result<usize, u8> {
+pub fn read_dfs_pair(
+    stage: &Stage,
+    frame: &[u8],
+    index: usize,
+    out: &mut [u8],
+) -> Result<usize, u8> {
     let (own, bssid) = (address(stage.own), address(stage.ap));
     let (octets, length) = (out.as_mut_ptr(), out.len());
     number(unsafe {
-        oneiralth_read_dfs_pair(frame.as_ptr(), frame.len(), own, bssid, stage.interval, index, octets, length)
+        oneiralth_read_dfs_pair(
+            frame.as_ptr(),
+            frame.len(),
+            own,
+            bssid,
+            stage.interval,
+            index,
+            octets,
+            length,
+        )
     })
 }
 
