@@ -40,7 +40,7 @@ fn announces(reading: Reading) -> bool
     ensures { λ r. ⌜ r ≡ announces reading ⌝ }
 {
     match reading {
-        Reading::Refused(_) => false,
+        Reading::Refused(_broken) => false,
         Reading::Is(frame) => match frame {
             Frame::Beacon(notice) => notice_announces(notice),
             Frame::ProbeResponse(notice) => notice_announces(notice),
