@@ -1,4 +1,4 @@
-/* Reads an announcement and a beacon, replies to a TPC Request and makes the list of a capture of one block, each by the proved library. Writes what came out. */
+/* Reads an announcement, a beacon and a beacon of an IBSS, replies to a TPC Request and makes the list of a capture of one block, each by the proved library. Writes what came out. */
 #include "oneiralth.h"
 
 #include <stdio.h>
@@ -47,6 +47,28 @@ static void show_quiets(void) {
     }
 }
 
+/* A beacon of an IBSS whose element 41 has two pairs: who sent it, whom it names, and the pairs by their index. AP is the BSSID here. */
+static void show_ibss_beacon(void) {
+    const uint8_t sender[6] = {2, 0, 0, 0, 0, 5}, owner[6] = {2, 0, 0, 0, 0, 7}, pairs[] = {36, 8, 44, 16};
+    uint8_t body[64] = {0, 0, 0, 0, 0, 0, 0, 0, 100, 0, 0, 0};
+    uint8_t frame[128], fields[ONEIRALTH_IBSS_FRAME], pair[ONEIRALTH_PAIR];
+    int64_t many = oneiralth_write_ibss_dfs(oneiralth_address(owner), 3, pairs, sizeof pairs, body + 12, sizeof body - 12);
+    size_t length = action(body, 12 + (size_t)many, frame);
+    frame[0] = 0x80;
+    memcpy(frame + 10, sender, 6);
+    int64_t answer = oneiralth_read_ibss_frame(frame, length, oneiralth_address(OWN), oneiralth_address(AP), 100, fields, sizeof fields);
+    printf("IBSS beacon: answer %d, sender %d, element 41 %d, owner %d, recovery %d, pairs %d\n", (int)answer, fields[ONEIRALTH_IBSS_FRAME_SENDER + 5],
+           fields[ONEIRALTH_IBSS_FRAME_DFS], fields[ONEIRALTH_IBSS_FRAME_OWNER + 5], fields[ONEIRALTH_IBSS_FRAME_RECOVERY], fields[ONEIRALTH_IBSS_FRAME_PAIRS]);
+    for (int i = 0; i <= fields[ONEIRALTH_IBSS_FRAME_PAIRS]; i++) {
+        answer = oneiralth_read_dfs_pair(frame, length, oneiralth_address(OWN), oneiralth_address(AP), 100, (size_t)i, pair, sizeof pair);
+        if (answer == ONEIRALTH_IMPOSSIBLE) printf("pair %d: there is none\n", i);
+        else printf("pair %d: channel %d, map %d\n", i, pair[ONEIRALTH_PAIR_CHANNEL], pair[ONEIRALTH_PAIR_MAP]);
+    }
+    answer = oneiralth_read_ibss_frame(frame, length - 1, oneiralth_address(OWN), oneiralth_address(AP), 100, fields, sizeof fields);
+    printf("cut by an octet: the element at octet %d runs past the end, answer %d\n",
+           (int)oneiralth_ibss_fault_offset(frame, length - 1, oneiralth_address(OWN), oneiralth_address(AP), 100), (int)answer);
+}
+
 static void show_reply(void) {
     const uint8_t body[] = {0, 2, 7, 34, 0};
     uint8_t frame[64], reply[64];
@@ -73,6 +95,7 @@ static void show_list(void) {
 int main(void) {
     show_announcement();
     show_quiets();
+    show_ibss_beacon();
     show_reply();
     show_list();
     printf("centre of 36: %d, of 201: %d\n", (int)oneiralth_centre(36), (int)oneiralth_centre(201));

@@ -2,7 +2,7 @@
  * the scope document's rules. Link with libboundary.a, which `rt staticlib boundary` makes.
  *
  * Nothing is kept between calls. Every function takes every input, always ends, and gives back a number of 0 or more, or minus a refusal's number
- * (-1 to -22, the scope document's table). A refused call leaves every octet of the buffer as it was; an accepted one leaves every octet past those that
+ * (-1 to -22, the scope document's table; -23 is given by no function yet). A refused call leaves every octet of the buffer as it was; an accepted one leaves every octet past those that
  * it says it wrote as it was.
  *
  * An octet range is a pointer and a length; the length may be 0, the pointer is then any that is not null. What is lent for writing must not overlap
@@ -24,13 +24,13 @@ enum {
     ONEIRALTH_TOO_SHORT = -1, /* the frame is under 24 octets, or a fixed field of its body is missing */
     ONEIRALTH_TOO_LONG = -2, /* the frame is over 2,336 octets */
     ONEIRALTH_FOREIGN_HEADER = -3, /* version, type, subtype, a flag or the fragment number is none that is read */
-    ONEIRALTH_FOREIGN_ADDRESS = -4, /* SA or BSSID is not the AP, or DA is neither the station nor all ones */
+    ONEIRALTH_FOREIGN_ADDRESS = -4, /* SA or BSSID is not the AP, or DA is neither the station nor all ones; in an IBSS SA may be any individual address */
     ONEIRALTH_FOREIGN_ACTION = -5, /* category not 0, or action over 4 */
     ONEIRALTH_ELEMENT_CUT = -6, /* an element runs past the frame's end */
     ONEIRALTH_ELEMENT_ABSENT = -7, /* the required element is absent */
     ONEIRALTH_WRONG_LENGTH = -8, /* the length of an element is wrong */
     ONEIRALTH_FORBIDDEN_VALUE = -9, /* a value that the rules forbid */
-    ONEIRALTH_REPEATED = -10, /* a second 32, 35 or 37, or a measurement token used twice */
+    ONEIRALTH_REPEATED = -10, /* a second 32, 35 or 37, in a beacon of an IBSS 41, or a measurement token used twice */
     ONEIRALTH_TOO_MANY_QUIETS = -11, /* a ninth Quiet element */
     ONEIRALTH_OTHER_INTERVAL = -12, /* the beacon's interval is not the station's */
     ONEIRALTH_BUFFER_SHORT = -13, /* the buffer is shorter than what is to be written */
@@ -42,7 +42,8 @@ enum {
     ONEIRALTH_NO_STATION = -19, /* a capture record with no station started */
     ONEIRALTH_RECORD_MALFORMED = -20, /* a malformed capture record */
     ONEIRALTH_OTHER_ELEMENT = -21, /* another element stands where one is required */
-    ONEIRALTH_LEFT_OVER = -22 /* octets are left over after the one element of an action frame */
+    ONEIRALTH_LEFT_OVER = -22, /* octets are left over after the one element of an action frame */
+    ONEIRALTH_FOREIGN_ANNOUNCEMENT = -23 /* in an IBSS, an announcement by any but a known DFS owner */
 };
 
 /* Where each field of a frame stands, and how many octets they are; numbers have their least significant octet first. */
@@ -58,6 +59,23 @@ enum {
     ONEIRALTH_FRAME_REPORT = 31,    /* 1 if there is a TPC Report, power, margin */
     ONEIRALTH_FRAME_SWITCH = 34,    /* 1 if there is a Channel Switch Announcement, mode, channel, count */
     ONEIRALTH_FRAME = 38
+};
+
+/* A frame of an IBSS: the fields above, and these after them. */
+enum {
+    ONEIRALTH_IBSS_FRAME_SENDER = 38,   /* 6 octets */
+    ONEIRALTH_IBSS_FRAME_DFS = 44,      /* 1 if there is an element 41 */
+    ONEIRALTH_IBSS_FRAME_OWNER = 45,    /* 6 octets: its owner */
+    ONEIRALTH_IBSS_FRAME_RECOVERY = 51, /* its recovery interval */
+    ONEIRALTH_IBSS_FRAME_PAIRS = 52,    /* 8 octets: how many pairs of channel and map it has */
+    ONEIRALTH_IBSS_FRAME = 60
+};
+
+/* A pair of element 41. */
+enum {
+    ONEIRALTH_PAIR_CHANNEL = 0,
+    ONEIRALTH_PAIR_MAP = 1,
+    ONEIRALTH_PAIR = 2
 };
 
 /* A Quiet element. */
@@ -142,6 +160,18 @@ int64_t oneiralth_read_request(const uint8_t *frame, size_t frame_length, uint64
 int64_t oneiralth_read_report(const uint8_t *frame, size_t frame_length, uint64_t own, uint64_t ap, uint16_t interval, size_t index, uint8_t *out,
                               size_t out_length);
 
+/* ---- reading as a station of an IBSS does: from any individual address, with element 41 of a beacon */
+
+int64_t oneiralth_read_ibss_frame(const uint8_t *frame, size_t frame_length, uint64_t own, uint64_t bssid, uint16_t interval, uint8_t *out,
+                                  size_t out_length);
+/* As oneiralth_fault_offset. */
+int64_t oneiralth_ibss_fault_offset(const uint8_t *frame, size_t frame_length, uint64_t own, uint64_t bssid, uint16_t interval);
+/* By the index from 0; ONEIRALTH_IMPOSSIBLE where there is none. */
+int64_t oneiralth_read_ibss_quiet(const uint8_t *frame, size_t frame_length, uint64_t own, uint64_t bssid, uint16_t interval, size_t index, uint8_t *out,
+                                  size_t out_length);
+int64_t oneiralth_read_dfs_pair(const uint8_t *frame, size_t frame_length, uint64_t own, uint64_t bssid, uint16_t interval, size_t index, uint8_t *out,
+                                size_t out_length);
+
 /* ---- elements, written from the front of `out` on; power and margin are the octets of signed numbers */
 
 int64_t oneiralth_write_power_constraint(uint8_t decibels, uint8_t *out, size_t out_length);
@@ -149,6 +179,8 @@ int64_t oneiralth_write_tpc_request(uint8_t *out, size_t out_length);
 int64_t oneiralth_write_tpc_report(uint8_t power, uint8_t margin, uint8_t *out, size_t out_length);
 int64_t oneiralth_write_channel_switch(uint8_t mode, uint8_t channel, uint8_t count, uint8_t *out, size_t out_length);
 int64_t oneiralth_write_quiet(uint8_t count, uint8_t period, uint16_t duration, uint16_t offset, uint16_t interval, uint8_t *out, size_t out_length);
+/* Element 41; the pairs are their octets, channel and map in turn, at most 248 of them. */
+int64_t oneiralth_write_ibss_dfs(uint64_t owner, uint8_t recovery, const uint8_t *pairs, size_t pairs_length, uint8_t *out, size_t out_length);
 int64_t oneiralth_write_request(uint8_t token, uint8_t kind, uint8_t asks, bool request, bool report, uint8_t channel, uint64_t start, uint16_t duration,
                                 uint8_t *out, size_t out_length);
 /* `value` is the map or the busy fraction; the densities are eight octets, the first of them the least significant. */

@@ -1,4 +1,4 @@
--- The answer numbers (01, "Answer numbers"; 02, One, for 7, 21 and 22).
+-- The answer numbers (01, "Answer numbers"; 02, One, for 7, 21 and 22, and Five, for 23).
 use Prim.Native.Nat.{ℕ}
 use Rattle.answer.specs.declared.Answer.{Answer}
 use Rattle.answer.specs.declared.Refusal.{Refusal}
@@ -28,6 +28,7 @@ numberOf Refusal.NoStation = 19
 numberOf Refusal.RecordMalformed = 20
 numberOf Refusal.OtherElement = 21
 numberOf Refusal.LeftOver = 22
+numberOf Refusal.ForeignAnnouncement = 23
 
 -- 0 is accepted
 abbrev pub answerNumber : Answer → ℕ

@@ -1,4 +1,4 @@
-// The answers of every call (document 01, "Answer numbers"; 02, One): accepted, or one of twenty-two refusals, and where a frame broke.
+// The answers of every call (document 01, "Answer numbers"; 02, One and Five): accepted, or one of twenty-three refusals, and where a frame broke.
 ghost use mathlib.Core.Path.{_≡_};
 ghost use Rattle.answer.specs.Faults.{faultAt, faultNowhere, verdictOffset};
 ghost use Rattle.answer.specs.Numbers.{numberOf, answerNumber, verdictNumber};
@@ -11,7 +11,7 @@ pub enum Refusal {
     TooLong,
     // Version, type, subtype, a flag or the fragment number is not one that is read.
     ForeignHeader,
-    // SA or BSSID is not the AP, or DA is neither the station nor all ones.
+    // SA or BSSID is not the AP, or DA is neither the station nor all ones. In an IBSS: BSSID is not the station's, SA is a group, or DA is neither.
     ForeignAddress,
     // The category is not 0, or the action is over 4.
     ForeignAction,
@@ -23,7 +23,7 @@ pub enum Refusal {
     WrongLength,
     // A value that the rules forbid.
     ForbiddenValue,
-    // A second 32, 35 or 37 in one frame, or a measurement token used twice.
+    // A second 32, 35 or 37 in one frame, in an IBSS also 41, or a measurement token used twice.
     Repeated,
     // One Quiet element more than a frame may have.
     TooManyQuiets,
@@ -49,6 +49,8 @@ pub enum Refusal {
     OtherElement,
     // In an action frame of one element: octets are left over after it.
     LeftOver,
+    // In an IBSS: an announcement by any but a known DFS owner.
+    ForeignAnnouncement,
 }
 
 // What a call answers where its value stands beside it.
@@ -85,6 +87,7 @@ impl Refusal {
             Refusal::RecordMalformed => 20,
             Refusal::OtherElement => 21,
             Refusal::LeftOver => 22,
+            Refusal::ForeignAnnouncement => 23,
         }
     }
 }

@@ -88,13 +88,13 @@ module _ (b : ℕ) where
   unfolding takes
   allowed-takes id c t a = after-value _ (elementMeans b id c) (adds t) (λ e same. allowed-adds t a e (element-allowed id c e same))
 
-  allowed-says : (n : ℕ) (es : Elements) (t : Told) → Allowed b t → Yields (Allowed b) (says b n es t)
+  allowed-says : (n : ℕ) (es : Elements) (t : Told) → Allowed b t → Yields (Allowed b) (says (takes b) n es t)
   unfolding says
   allowed-says n end t a = of-value (Allowed b) a
   allowed-says n (cutHeader o) t a = of-refusal (Allowed b) _
   allowed-says n (cutContents id) t a = of-refusal (Allowed b) _
   allowed-says n (more id c es) t a =
-      after-value (Allowed b) (placedAt n (takes b id c t)) (says b (pastElement n c) es)
+      after-value (Allowed b) (placedAt n (takes b id c t)) (says (takes b) (pastElement n c) es)
       (λ next e. allowed-says (pastElement n c) es next (allowed-takes id c t a next (placed-value n (takes b id c t) e)))
 
   pub opening-allowed : (body : List ℕ) → Allowed b (opening body)

@@ -1,4 +1,6 @@
 pub mod Allowing
+pub mod InIbss
+pub mod NamedDfs
 pub mod Saying
 pub mod Slots
 pub mod Walking

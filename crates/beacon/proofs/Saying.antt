@@ -14,7 +14,7 @@ use Rattle.element.specs.Quiet.{quietMeans}
 use Rattle.element.specs.TpcReport.{tpcReportMeans}
 use Rattle.octets.specs.Numbers.{number}
 use Rattle.walk.specs.Elements.{Elements, more, elementsIn, pastElement}
-use Rattle.beacon.specs.Beacons.{Told, opening, fixedLength, intervalField, withoutMargin, elementMeans, takes, says, beaconMeans}
+use Rattle.beacon.specs.Beacons.{fixedLength, intervalField, withoutMargin, elementMeans, says, bodyMeans}
 use Rattle.beacon.specs.declared.elements.Element.{Element}
 
 -- ---- an element by its ID
@@ -47,26 +47,24 @@ module _ (b id : ℕ) (c : List ℕ) where
 
 -- ---- all elements
 
--- the outcome of the first one decides whether the others are read
-pub says-more : (b n id : ℕ) (c : List ℕ) (es : Elements) (t : Told) {o : Outcome Told} → takes b id c t ≡ o
-    → says b n (more id c es) t ≡ andThen (placedAt n o) (says b (pastElement n c) es)
-unfolding says
-says-more b n id c es t e = ap (λ (p : Outcome Told). andThen (placedAt n p) (says b (pastElement n c) es)) e
+module _ {A : Type 0} (step : ℕ → List ℕ → A → Outcome A) where
+  -- the outcome of the first one decides whether the others are read
+  pub says-more : (n id : ℕ) (c : List ℕ) (es : Elements) (t : A) {o : Outcome A} → step id c t ≡ o
+      → says step n (more id c es) t ≡ andThen (placedAt n o) (says step (pastElement n c) es)
+  unfolding says
+  says-more n id c es t e = ap (λ (p : Outcome A). andThen (placedAt n p) (says step (pastElement n c) es)) e
 
--- ---- a body
+  -- ---- a body
 
-module _ (b : ℕ) (body : List ℕ) where
-  pub short-body : length body < fixedLength → refused (faultNowhere Refusal.TooShort) ≡ beaconMeans b body
-  unfolding beaconMeans
-  short-body h = stop _ _ _ (lt-ltb _ _ h)
+  module _ (before : A) (b : ℕ) (body : List ℕ) where
+    pub short-body : length body < fixedLength → refused (faultNowhere Refusal.TooShort) ≡ bodyMeans step before b body
+    short-body h = stop _ _ _ (lt-ltb _ _ h)
 
-  -- `n` is the interval as it was read
-  module _ (n : ℕ) (h : fixedLength ≤ length body) (r : n ≡ number 2 intervalField body) where
-    pub other-interval : (n ≡ b → ⊥) → refused (faultAt intervalField Refusal.OtherInterval) ≡ beaconMeans b body
-    unfolding beaconMeans
-    other-interval d = past _ _ _ (le-ltb _ _ h) (stop _ _ _ (rw (ne-eqb (number 2 intervalField body) b (λ e. d (r ∙ e)))))
+    -- `n` is the interval as it was read
+    module _ (n : ℕ) (h : fixedLength ≤ length body) (r : n ≡ number 2 intervalField body) where
+      pub other-interval : (n ≡ b → ⊥) → refused (faultAt intervalField Refusal.OtherInterval) ≡ bodyMeans step before b body
+      other-interval d = past _ _ _ (le-ltb _ _ h) (stop _ _ _ (rw (ne-eqb (number 2 intervalField body) b (λ e. d (r ∙ e)))))
 
-    pub body-says : n ≡ b → {t : Told} → t ≡ opening body → says b fixedLength (elementsIn (drop fixedLength body)) t ≡ beaconMeans b body
-    unfolding beaconMeans
-    body-says e f =
-        past _ _ _ (le-ltb _ _ h) (past _ _ _ (rw (eq-eqb (number 2 intervalField body) b (sym r ∙ e))) (through _ (ap (says b fixedLength (elementsIn (drop fixedLength body))) f)))
+      pub body-says : n ≡ b → {t : A} → t ≡ before → says step fixedLength (elementsIn (drop fixedLength body)) t ≡ bodyMeans step before b body
+      body-says e f =
+          past _ _ _ (le-ltb _ _ h) (past _ _ _ (rw (eq-eqb (number 2 intervalField body) b (sym r ∙ e))) (through _ (ap (says step fixedLength (elementsIn (drop fixedLength body))) f)))

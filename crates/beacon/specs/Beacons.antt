@@ -65,21 +65,25 @@ adds t Element.Other = accepted t
 unfoldable pub takes : ℕ → ℕ → List ℕ → Told → Outcome Told
 takes b id c t = andThen (elementMeans b id c) (adds t)
 
--- all elements, in their order; n octets stand before them
-unfoldable pub says : ℕ → ℕ → Elements → Told → Placed Told
-says b n end t = accepted t
-says b n (cutHeader o) t = refused (faultAt n Refusal.ElementCut)
-says b n (cutContents id) t = refused (faultAt n Refusal.ElementCut)
-says b n (more id c es) t = andThen (placedAt n (takes b id c t)) (says b (pastElement n c) es)
+-- all elements, in their order, each added by `step` to what was said before it; n octets stand before them
+unfoldable pub says : {A : Type 0} → (ℕ → List ℕ → A → Outcome A) → ℕ → Elements → A → Placed A
+says step n end t = accepted t
+says step n (cutHeader o) t = refused (faultAt n Refusal.ElementCut)
+says step n (cutContents id) t = refused (faultAt n Refusal.ElementCut)
+says step n (more id c es) t = andThen (placedAt n (step id c t)) (says step (pastElement n c) es)
+
+-- a body: its fixed fields (1, 12), then the elements, where `before` is said before any of them
+abbrev pub bodyMeans : {A : Type 0} → (ℕ → List ℕ → A → Outcome A) → A → ℕ → List ℕ → Placed A
+bodyMeans step before b body =
+    checked
+    (ltb (length body) fixedLength ⇒ faultNowhere Refusal.TooShort
+    ∷ not (eqb (number 2 intervalField body) b) ⇒ faultAt intervalField Refusal.OtherInterval
+    ∷ [])
+    (says step fixedLength (elementsIn (drop fixedLength body)) before)
 
 -- before any element
 abbrev pub opening : List ℕ → Told
 opening body = tells (elementless (number 8 0 body) (number 2 10 body)) []
 
 unfoldable pub beaconMeans : ℕ → List ℕ → Placed Told
-beaconMeans b body =
-    checked
-    (ltb (length body) fixedLength ⇒ faultNowhere Refusal.TooShort
-    ∷ not (eqb (number 2 intervalField body) b) ⇒ faultAt intervalField Refusal.OtherInterval
-    ∷ [])
-    (says b fixedLength (elementsIn (drop fixedLength body)) (opening body))
+beaconMeans b body = bodyMeans (takes b) (opening body) b body

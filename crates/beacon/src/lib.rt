@@ -1,17 +1,22 @@
-// Beacon and Probe Response bodies (document 01, "Answer numbers" and "Octets"; 802.11h 7.2.3.1 and 7.2.3.9).
+// Beacon and Probe Response bodies (document 01, "Answer numbers" and "Octets"; 02, Five; 802.11h 7.2.3.1 and 7.2.3.9).
 mod adding;
 mod elements;
+mod naming;
 
 ghost use mathlib.Core.Path.{_≡_};
 ghost use Rattle.answer.specs.Checks.{refused};
 ghost use Rattle.answer.specs.Faults.{faultAt};
-ghost use Rattle.beacon.specs.Beacons.{beaconMeans};
+ghost use Rattle.beacon.specs.IbssBeacons.{toldWhere};
 ghost use Rattle.beacon.specs.Laid.{laid};
 use crate::adding::Added;
+use answer::Answer;
 use answer::Fault;
 use answer::Refusal;
 use answer::Verdict;
 use element::channel_switch::ChannelSwitch;
+use element::ibss_dfs;
+use element::ibss_dfs::IbssDfs;
+use element::ibss_dfs::Pair;
 use element::power_constraint::PowerConstraint;
 use element::quiet::Quiet;
 use element::tpc_report::TpcReport;
@@ -60,13 +65,30 @@ impl Notice {
     };
 }
 
+// Whether a beacon has an element 41, what that says, and its pair at an index: 16 past the last, and where there is no element 41.
+pub struct HeardDfs {
+    pub names: bool,
+    pub dfs: IbssDfs,
+    pub pair: Pair,
+}
+
+impl HeardDfs {
+    // No element 41 was read.
+    pub const NONE: HeardDfs = HeardDfs {
+        names: false,
+        dfs: ibss_dfs::NONE,
+        pair: Pair::Refused(Refusal::Impossible),
+    };
+}
+
 // The verdict, the notice, and the Quiet elements beside it: the first `count` slots in the order of the frame, the others blank.
-// A refusal leaves everything blank.
+// Element 41 is read where it is asked for, and else skipped. A refusal leaves everything blank.
 pub struct Heard {
     pub verdict: Verdict,
     pub notice: Notice,
     pub quiets: [Quiet; QUIETS],
     pub count: usize,
+    pub dfs: HeardDfs,
 }
 
 // What a slot holds that is not in use.
@@ -78,29 +100,32 @@ pub const NO_QUIET: Quiet = Quiet {
 };
 
 fn refused(fault: Fault) -> Heard
-    ensures { λ r. ⌜ r ≡ laid (refused fault) ⌝ }
+    ensures { λ r. ⌜ r ≡ laid 0 (refused fault) ⌝ }
 {
     let verdict = Verdict::Refused(fault);
     let notice = Notice::NOTHING;
     let quiets = [NO_QUIET; QUIETS];
+    let dfs = HeardDfs::NONE;
     Heard {
         verdict,
         notice,
         quiets,
         count: 0,
+        dfs,
     }
 }
 
 // The same at an octet of the body, which has so many before it.
 fn refused_at(refusal: Refusal, at: usize) -> Heard
-    ensures { λ r. ⌜ r ≡ laid (refused (faultAt at refusal)) ⌝ }
+    ensures { λ r. ⌜ r ≡ laid 0 (refused (faultAt at refusal)) ⌝ }
 {
     refused(Fault::at(refusal, at))
 }
 
-// A body of a beacon or a probe response, heard by a station whose beacon interval is `interval`.
-pub fn read(body: &[u8], interval: u16) -> Heard
-    ensures { λ r. ⌜ r ≡ laid (beaconMeans interval (now (body .entry))) ⌝ }
+// A body of a beacon or a probe response, heard by a station whose beacon interval is `interval`. In an IBSS a beacon's element 41 is read too, with its pair
+// at the index.
+pub fn read(body: &[u8], interval: u16, ibss: bool, index: usize) -> Heard
+    ensures { λ r. ⌜ r ≡ laid index (toldWhere ibss interval (now (body .entry))) ⌝ }
 {
     if body.len() < FIXED_LENGTH {
         return refused(Fault::nowhere(Refusal::TooShort));
@@ -115,6 +140,7 @@ pub fn read(body: &[u8], interval: u16) -> Heard
     };
     let mut quiets = [NO_QUIET; QUIETS];
     let mut count = 0;
+    let mut dfs = HeardDfs::NONE;
     let mut at = FIXED_LENGTH;
     loop {
         match walk::element_at(body, at) {
@@ -124,6 +150,7 @@ pub fn read(body: &[u8], interval: u16) -> Heard
                     notice,
                     quiets,
                     count,
+                    dfs,
                 };
             }
             Found::CutHeader(_) => {
@@ -133,16 +160,30 @@ pub fn read(body: &[u8], interval: u16) -> Heard
                 return refused_at(Refusal::ElementCut, at);
             }
             Found::Whole { id, start, end } => {
-                match adding::add_element(notice, count, id, &body[start..end], interval) {
-                    Added::Refused(refusal) => {
-                        return refused_at(refusal, at);
+                if naming::reads_dfs(ibss, id) {
+                    let naming = naming::read_dfs(&body[start..end], dfs.names, index);
+                    let answer = naming.answer;
+                    match answer {
+                        Answer::Refused(reason) => {
+                            return refused_at(reason, at);
+                        }
+                        Answer::Accepted => {
+                            let next = naming.dfs;
+                            dfs = next;
+                        }
                     }
-                    Added::Notice(next) => {
-                        notice = next;
-                    }
-                    Added::Quiet(quiet) => {
-                        quiets[count] = quiet;
-                        count += 1;
+                } else {
+                    match adding::add_element(notice, count, id, &body[start..end], interval) {
+                        Added::Refused(refusal) => {
+                            return refused_at(refusal, at);
+                        }
+                        Added::Notice(next) => {
+                            notice = next;
+                        }
+                        Added::Quiet(quiet) => {
+                            quiets[count] = quiet;
+                            count += 1;
+                        }
                     }
                 }
                 at = end;

@@ -16,7 +16,21 @@ put-as may os at buffer answer exit code w e = record { answers = e ∙ ap codeO
 pub given-as : (o : Outcome (List ℕ)) (buffer : List ℕ) (answer : Wrote) (exit : List ℕ) (code : ℕ) → Replied o buffer answer exit → code ≡ codeOf (wroteTold answer) → Given o buffer code exit
 given-as o buffer answer exit code w e = record { answers = e ∙ ap codeOf (w .answers); leaves = w .leaves }
 
--- a refusal, and a buffer that stays
+-- of an outcome that is the same as the one that was asked for
+pub given-from : (o p : Outcome (List ℕ)) (buffer : List ℕ) (answer : Wrote) (exit : List ℕ) (code : ℕ) → p ≡ o → Replied p buffer answer exit → code ≡ codeOf (wroteTold answer) → Given o buffer code exit
+given-from o p buffer answer exit code same w e =
+    given-as o buffer answer exit code (subst (λ (x : Outcome (List ℕ)). Replied x buffer answer exit) same w) e
+
+-- ---- the same before the answer is made a number
+
+pub replied-refused : (o : Outcome (List ℕ)) (r : Refusal) (buffer : List ℕ) → o ≡ refused r → Replied o buffer (Wrote.Refused r) buffer
+replied-refused o r buffer e = subst (λ (x : Outcome (List ℕ)). Replied x buffer (Wrote.Refused r) buffer) (sym e) (record { answers = refl; leaves = refl })
+
+pub replied-put : (o : Outcome (List ℕ)) (os buffer : List ℕ) (answer : Wrote) (exit : List ℕ) → o ≡ accepted os → Written true os 0 buffer answer exit → Replied o buffer answer exit
+replied-put o os buffer answer exit e w =
+    subst (λ (x : Outcome (List ℕ)). Replied x buffer answer exit) (sym e) (record { answers = w .answers; leaves = w .leaves })
+
+-- ---- a refusal, and a buffer that stays
 pub given-refused : (o : Outcome (List ℕ)) (r : Refusal) (buffer : List ℕ) (code : ℕ) → o ≡ refused r → code ≡ refusalCode r → Given o buffer code buffer
 given-refused o r buffer code e f =
     subst (λ (x : Outcome (List ℕ)). Given x buffer code buffer) (sym e) (record { answers = f; leaves = refl })

@@ -1,5 +1,6 @@
 pub mod Coded
 pub mod FieldLengths
+pub mod IbssParts
 pub mod OneOutcome
 pub mod PartsBuilt
 pub mod Passes

@@ -11,11 +11,16 @@ use Rattle.boundary.proofs.reading.oneiralth_fault_offset as Fault-offs
 use Rattle.boundary.proofs.reading.oneiralth_read_quiet as Read-quiet
 use Rattle.boundary.proofs.reading.oneiralth_read_request as Read-request
 use Rattle.boundary.proofs.reading.oneiralth_read_report as Read-report
+use Rattle.boundary.proofs.ibss.oneiralth_read_ibss_frame as Read-ibss-frame
+use Rattle.boundary.proofs.ibss.oneiralth_ibss_fault_offset as Ibss-fault-offset
+use Rattle.boundary.proofs.ibss.oneiralth_read_ibss_quiet as Read-ibss-quiet
+use Rattle.boundary.proofs.ibss.oneiralth_read_dfs_pair as Read-dfs-pair
 use Rattle.boundary.proofs.elements.oneiralth_write_power_constraint as Write-power-constraint
 use Rattle.boundary.proofs.elements.oneiralth_write_tpc_request as Write-tpc-request
 use Rattle.boundary.proofs.elements.oneiralth_write_tpc_report as Write-tpc-report
 use Rattle.boundary.proofs.elements.oneiralth_write_channel_switch as Write-channel-switch
 use Rattle.boundary.proofs.elements.oneiralth_write_quiet as Write-quiet
+use Rattle.boundary.proofs.elements.oneiralth_write_ibss_dfs as Write-ibss-dfs
 use Rattle.boundary.proofs.elements.oneiralth_write_request as Write-request
 use Rattle.boundary.proofs.elements.oneiralth_write_report as Write-report
 use Rattle.boundary.proofs.bodies.oneiralth_write_tpc_request_body as Write-tpc-request-body
@@ -52,6 +57,18 @@ boundary-read-request κs a e f x y p q = given-once p q
 pub boundary-read-report : OneOutcome 2 Read-report.Kinds.ps Read-report.Kinds.r Read-report.Reads.Post (λ κs e. now (e .1 .1 .1 .1 .1 .0))
 boundary-read-report κs a e f x y p q = given-once p q
 
+pub boundary-read-ibss-frame : OneOutcome 2 Read-ibss-frame.Kinds.ps Read-ibss-frame.Kinds.r Read-ibss-frame.Reads.Post (λ κs e. now (e .1 .1 .1 .1 .0))
+boundary-read-ibss-frame κs a e f x y p q = given-once p q
+
+pub boundary-ibss-fault-offset : OneResult 1 Ibss-fault-offset.Kinds.ps Ibss-fault-offset.Kinds.r Ibss-fault-offset.Reads.Post
+boundary-ibss-fault-offset κs a e f x y p q = p ∙ sym q
+
+pub boundary-read-ibss-quiet : OneOutcome 2 Read-ibss-quiet.Kinds.ps Read-ibss-quiet.Kinds.r Read-ibss-quiet.Reads.Post (λ κs e. now (e .1 .1 .1 .1 .1 .0))
+boundary-read-ibss-quiet κs a e f x y p q = given-once p q
+
+pub boundary-read-dfs-pair : OneOutcome 2 Read-dfs-pair.Kinds.ps Read-dfs-pair.Kinds.r Read-dfs-pair.Reads.Post (λ κs e. now (e .1 .1 .1 .1 .1 .0))
+boundary-read-dfs-pair κs a e f x y p q = given-once p q
+
 pub boundary-write-power-constraint : OneOutcome 1 Write-power-constraint.Kinds.ps Write-power-constraint.Kinds.r Write-power-constraint.Reads.Post (λ κs e. now (e .1 .0))
 boundary-write-power-constraint κs a e f x y p q = put-once p q
 
@@ -66,6 +83,9 @@ boundary-write-channel-switch κs a e f x y p q = put-once p q
 
 pub boundary-write-quiet : OneOutcome 1 Write-quiet.Kinds.ps Write-quiet.Kinds.r Write-quiet.Reads.Post (λ κs e. now (e .1 .1 .1 .1 .1 .0))
 boundary-write-quiet κs a e f x y p q = put-once p q
+
+pub boundary-write-ibss-dfs : OneOutcome 2 Write-ibss-dfs.Kinds.ps Write-ibss-dfs.Kinds.r Write-ibss-dfs.Reads.Post (λ κs e. now (e .1 .1 .1 .0))
+boundary-write-ibss-dfs κs a e f x y p q = put-once p q
 
 pub boundary-write-request : OneOutcome 1 Write-request.Kinds.ps Write-request.Kinds.r Write-request.Reads.Post (λ κs e. now (e .1 .1 .1 .1 .1 .1 .1 .1 .0))
 boundary-write-request κs a e f x y p q = put-once p q

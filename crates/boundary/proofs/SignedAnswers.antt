@@ -10,15 +10,17 @@ use lib.ListN.{length}
 use Rattle.answer.proofs.Judged.{passed, kept}
 use Rattle.answer.specs.Checks.{Outcome, refused, accepted, andThen}
 use Rattle.answer.specs.Faults.{Placed}
+use Rattle.answer.specs.declared.Fault.{Fault}
 use Rattle.answer.specs.declared.Offset.{Offset}
 use Rattle.answer.specs.declared.Refusal.{Refusal}
 use Rattle.channel.specs.Centres.{highest, centreOf}
 use Rattle.fraction.proofs.Possible.{within}
 use Rattle.fraction.proofs.SumBound.{fraction-bound}
 use Rattle.fraction.specs.Fractions.{fractionOf, possible, busyOf}
-use Rattle.frame.proofs.Within.{frame-within}
+use Rattle.frame.proofs.Within.{frame-within, ibss-frame-within}
 use Rattle.frame.specs.CodeTerms.Located.{OffsetWithin}
-use Rattle.frame.specs.Frames.{Sent, frameMeans}
+use Rattle.frame.specs.Frames.{frameMeans}
+use Rattle.frame.specs.IbssFrames.{ibssFrameMeans}
 use Rattle.octets.specs.Writing.{room, wrote, after, left}
 use Rattle.reply.specs.Replies.{leftBy}
 use Rattle.boundary.proofs.RefusalNumbers.{numbered, same-refusal}
@@ -30,11 +32,16 @@ use Rattle.boundary.proofs.reading.oneiralth_fault_offset as Fault-offs
 use Rattle.boundary.proofs.reading.oneiralth_read_quiet as Read-quiet
 use Rattle.boundary.proofs.reading.oneiralth_read_request as Read-request
 use Rattle.boundary.proofs.reading.oneiralth_read_report as Read-report
+use Rattle.boundary.proofs.ibss.oneiralth_read_ibss_frame as Read-ibss-frame
+use Rattle.boundary.proofs.ibss.oneiralth_ibss_fault_offset as Ibss-fault-offset
+use Rattle.boundary.proofs.ibss.oneiralth_read_ibss_quiet as Read-ibss-quiet
+use Rattle.boundary.proofs.ibss.oneiralth_read_dfs_pair as Read-dfs-pair
 use Rattle.boundary.proofs.elements.oneiralth_write_power_constraint as Write-power-constraint
 use Rattle.boundary.proofs.elements.oneiralth_write_tpc_request as Write-tpc-request
 use Rattle.boundary.proofs.elements.oneiralth_write_tpc_report as Write-tpc-report
 use Rattle.boundary.proofs.elements.oneiralth_write_channel_switch as Write-channel-switch
 use Rattle.boundary.proofs.elements.oneiralth_write_quiet as Write-quiet
+use Rattle.boundary.proofs.elements.oneiralth_write_ibss_dfs as Write-ibss-dfs
 use Rattle.boundary.proofs.elements.oneiralth_write_request as Write-request
 use Rattle.boundary.proofs.elements.oneiralth_write_report as Write-report
 use Rattle.boundary.proofs.bodies.oneiralth_write_tpc_request_body as Write-tpc-request-body
@@ -119,12 +126,9 @@ offset-in-range : (size : ℕ) → size < 2 ^ 63 → (r : Refusal) (o : Offset) 
 offset-in-range size h r Offset.Absent k = tt
 offset-in-range size h r (Offset.At n) k = omega arith
 
-fault-in-range : (own ap' : List ℕ) (b : ℕ) (f : List ℕ) → length f < 2 ^ 63 → InRange (faultOffset (frameMeans own ap' b f))
-fault-in-range own ap' b f h = by (frameMeans own ap' b f) refl
-  where
-    by : (o : Placed Sent) → frameMeans own ap' b f ≡ o → InRange (faultOffset o)
-    by (refused x) e = offset-in-range (length f) h (x .refusal) (x .offset) (frame-within own ap' b f x e)
-    by (accepted s) e = tt
+fault-in-range : {A : Type 0} (size : ℕ) → size < 2 ^ 63 → (o : Placed A) → ((x : Fault) → o ≡ refused x → OffsetWithin size (x .offset)) → InRange (faultOffset o)
+fault-in-range size h (refused x) k = offset-in-range size h (x .refusal) (x .offset) (k x refl)
+fault-in-range size h (accepted a) k = tt
 
 -- a slice of octets has fewer than 2 ^ 63 of them
 fewer : {n : ℕ} → (n < 2 ^ 64) × (n * 1 < 2 ^ 63) → n < 2 ^ 63
@@ -138,11 +142,16 @@ pub record EveryCall : Type 0 where
   pub read-quiet : EachAnswers 2 Read-quiet.Kinds.ps Read-quiet.Reads.Post (λ κs a. now (a .1 .1 .1 .1 .1 .0)) (λ κs e. now (e .1 .1 .1 .1 .1 .0))
   pub read-request : EachAnswers 2 Read-request.Kinds.ps Read-request.Reads.Post (λ κs a. now (a .1 .1 .1 .1 .1 .0)) (λ κs e. now (e .1 .1 .1 .1 .1 .0))
   pub read-report : EachAnswers 2 Read-report.Kinds.ps Read-report.Reads.Post (λ κs a. now (a .1 .1 .1 .1 .1 .0)) (λ κs e. now (e .1 .1 .1 .1 .1 .0))
+  pub read-ibss-frame : EachAnswers 2 Read-ibss-frame.Kinds.ps Read-ibss-frame.Reads.Post (λ κs a. now (a .1 .1 .1 .1 .0)) (λ κs e. now (e .1 .1 .1 .1 .0))
+  pub ibss-fault-offset : EachAnswers 1 Ibss-fault-offset.Kinds.ps Ibss-fault-offset.Reads.Post (λ κs a. []) (λ κs e. [])
+  pub read-ibss-quiet : EachAnswers 2 Read-ibss-quiet.Kinds.ps Read-ibss-quiet.Reads.Post (λ κs a. now (a .1 .1 .1 .1 .1 .0)) (λ κs e. now (e .1 .1 .1 .1 .1 .0))
+  pub read-dfs-pair : EachAnswers 2 Read-dfs-pair.Kinds.ps Read-dfs-pair.Reads.Post (λ κs a. now (a .1 .1 .1 .1 .1 .0)) (λ κs e. now (e .1 .1 .1 .1 .1 .0))
   pub write-power-constraint : EachAnswers 1 Write-power-constraint.Kinds.ps Write-power-constraint.Reads.Post (λ κs a. now (a .1 .0)) (λ κs e. now (e .1 .0))
   pub write-tpc-request : EachAnswers 1 Write-tpc-request.Kinds.ps Write-tpc-request.Reads.Post (λ κs a. now (a .0)) (λ κs e. now (e .0))
   pub write-tpc-report : EachAnswers 1 Write-tpc-report.Kinds.ps Write-tpc-report.Reads.Post (λ κs a. now (a .1 .1 .0)) (λ κs e. now (e .1 .1 .0))
   pub write-channel-switch : EachAnswers 1 Write-channel-switch.Kinds.ps Write-channel-switch.Reads.Post (λ κs a. now (a .1 .1 .1 .0)) (λ κs e. now (e .1 .1 .1 .0))
   pub write-quiet : EachAnswers 1 Write-quiet.Kinds.ps Write-quiet.Reads.Post (λ κs a. now (a .1 .1 .1 .1 .1 .0)) (λ κs e. now (e .1 .1 .1 .1 .1 .0))
+  pub write-ibss-dfs : EachAnswers 2 Write-ibss-dfs.Kinds.ps Write-ibss-dfs.Reads.Post (λ κs a. now (a .1 .1 .1 .0)) (λ κs e. now (e .1 .1 .1 .0))
   pub write-request : EachAnswers 1 Write-request.Kinds.ps Write-request.Reads.Post (λ κs a. now (a .1 .1 .1 .1 .1 .1 .1 .1 .0)) (λ κs e. now (e .1 .1 .1 .1 .1 .1 .1 .1 .0))
   pub write-report : EachAnswers 1 Write-report.Kinds.ps Write-report.Reads.Post (λ κs a. now (a .1 .1 .1 .1 .1 .1 .1 .1 .0)) (λ κs e. now (e .1 .1 .1 .1 .1 .1 .1 .1 .0))
   pub write-tpc-request-body : EachAnswers 1 Write-tpc-request-body.Kinds.ps Write-tpc-request-body.Reads.Post (λ κs a. now (a .1 .0)) (λ κs e. now (e .1 .0))
@@ -164,15 +173,23 @@ every-call =
       fault-offset =
           λ κs a e x g p.
           answers (faultOffset (frameMeans (addressOf (a .1 .0)) (addressOf (a .1 .1 .0)) (a .1 .1 .1 .0) (now (a .0)))) x [] []
-          (fault-in-range (addressOf (a .1 .0)) (addressOf (a .1 .1 .0)) (a .1 .1 .1 .0) (now (a .0)) (fewer (g .0))) p (λ r f. refl);
+          (fault-in-range _ (fewer (g .0)) _ (frame-within (addressOf (a .1 .0)) (addressOf (a .1 .1 .0)) (a .1 .1 .1 .0) (now (a .0)))) p (λ r f. refl);
       read-quiet = λ κs a e x g p. given-answers _ (fewer (g .1 .1 .1 .1 .1 .0)) p;
       read-request = λ κs a e x g p. given-answers _ (fewer (g .1 .1 .1 .1 .1 .0)) p;
       read-report = λ κs a e x g p. given-answers _ (fewer (g .1 .1 .1 .1 .1 .0)) p;
+      read-ibss-frame = λ κs a e x g p. given-answers _ (fewer (g .1 .1 .1 .1 .0)) p;
+      ibss-fault-offset =
+          λ κs a e x g p.
+          answers (faultOffset (ibssFrameMeans (addressOf (a .1 .0)) (addressOf (a .1 .1 .0)) (a .1 .1 .1 .0) (now (a .0)))) x [] []
+          (fault-in-range _ (fewer (g .0)) _ (ibss-frame-within (addressOf (a .1 .0)) (addressOf (a .1 .1 .0)) (a .1 .1 .1 .0) (now (a .0)))) p (λ r f. refl);
+      read-ibss-quiet = λ κs a e x g p. given-answers _ (fewer (g .1 .1 .1 .1 .1 .0)) p;
+      read-dfs-pair = λ κs a e x g p. given-answers _ (fewer (g .1 .1 .1 .1 .1 .0)) p;
       write-power-constraint = λ κs a e x g p. put-answers _ (fewer (g .1 .0)) p;
       write-tpc-request = λ κs a e x g p. put-answers _ (fewer (g .0)) p;
       write-tpc-report = λ κs a e x g p. put-answers _ (fewer (g .1 .1 .0)) p;
       write-channel-switch = λ κs a e x g p. put-answers _ (fewer (g .1 .1 .1 .0)) p;
       write-quiet = λ κs a e x g p. put-answers _ (fewer (g .1 .1 .1 .1 .1 .0)) p;
+      write-ibss-dfs = λ κs a e x g p. put-answers _ (fewer (g .1 .1 .1 .0)) p;
       write-request = λ κs a e x g p. put-answers _ (fewer (g .1 .1 .1 .1 .1 .1 .1 .1 .0)) p;
       write-report = λ κs a e x g p. put-answers _ (fewer (g .1 .1 .1 .1 .1 .1 .1 .1 .0)) p;
       write-tpc-request-body = λ κs a e x g p. put-answers _ (fewer (g .1 .0)) p;

@@ -6,15 +6,15 @@ use native.Mathlib.Omega.{arith}
 use Rattle.answer.specs.Checks.{Outcome, refused, accepted}
 use Rattle.answer.specs.Faults.{Placed}
 use Rattle.answer.specs.declared.Answer.{Answer}
-use Rattle.answer.specs.declared.Fault.{Fault}
 use Rattle.answer.specs.declared.Refusal.{Refusal}
 use Rattle.measurement_element.specs.MeasurementReport.{reportLaid}
 use Rattle.measurement_element.specs.declared.measurement_report.Report.{Report}
 use Rattle.fraction.specs.Fractions.{laid}
 use Rattle.frame.specs.Frames.{Sent}
-use Rattle.frame.specs.Laid.{frameLaid}
-use Rattle.frame.specs.declared.Frame.{Frame}
-use Rattle.frame.specs.declared.Reading.{Reading}
+use Rattle.frame.specs.IbssFrames.{SentInIbss}
+use Rattle.frame.specs.IbssLaid.{ibssLaid}
+use Rattle.frame.specs.Laid.{frameTold, frameLaid}
+use Rattle.boundary.specs.FaultOffsets.{faultOffset}
 
 -- the answer alone
 abbrev answerOf : {A : Type 0} → Outcome A → Answer
@@ -42,11 +42,11 @@ pub report-accepted : (o : Outcome Report) → reportLaid o .answer ≡ Answer.A
 report-accepted (refused r) e = absurd (let z : _≡_ {A = ℕ} 0 1 = cc in omega arith)
 report-accepted (accepted p) e = refl
 
--- a frame, by its reading
-pub frame-refused : (o : Placed Sent) (x : Fault) → frameLaid o .reading ≡ Reading.Refused x → o ≡ refused x
-frame-refused (refused y) x e = cc
-frame-refused (accepted s) x e = absurd (let z : _≡_ {A = ℕ} 0 1 = cc in omega arith)
+-- the place of a frame's fault, by its reading
+pub frame-fault : (o : Placed Sent) → faultOffset (frameTold (frameLaid o .reading)) ≡ faultOffset o
+frame-fault (refused x) = refl
+frame-fault (accepted s) = refl
 
-pub frame-accepted : (o : Placed Sent) (f : Frame) → frameLaid o .reading ≡ Reading.Is f → (s : Sent) × (o ≡ accepted s)
-frame-accepted (refused y) f e = absurd (let z : _≡_ {A = ℕ} 0 1 = cc in omega arith)
-frame-accepted (accepted s) f e = (s, refl)
+pub ibss-fault : (o : Placed SentInIbss) → faultOffset (frameTold (ibssLaid o .received .reading)) ≡ faultOffset o
+ibss-fault (refused x) = refl
+ibss-fault (accepted s) = refl

@@ -1,2 +1,3 @@
--- Where a pass over the blocks of a capture stands.
+-- The code's own terms, which no public promise cites.
+pub mod HeldQuiets
 pub mod Passing

@@ -3,6 +3,7 @@ use mathlib.Core.List.{List, [], _∷_, _++_}
 use Prim.Native.Nat.{ℕ}
 use Rattle.answer.specs.Checks.{Outcome, andThen}
 use Rattle.answer.specs.Faults.{Placed, withoutPlace}
+use Rattle.element.specs.declared.ibss_dfs.ChannelMap.{ChannelMap}
 use Rattle.element.specs.declared.quiet.Quiet.{Quiet}
 use Rattle.frame.specs.Frames.{Sent}
 use Rattle.frame.specs.Laid.{quietsOf}
@@ -22,6 +23,11 @@ use Rattle.boundary.specs.declared.element_fields.Said.{Said}
 
 abbrev pub quietOf : ℕ → Placed Sent → Outcome Quiet
 quietOf i o = andThen (withoutPlace o) (λ s. nth i (quietsOf (s .kind)))
+
+-- ---- a pair of element 41: channel, map
+
+abbrev pub pairFields : ChannelMap → List ℕ
+pairFields p = p .channel ∷ p .map ∷ []
 
 -- ---- a Measurement Request element: what is asked, by the numbers that a writer takes; the two bits of an Enable element
 

@@ -5,4 +5,5 @@ pub mod FaultOffsets
 pub mod Findings
 pub mod FrameFields
 pub mod Given
+pub mod IbssFields
 pub mod SignedAnswers

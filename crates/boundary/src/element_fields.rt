@@ -3,9 +3,10 @@ ghost use mathlib.Core.Bool.{true};
 ghost use mathlib.Core.Path.{_≡_};
 ghost use Rattle.element.specs.Quiet.{quietContents};
 ghost use Rattle.octets.specs.Writing.{Written};
-ghost use Rattle.boundary.specs.ElementFields.{askedBy, requestFields, reasonNumber, foundNumber, foundValue, saidBy, reportFields};
+ghost use Rattle.boundary.specs.ElementFields.{pairFields, askedBy, requestFields, reasonNumber, foundNumber, foundValue, saidBy, reportFields};
 use crate::frame_fields;
 use answer::Refusal;
+use element::ibss_dfs::ChannelMap;
 use element::quiet::Quiet;
 use measurement_element::Found;
 use measurement_element::Span;
@@ -41,6 +42,14 @@ pub fn put_quiet(quiet: Quiet, out: &mut [u8]) -> Wrote
         offset[0],
         offset[1],
     ];
+    octets::put(true, &fields, out, 0)
+}
+
+// A pair of element 41.
+pub fn put_pair(pair: ChannelMap, out: &mut [u8]) -> Wrote
+    ensures { λ r. ⌜ Written true (pairFields pair) 0 (now (out .entry)) r (now (out .exit)) ⌝ }
+{
+    let fields = [pair.channel, pair.map];
     octets::put(true, &fields, out, 0)
 }
 

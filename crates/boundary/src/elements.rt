@@ -1,18 +1,20 @@
-// The seven elements, written from the front of the buffer on (document 01, "Octets").
+// The elements, written from the front of the buffer on (document 01, "Octets"; document 02, Five).
 ghost use mathlib.Core.Bool.{true};
 ghost use Rattle.element.specs.ChannelSwitch.{switchMay, switchOctets};
+ghost use Rattle.element.specs.IbssDfs.{dfsOf, dfsMay, dfsOctets};
 ghost use Rattle.measurement_element.specs.MeasurementReport.{reportMay, reportOctets};
 ghost use Rattle.measurement_element.specs.MeasurementRequest.{requestMay, requestOctets};
 ghost use Rattle.element.specs.PowerConstraint.{powerOctets};
 ghost use Rattle.element.specs.Quiet.{quietMay, quietOctets};
 ghost use Rattle.element.specs.TpcReport.{tpcReportOctets};
 ghost use Rattle.element.specs.TpcRequest.{tpcRequestOctets};
-ghost use Rattle.boundary.specs.Codes.{Put};
+ghost use Rattle.boundary.specs.Codes.{addressOf, Put};
 ghost use Rattle.boundary.specs.Given.{tpcGiven, requestGiven, reportGiven};
 use crate::codes;
 use crate::given;
 use element::channel_switch;
 use element::channel_switch::ChannelSwitch;
+use element::ibss_dfs;
 use element::power_constraint;
 use element::power_constraint::PowerConstraint;
 use element::quiet;
@@ -78,6 +80,20 @@ pub extern "C" fn oneiralth_write_quiet(
         offset,
     };
     codes::wrote(quiet::write(quiet, interval, out, 0))
+}
+
+// The pairs are their octets, channel and map in turn.
+#[no_mangle]
+pub extern "C" fn oneiralth_write_ibss_dfs(
+    owner: u64,
+    recovery: u8,
+    pairs: &[u8],
+    out: &mut [u8],
+) -> u64
+    ensures { λ r. ⌜ Put (dfsMay (dfsOf (addressOf owner) recovery (now (pairs .entry)))) (dfsOctets (dfsOf (addressOf owner) recovery (now (pairs .entry)))) 0 (now (out .entry)) r (now (out .exit)) ⌝ }
+{
+    let owner = codes::address(owner);
+    codes::wrote(ibss_dfs::write(owner, recovery, pairs, out, 0))
 }
 
 #[no_mangle]

@@ -10,11 +10,8 @@ ghost use Rattle.boundary.specs.FaultOffsets.{faultOffset};
 ghost use Rattle.boundary.specs.FrameFields.{frameFields};
 use crate::codes;
 use crate::element_fields;
-use crate::frame_fields;
+use crate::received;
 use answer::Answer;
-use answer::Offset;
-use answer::Refusal;
-use frame::Reading;
 use measurement_element::measurement_request;
 
 #[no_mangle]
@@ -29,19 +26,8 @@ pub extern "C" fn oneiralth_read_frame(
 {
     let own = codes::address(own);
     let ap = codes::address(ap);
-    let received = frame::read(frame, own, ap, interval);
-    let reading = received.reading;
-    match reading {
-        Reading::Refused(fault) => {
-            let refusal = fault.refusal;
-            codes::refused(refusal)
-        }
-        Reading::Is(frame) => {
-            let fields = frame_fields::of_frame(frame);
-            let count = received.count as u64;
-            codes::wrote(frame_fields::put(fields, received.broadcast, count, out))
-        }
-    }
+    let heard = frame::read(frame, own, ap, interval);
+    codes::wrote(received::put_frame(heard, out))
 }
 
 // Where a frame that is refused broke: the offset of the octet at fault. A refusal that has none is answered again, and an accepted frame is 16.
@@ -51,19 +37,9 @@ pub extern "C" fn oneiralth_fault_offset(frame: &[u8], own: u64, ap: u64, interv
 {
     let own = codes::address(own);
     let ap = codes::address(ap);
-    let received = frame::read(frame, own, ap, interval);
-    let reading = received.reading;
-    match reading {
-        Reading::Is(_) => codes::refused(Refusal::Impossible),
-        Reading::Refused(fault) => {
-            let refusal = fault.refusal;
-            let offset = fault.offset;
-            match offset {
-                Offset::Absent => codes::refused(refusal),
-                Offset::At(before) => before as u64,
-            }
-        }
-    }
+    let heard = frame::read(frame, own, ap, interval);
+    let reading = heard.reading;
+    received::fault_offset(reading)
 }
 
 // A Quiet element by its index, as the measurement elements are.
@@ -80,21 +56,8 @@ pub extern "C" fn oneiralth_read_quiet(
 {
     let own = codes::address(own);
     let ap = codes::address(ap);
-    let received = frame::read(frame, own, ap, interval);
-    let reading = received.reading;
-    let quiets = received.quiets;
-    match reading {
-        Reading::Refused(fault) => {
-            let refusal = fault.refusal;
-            codes::refused(refusal)
-        }
-        Reading::Is(_) => {
-            if received.count <= index {
-                return codes::refused(Refusal::Impossible);
-            }
-            codes::wrote(element_fields::put_quiet(quiets[index], out))
-        }
-    }
+    let heard = frame::read(frame, own, ap, interval);
+    codes::wrote(received::put_quiet(heard, index, out))
 }
 
 #[no_mangle]

@@ -37,8 +37,8 @@ use Rattle.octets.specs.declared.writing.Wrote.{Wrote}
 use Rattle.reply.proofs.Framed.{head-length}
 use Rattle.reply.proofs.OneReport.{body, short-body}
 use Rattle.reply.specs.Due.{asks, breaks, dueMeans}
-use Rattle.reply.specs.Frames.{replyHead, replyFrame}
-use Rattle.reply.specs.Replies.{tpcReply, measurementReply, leftBy, Replied}
+use Rattle.reply.specs.Frames.{headTo, replyFrame}
+use Rattle.reply.specs.Replies.{tpcReply, measurementReply, leftBy, Replied, tpcReplyIn, measurementReplyIn}
 use Rattle.single_body.specs.Singles.{tpcReportBody}
 use Rattle.claims.proofs.DueFrames.{owed-by-station, element-allowed}
 use Rattle.claims.proofs.OwedReports.{owed}
@@ -119,7 +119,7 @@ module _ (own ap' f : List ℕ) where
   reply-length : (asked : Body) → dueMeans own ap' f ≡ accepted (asks asked) → (os : List ℕ) → length (replyFrame own ap' os) ≡ headerLength + length os
   reply-length asked d os =
       let a = owed-by-station own ap' f (asks asked) d in
-      length-append (replyHead own ap') os ∙ ap (λ (n : ℕ). n + length os) (head-length own ap' (ap length (sym (a .toStation))) (ap length (sym (a .fromAp))))
+      length-append (headTo own ap' ap') os ∙ ap (λ (n : ℕ). n + length os) (head-length own ap' ap' (ap length (sym (a .toStation))) (ap length (sym (a .fromAp))) (ap length (sym (a .fromAp))))
 
   -- ---- TPC Requests
 
@@ -130,7 +130,7 @@ module _ (own ap' f : List ℕ) where
         subst₃ (λ (o : Outcome (List ℕ)) (b x : List ℕ). Replied o b answer x) same lent left promised
 
     pub tpc-answered : (token : ℕ) → dueMeans own ap' f ≡ accepted (asks (tpcRequest token)) → Answered (tpcReply own ap' report f) (TpcCall own ap' f report)
-    unfolding tpcReply tpcReportOctets
+    unfolding tpcReplyIn tpcReportOctets
     tpc-answered token d =
         let given : tpcReply own ap' report f ≡ accepted (replyFrame own ap' (tpcReportBody token report)) = rw d in
         record {
@@ -152,7 +152,7 @@ module _ (own ap' f : List ℕ) where
     module _ (readings : Readings) (token : ℕ) (rs : List Request) (q : Request) (due : dueMeans own ap' f ≡ accepted (asks (requests token rs))) (at : nth index rs ≡ accepted q) where
       -- with all possible readings
       pub element-answered : length (readings .times) ≡ 8 → Possible clock readings q → Answered (measurementReply own ap' clock index readings f) (MeasurementCall own ap' f clock index readings)
-      unfolding measurementReply checked
+      unfolding measurementReplyIn checked
       element-answered eight possible =
           let w = writable clock readings q (element-allowed own ap' f token rs index q due at) possible in
           let x = w .report in

@@ -12,14 +12,14 @@ use Rattle.element.specs.declared.channel_switch.ChannelSwitch.{ChannelSwitch}
 use Rattle.pending.specs.Waiting.{silences, upTo, comesBefore}
 use Rattle.pending.specs.declared.Pending.{Pending}
 use Rattle.schedule.proofs.FirstUnit.{found, some-one}
-use Rattle.station.specs.Asking.{firstOf, quiet, quietBetween, permissionOf}
+use Rattle.station.specs.Asking.{firstOf, quiet, quietBetween, permissionNumber, permissionOf}
 use Rattle.station.specs.declared.Station.{Station}
 use Rattle.station.specs.declared.asking.Permission.{Permission}
-use Rattle.capture_record.specs.declared.entry.Settings.{Settings}
-use Rattle.claims.specs.Histories.{History, clockAfter}
+use Rattle.claims.specs.Histories.{History, clockAfter, Listener}
 use Rattle.claims.specs.OpenUnits.{QuietUnit, AllOpen, Waits, QuietLater, SwitchWithin, Applies}
-use Rattle.claims.specs.Records.{Agrees}
+use Rattle.claims.specs.Records.{Agreeing}
 use Rattle.claims.specs.Standing.{Awaits, PendingIs}
+use Rattle.claims.proofs.Following.{Sound}
 use Rattle.claims.proofs.OneSaying.{announced-one, pending-one}
 use Rattle.claims.proofs.QuietUnits.{quiet-unit, unit-quiet}
 
@@ -35,47 +35,47 @@ module _ {t : Bool} {P : Type 0} (x : Tells-whether t P) where
   denies : (P → ⊥) → t ≡ false
   denies f = ⊎-elim (λ (y : t ≡ true). absurd (f (x .holds y))) (λ (n : t ≡ false). n) (either t)
 
-module _ (s : Settings) (pos : 1 ≤ s .interval) (h : History) (r : Station) (a : Agrees s h r) where
+module _ (l : Listener) (sound : Sound l) (pos : 1 ≤ l .interval) (h : History) (r : Station) (a : Agreeing l h r) where
   -- ---- the pending switch
 
   abbrev awaited : ℕ → ChannelSwitch → Pending
   awaited at w = Pending.Switch (record { at = at; mode = w .mode; channel = w .channel })
 
-  pending-of : (at : ℕ) (w : ChannelSwitch) → Awaits s h at w → r .pending ≡ awaited at w
-  pending-of at w x = pending-one s pos h (r .pending) (awaited at w) (a .pending-told) (w, x, refl, refl)
+  pending-of : (at : ℕ) (w : ChannelSwitch) → Awaits l h at w → r .pending ≡ awaited at w
+  pending-of at w x = pending-one l sound pos h (r .pending) (awaited at w) (a .pending-told) (w, x, refl, refl)
 
-  waits : Tells-whether (silences (r .pending)) (Waits s h)
+  waits : Tells-whether (silences (r .pending)) (Waits l h)
   waits = record { holds = λ e. by-pending (r .pending) (a .pending-told) e; shows = λ x. ap silences (pending-of (x .0) (x .1) (x .2)) ∙ eq-eqb (x .1 .mode) 1 (x .3) }
     where
-      by-pending : (p : Pending) → PendingIs s h p → silences p ≡ true → Waits s h
+      by-pending : (p : Pending) → PendingIs l h p → silences p ≡ true → Waits l h
       by-pending Pending.Nothing y e = clash (sym e)
       by-pending (Pending.Switch q) (w, y, m, c) e = (q .at, w, y, m ∙ eqb-true (q .mode) 1 e)
 
-  within : (n : ℕ) → Tells-whether (comesBefore (r .pending) (r .clock + n)) (SwitchWithin s h n)
+  within : (n : ℕ) → Tells-whether (comesBefore (r .pending) (r .clock + n)) (SwitchWithin l h n)
   within n =
       record {
         holds = λ e. by-pending (r .pending) (a .pending-told) e;
         shows = λ x. ap (λ (p : Pending). comesBefore p (r .clock + n)) (pending-of (x .0) (x .1) (x .2)) ∙ lt-ltb (x .0) (r .clock + n) (omega (arith, x .3, a .same-clock));
       }
     where
-      by-pending : (p : Pending) → PendingIs s h p → comesBefore p (r .clock + n) ≡ true → SwitchWithin s h n
+      by-pending : (p : Pending) → PendingIs l h p → comesBefore p (r .clock + n) ≡ true → SwitchWithin l h n
       by-pending Pending.Nothing y e = clash (sym e)
       by-pending (Pending.Switch q) (w, y, m, c) e = (q .at, w, y, omega (arith, ltb-true (q .at) (r .clock + n) e, a .same-clock))
 
   -- ---- the quiet units
 
-  quiet-now : Tells-whether (quiet r (r .clock)) (QuietUnit s h (clockAfter h))
+  quiet-now : Tells-whether (quiet r (r .clock)) (QuietUnit l h (clockAfter h))
   quiet-now =
       record {
-        holds = λ e. quiet-unit s pos h (clockAfter h) r a (le-refl _) (subst (λ (u : ℕ). quiet r u ≡ true) (a .same-clock) e);
-        shows = λ q. subst (λ (u : ℕ). quiet r u ≡ true) (sym (a .same-clock)) (unit-quiet s pos h (clockAfter h) r a (le-refl _) q);
+        holds = λ e. quiet-unit l sound pos h (clockAfter h) r a (le-refl _) (subst (λ (u : ℕ). quiet r u ≡ true) (a .same-clock) e);
+        shows = λ q. subst (λ (u : ℕ). quiet r u ≡ true) (sym (a .same-clock)) (unit-quiet l sound pos h (clockAfter h) r a (le-refl _) q);
       }
 
   -- before the end, and before the pending switch, if any
   abbrev Before : Pending → ℕ → ℕ → Type 0
-  Before p e u = (u < e) × ((at : ℕ) (w : ChannelSwitch) → Awaits s h at w → u < at)
+  Before p e u = (u < e) × ((at : ℕ) (w : ChannelSwitch) → Awaits l h at w → u < at)
 
-  up-to : (p : Pending) (e u : ℕ) → PendingIs s h p → u < upTo p e → Before p e u
+  up-to : (p : Pending) (e u : ℕ) → PendingIs l h p → u < upTo p e → Before p e u
   up-to Pending.Nothing e u y lt = (lt, λ at w x. absurd (y at w x))
   up-to (Pending.Switch q) e u y lt =
       ⊎-elim
@@ -83,10 +83,10 @@ module _ (s : Settings) (pos : 1 ≤ s .interval) (h : History) (r : Station) (a
       (λ (z : ltb (q .at) e ≡ false). let k : u < e = simp z at lt in (k, λ at w x. omega (arith, same at w x, ltb-false (q .at) e z)))
       (either (ltb (q .at) e))
     where
-      same : (at : ℕ) (w : ChannelSwitch) → Awaits s h at w → q .at ≡ at
-      same at w x = ap (λ (z : ℕ × ChannelSwitch). z .0) (announced-one s pos h (q .at, y .0) (at, w) (y .1 .0) (x .0))
+      same : (at : ℕ) (w : ChannelSwitch) → Awaits l h at w → q .at ≡ at
+      same at w x = ap (λ (z : ℕ × ChannelSwitch). z .0) (announced-one l sound pos h (q .at, y .0) (at, w) (y .1 .0) (x .0))
 
-  up-to-back : (p : Pending) (e u : ℕ) → PendingIs s h p → Before p e u → u < upTo p e
+  up-to-back : (p : Pending) (e u : ℕ) → PendingIs l h p → Before p e u → u < upTo p e
   up-to-back Pending.Nothing e u y b = b .0
   up-to-back (Pending.Switch q) e u y b =
       ⊎-elim
@@ -98,7 +98,7 @@ module _ (s : Settings) (pos : 1 ≤ s .interval) (h : History) (r : Station) (a
   abbrev end : ℕ → ℕ
   end n = upTo (r .pending) (r .clock + n)
 
-  quiet-later : (n : ℕ) → Tells-whether (quietBetween r (r .clock + 1) (end n)) (QuietLater s h n)
+  quiet-later : (n : ℕ) → Tells-whether (quietBetween r (r .clock + 1) (end n)) (QuietLater l h n)
   quiet-later n =
       record {
         holds = λ e.
@@ -108,19 +108,19 @@ module _ (s : Settings) (pos : 1 ≤ s .interval) (h : History) (r : Station) (a
               omega (arith, w .1, a .same-clock),
               omega (arith, b .0, a .same-clock),
               b .1,
-              quiet-unit s pos h (w .0) r a (omega (arith, w .1, a .same-clock)) (w .3),
+              quiet-unit l sound pos h (w .0) r a (omega (arith, w .1, a .same-clock)) (w .3),
             );
         shows = λ x.
             some-one (quiet r) (r .clock + 1) (end n - (r .clock + 1)) (x .0)
             (omega (arith, x .1, a .same-clock))
             (omega (arith, x .1, a .same-clock, up-to-back (r .pending) (r .clock + n) (x .0) (a .pending-told) (omega (arith, x .2, a .same-clock), x .3)))
-            (unit-quiet s pos h (x .0) r a (omega (arith, x .1)) (x .4));
+            (unit-quiet l sound pos h (x .0) r a (omega (arith, x .1)) (x .4));
       }
 
   -- ---- the answers
 
   module _ (n : ℕ) where
-    all-open : (Waits s h → ⊥) → (QuietUnit s h (clockAfter h) → ⊥) → (QuietLater s h n → ⊥) → (SwitchWithin s h n → ⊥) → AllOpen s h n
+    all-open : (Waits l h → ⊥) → (QuietUnit l h (clockAfter h) → ⊥) → (QuietLater l h n → ⊥) → (SwitchWithin l h n → ⊥) → AllOpen l h n
     all-open no-wait not-now not-later not-within u lo hi =
         record {
           before-switch = before;
@@ -129,22 +129,22 @@ module _ (s : Settings) (pos : 1 ≤ s .interval) (h : History) (r : Station) (a
           not-begun = λ x. not-quiet (inr x);
         }
       where
-        before : (at : ℕ) (w : ChannelSwitch) → Awaits s h at w → u < at
+        before : (at : ℕ) (w : ChannelSwitch) → Awaits l h at w → u < at
         before at w x =
             ⊎-elim
             (λ (y : ltb at (clockAfter h + n) ≡ true). absurd (not-within (at, w, x, ltb-true at (clockAfter h + n) y)))
             (λ (k : ltb at (clockAfter h + n) ≡ false). omega (arith, ltb-false at (clockAfter h + n) k))
             (either (ltb at (clockAfter h + n)))
 
-        not-quiet : QuietUnit s h u → ⊥
+        not-quiet : QuietUnit l h u → ⊥
         not-quiet q =
             ⊎-elim
-            (λ (e : clockAfter h ≡ u). not-now (subst (QuietUnit s h) (sym e) q))
+            (λ (e : clockAfter h ≡ u). not-now (subst (QuietUnit l h) (sym e) q))
             (λ (k : clockAfter h < u). not-later (u, k, hi, before, q))
             (eq-or-lt-of-le lo)
 
     -- the first that applies is the answer
-    answer-applies : Applies s h n (permissionOf r n)
+    answer-applies : Applies l h n (permissionOf r n)
     unfolding permissionOf firstOf
     answer-applies =
         ⊎-elim (λ (y : eqb n 0 ≡ true). simp y (inl (eqb-true n 0 y)))
@@ -170,20 +170,20 @@ module _ (s : Settings) (pos : 1 ≤ s .interval) (h : History) (r : Station) (a
         (either (eqb n 0))
 
     -- where every unit is open, nothing else applies
-    open-no-wait : 1 ≤ n → AllOpen s h n → Waits s h → ⊥
+    open-no-wait : 1 ≤ n → AllOpen l h n → Waits l h → ⊥
     open-no-wait more open-all (at, w, x, m) = open-all (clockAfter h) (le-refl _) (omega arith) .no-wait at w x m (x .1)
 
-    open-not-quiet : AllOpen s h n → (u : ℕ) → clockAfter h ≤ u → u < clockAfter h + n → QuietUnit s h u → ⊥
+    open-not-quiet : AllOpen l h n → (u : ℕ) → clockAfter h ≤ u → u < clockAfter h + n → QuietUnit l h u → ⊥
     open-not-quiet open-all u lo hi q = ⊎-elim (open-all u lo hi .not-set) (open-all u lo hi .not-begun) q
 
-    open-not-later : AllOpen s h n → QuietLater s h n → ⊥
+    open-not-later : AllOpen l h n → QuietLater l h n → ⊥
     open-not-later open-all (u, lo, hi, before, q) = open-not-quiet open-all u (omega arith) hi q
 
-    open-not-within : AllOpen s h n → SwitchWithin s h n → ⊥
+    open-not-within : AllOpen l h n → SwitchWithin l h n → ⊥
     open-not-within open-all (at, w, x, lt) = let less : at < at = open-all at (omega (arith, x .1)) lt .before-switch at w x in omega arith
 
     -- where one applies, it is the answer
-    applies-answer : (p : Permission) → Applies s h n p → permissionOf r n ≡ p
+    applies-answer : (p : Permission) → Applies l h n p → permissionOf r n ≡ p
     unfolding permissionOf firstOf
     applies-answer Permission.WrongLength (inl e) = simp (eq-eqb n 0 e)
     applies-answer Permission.WrongLength (inr e) = simp (ne-eqb n 0 (λ z. omega arith), lt-ltb 65535 n e)
@@ -205,5 +205,19 @@ module _ (s : Settings) (pos : 1 ≤ s .interval) (h : History) (r : Station) (a
         )
 
     -- each answer is given exactly where the history says so
-    pub answered : (p : Permission) → (permissionOf r n ≡ p) ↔ Applies s h n p
-    answered p = (λ e. subst (Applies s h n) e answer-applies, applies-answer p)
+    pub answered : (p : Permission) → (permissionOf r n ≡ p) ↔ Applies l h n p
+    answered p = (λ e. subst (Applies l h n) e answer-applies, applies-answer p)
+
+    -- and so 0 exactly where each unit is open
+    pub granted-open : 1 ≤ n → n ≤ 65535 → (permissionNumber (permissionOf r n) ≡ 0) ↔ AllOpen l h n
+    granted-open lo hi =
+        let w = answered Permission.Granted in
+        (λ e. w .0 (is-granted (permissionOf r n) e) .1, λ o. ap permissionNumber (w .1 ((lo, hi), o)))
+      where
+        is-granted : (p : Permission) → permissionNumber p ≡ 0 → p ≡ Permission.Granted
+        is-granted Permission.Granted e = refl
+        is-granted Permission.SwitchSilences e = absurd (omega arith)
+        is-granted Permission.QuietNow e = absurd (omega arith)
+        is-granted Permission.QuietLater e = absurd (omega arith)
+        is-granted Permission.SwitchBefore e = absurd (omega arith)
+        is-granted Permission.WrongLength e = absurd (omega arith)

@@ -209,13 +209,13 @@ module _ (b : ℕ) where
         capability = refl;
       }
 
-  said : (n : ℕ) (es : Elements) (before after : Told) → says b n es before ≡ accepted after → (xs : List Item) × (es ≡ walkedAs xs end) × Said xs before after
+  said : (n : ℕ) (es : Elements) (before after : Told) → says (takes b) n es before ≡ accepted after → (xs : List Item) × (es ≡ walkedAs xs end) × Said xs before after
   unfolding says walkedAs
   said n end before after e = ([], refl, subst (λ (t : Told). Said [] before t) (accepted-once e) (none before))
   said n (cutHeader o) before after e = absurd (never e)
   said n (cutContents id) before after e = absurd (never e)
   said n (more id c es) before after e =
-      let p = followed (placedAt n (takes b id c before)) (says b (pastElement n c) es) after e in
+      let p = followed (placedAt n (takes b id c before)) (says (takes b) (pastElement n c) es) after e in
       let r = said (pastElement n c) es (p .0) after (p .2) in
       (item id c ∷ r .0, ap (more id c) (r .1), fore id c (r .0) before after (p .0, placed-value n (takes b id c before) (p .1), r .2))
 
@@ -232,7 +232,7 @@ module _ (b : ℕ) where
         same-told before after (sym (s .timestamp)) (sym (s .capability)) (sym (grew-none powerMeans (s .power)))
         (sym (grew-none noticeReportMeans (s .report))) (sym (grew-none switchMeans (s .switch))) (sym (grew-none (quietMeans b) (s .quiet)))
 
-    says-all : (n : ℕ) (xs : List Item) (before : Told) → Said xs before after → says b n (walkedAs xs end) before ≡ accepted after
+    says-all : (n : ℕ) (xs : List Item) (before : Told) → Said xs before after → says (takes b) n (walkedAs xs end) before ≡ accepted after
     unfolding says walkedAs
     says-all n [] before s = ap accepted (nothing-added before s)
     says-all n (x ∷ xs) before s =
@@ -275,8 +275,8 @@ module _ (b : ℕ) (body : List ℕ) (t : Told) where
         capability = n .capability-is;
       } in
       let w = walk-whole (drop fixedLength body) (n .items) .1 (n .octets) in
-      let whole : says b fixedLength (elementsIn (drop fixedLength body)) (opening body) ≡ accepted t =
-      ap (λ (es : Elements). says b fixedLength es (opening body)) w ∙ says-all b t (n .few-quiets) fixedLength (n .items) (opening body) s in
+      let whole : says (takes b) fixedLength (elementsIn (drop fixedLength body)) (opening body) ≡ accepted t =
+      ap (λ (es : Elements). says (takes b) fixedLength es (opening body)) w ∙ says-all b t (n .few-quiets) fixedLength (n .items) (opening body) s in
       sym (past _ _ _ (le-ltb (length body) fixedLength (n .none-missing))
       (past _ _ _ (rw (eq-eqb (number 2 8 body) b (n .interval-is))) (through _ (sym whole))))
 

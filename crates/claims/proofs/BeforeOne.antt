@@ -26,6 +26,7 @@ use Rattle.frame.proofs.BodyFaults.{Misread, switch-misread, tpc-report-misread
 use Rattle.frame.specs.Actions.{Body, requests, reports, tpcRequest, tpcReport, switch, afterOpening, actionMeans}
 use Rattle.frame.specs.Frames.{Kind, action, Sent, kindOf, frameMeans}
 use Rattle.header.specs.Headers.{headerLength, bodyOf, managementMeans, addressMeans, Head, headerMeans}
+use Rattle.header.specs.declared.address.Cell.{Cell}
 use Rattle.header.specs.declared.management.Subtype.{Subtype}
 use Rattle.measurement_body.specs.Lists.{Sort, repeats, nextIn, listed, measurementsIn}
 use Rattle.measurement_body.specs.Reports.{reportSort}
@@ -104,13 +105,13 @@ takes-before : (b id : ℕ) (c : List ℕ) (t : Told) → oldTold (takes b id c 
 takes-before b id c t = told-kept (takes b id c t) (of-place KeptFault 0 (takes b id c t) (takes-by KeptFault 1 notice-kept b 0 (omega arith) id c t))
 
 -- of the header
-header-before : (own ap' f : List ℕ) → oldTold (headerMeans own ap' f) ≡ headerMeans own ap' f
+header-before : (own ap' f : List ℕ) → oldTold (headerMeans Cell.Ap own ap' f) ≡ headerMeans Cell.Ap own ap' f
 unfolding headerMeans managementMeans addressMeans
 header-before own ap' f =
     told-kept _
     (by-then Kept (managementMeans f) _
     (by-check Kept _ _ _ refl (λ h. by-check Kept _ _ _ refl (λ k. by-check Kept _ _ _ refl (λ l. by-none Kept _ (by-value Kept _)))))
-    (λ s e. by-then Kept (addressMeans own ap' f) _ (by-check Kept _ _ _ refl (λ h. by-none Kept _ (by-value Kept _))) (λ a g. by-value Kept _)))
+    (λ s e. by-then Kept (addressMeans Cell.Ap own ap' f) _ (by-check Kept _ _ _ refl (λ h. by-none Kept _ (by-value Kept _))) (λ a g. by-value Kept _)))
 
 -- ---- the element that has to be there, and what follows it
 
@@ -202,7 +203,7 @@ action-before body = before-then (opensWith body) (afterOpening body) (opens-bef
 
 -- ---- the body of a beacon or a probe response
 
-says-before : (b : ℕ) (es : Elements) (n : ℕ) (t : Told) → asBefore (says b n es t) ≡ oldSays b es t
+says-before : (b : ℕ) (es : Elements) (n : ℕ) (t : Told) → asBefore (says (takes b) n es t) ≡ oldSays b es t
 unfolding says oldSays
 says-before b Raw.end n t = refl
 says-before b (Raw.cutHeader o) n t = refl
@@ -227,7 +228,7 @@ kind-before b Subtype.Action body = before-then (actionMeans body) _ (action-bef
 refusals-before : (own ap' : List ℕ) (b : ℕ) (f : List ℕ) → asBefore (frameMeans own ap' b f) ≡ oldFrameBy handedIn own ap' b f
 unfolding frameMeans oldFrameBy
 refusals-before own ap' b f =
-    before-then (nowhere (headerMeans own ap' f)) _ (ap oldTold (nowhere-without (headerMeans own ap' f)) ∙ header-before own ap' f)
+    before-then (nowhere (headerMeans Cell.Ap own ap' f)) _ (ap oldTold (nowhere-without (headerMeans Cell.Ap own ap' f)) ∙ header-before own ap' f)
     (λ h. before-then (placedPast headerLength (kindOf b (h .subtype) (bodyOf f))) _
     (ap oldTold (past-without headerLength (kindOf b (h .subtype) (bodyOf f))) ∙ kind-before b (h .subtype) (bodyOf f))
     (λ k. refl))
@@ -304,12 +305,12 @@ each-kind body b Subtype.Action none = ap (λ (o : Outcome Body). andThen o (λ 
 pub as-before : (own ap' : List ℕ) (b : ℕ) (f : List ℕ) → NothingPassed own ap' f → asBefore (frameMeans own ap' b f) ≡ oldFrameMeans own ap' b f
 unfolding oldFrameBy
 as-before own ap' b f none =
-    refusals-before own ap' b f ∙ by (headerMeans own ap' f) refl
+    refusals-before own ap' b f ∙ by (headerMeans Cell.Ap own ap' f) refl
   where
     heard : Head → Kind → Outcome Sent
     heard h k = accepted (record { toAll = h .toAll; kind = k })
 
-    by : (o : Outcome Head) → headerMeans own ap' f ≡ o
+    by : (o : Outcome Head) → headerMeans Cell.Ap own ap' f ≡ o
         → andThen o (λ h. andThen (oldKindOf handedIn b (h .subtype) (bodyOf f)) (heard h))
         ≡ andThen o (λ h. andThen (oldKindOf eachIn b (h .subtype) (bodyOf f)) (heard h))
     by (refused r) e = refl
@@ -341,6 +342,7 @@ numbered-before Refusal.NoStation = inl refl
 numbered-before Refusal.RecordMalformed = inl refl
 numbered-before Refusal.OtherElement = inr (refl, inl refl)
 numbered-before Refusal.LeftOver = inr (refl, inr refl)
+numbered-before Refusal.ForeignAnnouncement = inl refl
 
 -- a frame that is refused was refused, and with the same number, or with 7 where it is 21 or 22 now
 pub only-seven : (own ap' : List ℕ) (b : ℕ) (f : List ℕ) (x : Fault) → NothingPassed own ap' f → frameMeans own ap' b f ≡ refused x

@@ -24,6 +24,7 @@ use Rattle.frame.specs.Actions.{Body, requests, reports, tpcRequest, tpcReport,
 use Rattle.frame.specs.Frames.{action, Sent, kindOf, frameMeans}
 use Rattle.header.specs.Headers.{bodyOf, headerLength, subtype, subtypeOf, toAll, foreignHeader, foreignAddress, headerMeans}
 use Rattle.header.proofs.Heard.{not-too-long, heard-as}
+use Rattle.header.specs.declared.address.Cell.{Cell}
 use Rattle.header.specs.declared.management.Subtype.{Subtype}
 use Rattle.measurement_body.proofs.NeverLonger.{never-longer}
 use Rattle.walk.proofs.RunLaws.{octets-after}
@@ -90,8 +91,8 @@ module _ (own ap' : List ℕ) (b : ℕ) (f : List ℕ) where
   pub accepted-short : (x : Sent) → frameMeans own ap' b f ≡ accepted x → length (bodyOf f) ≤ longestBody
   unfolding frameMeans
   accepted-short x e =
-      let h = followed (nowhere (headerMeans own ap' f)) _ x e in
-      omega (arith, not-too-long own ap' f (h .0) (nowhere-value (headerMeans own ap' f) (h .1)), length-drop headerLength f)
+      let h = followed (nowhere (headerMeans Cell.Ap own ap' f)) _ x e in
+      omega (arith, not-too-long Cell.Ap own ap' f (h .0) (nowhere-value (headerMeans Cell.Ap own ap' f) (h .1)), length-drop headerLength f)
 
   -- what an accepted action frame says is what its body means
   body-means : (s : Subtype) (body : Body) → kindOf b s (bodyOf f) ≡ accepted (action body) → actionMeans (bodyOf f) ≡ accepted body
@@ -108,7 +109,7 @@ module _ (own ap' : List ℕ) (b : ℕ) (f : List ℕ) where
   kind-means : (x : Sent) → frameMeans own ap' b f ≡ accepted x → (s : Subtype) × (kindOf b s (bodyOf f) ≡ accepted (x .kind))
   unfolding frameMeans
   kind-means x e =
-      let h = followed (nowhere (headerMeans own ap' f)) _ x e in
+      let h = followed (nowhere (headerMeans Cell.Ap own ap' f)) _ x e in
       let k = followed (placedPast headerLength (kindOf b (h .0 .subtype) (bodyOf f))) _ x (h .2) in
       let same : record { toAll = h .0 .toAll; kind = k .0 } ≡ x = cc (k .2) in
       (h .0 .subtype, past-value headerLength (kindOf b (h .0 .subtype) (bodyOf f)) (k .1) ∙ ap (λ (y : Sent). accepted (y .kind)) same)
@@ -124,10 +125,10 @@ module _ (own ap' : List ℕ) (b : ℕ) (f : List ℕ) where
 
   -- and after a header that is not refused, each body that may be written, and is not too long, reads back the same
   pub frame-read-back : (body : Body) → ActionFits body → actionMay body ≡ true → length (actionOctets body) ≤ longestBody
-      → headerLength ≤ length f → foreignHeader f ≡ false → foreignAddress own ap' f ≡ false → subtypeOf (subtype f) ≡ Subtype.Action
+      → headerLength ≤ length f → foreignHeader f ≡ false → foreignAddress Cell.Ap own ap' f ≡ false → subtypeOf (subtype f) ≡ Subtype.Action
       → bodyOf f ≡ actionOctets body → frameMeans own ap' b f ≡ accepted (record { toAll = toAll f; kind = action body })
   unfolding frameMeans
   frame-read-back body fits m short long h a s e =
       let size = ap length e in
-      let head = heard-as own ap' f Subtype.Action (toAll f) long (omega (arith, length-drop headerLength f)) h a s refl in
+      let head = heard-as Cell.Ap own ap' f Subtype.Action (toAll f) long (omega (arith, length-drop headerLength f)) h a s refl in
       rw (head, e, action-trip .there body fits m)

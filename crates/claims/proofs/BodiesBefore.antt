@@ -13,7 +13,7 @@ use Rattle.answer.proofs.Judged.{never, past, through}
 use Rattle.answer.specs.Checks.{refused, accepted, pick, _⇒_, judged, andThen}
 use Rattle.answer.specs.Faults.{faultAt, faultNowhere, Placed}
 use Rattle.answer.specs.declared.Refusal.{Refusal}
-use Rattle.beacon.specs.Beacons.{Told, fixedLength, intervalField, opening, says, beaconMeans, tells}
+use Rattle.beacon.specs.Beacons.{Told, fixedLength, intervalField, opening, takes, says, beaconMeans, tells}
 use Rattle.beacon.specs.Notices.{elementless}
 use Rattle.element.specs.ChannelSwitch.{switchMeans}
 use Rattle.element.specs.TpcReport.{tpcReportMeans}
@@ -39,7 +39,7 @@ module _ (b : ℕ) (body : List ℕ) (q : ℕ) (r : Refusal) (late : fixedLength
   record Fixed : Type 0 where
     whole : fixedLength ≤ length body
     interval : not (eqb (number 2 intervalField body) b) ≡ false
-    rest : says b fixedLength (elementsIn (drop fixedLength body)) (opening body) ≡ refused (faultAt q r)
+    rest : says (takes b) fixedLength (elementsIn (drop fixedLength body)) (opening body) ≡ refused (faultAt q r)
 
   fixed : beaconMeans b body ≡ refused (faultAt q r) → Fixed
   unfolding beaconMeans
@@ -66,7 +66,7 @@ module _ (b : ℕ) (body : List ℕ) (q : ℕ) (r : Refusal) (late : fixedLength
             (past _ _ _ (ap (λ (os : List ℕ). not (eqb (join os) b)) (from-kept q body 2 intervalField (omega arith)) ∙ x .interval)
             (through _
             (sym
-            (ap₂ (λ (os : List ℕ) (t : Told). says b fixedLength (elementsIn os) t) run same-opening ∙ s .holds .1))))),
+            (ap₂ (λ (os : List ℕ) (t : Told). says (takes b) fixedLength (elementsIn os) t) run same-opening ∙ s .holds .1))))),
       )
 
 -- ---- an action body

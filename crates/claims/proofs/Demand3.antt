@@ -3,7 +3,7 @@
 use mathlib.Core.Bool.{true, false}
 use mathlib.Core.List.{List, [], _∷_}
 use mathlib.Core.Logic.{⊎-elim, _↔_}
-use mathlib.Core.Path.{_≡_, refl, sym, ap, _∙_, subst}
+use mathlib.Core.Path.{_≡_, sym, ap, _∙_, subst}
 use Prim.Native.Nat.{ℕ, _≤_}
 use native.Mathlib.Omega.{arith}
 use Rattle.answer.specs.Checks.{checked}
@@ -22,12 +22,13 @@ use Rattle.station.specs.declared.clock.Stepped.{Stepped}
 use Rattle.station.specs.declared.taking.Taken.{Taken}
 use Rattle.station.specs.declared.starting.Started.{Started}
 use Rattle.capture_record.specs.declared.entry.Settings.{Settings}
-use Rattle.claims.specs.Histories.{frame, advance, ask, History}
+use Rattle.claims.specs.Histories.{frame, advance, ask, History, listener}
 use Rattle.claims.specs.OpenUnits.{AllOpen, Applies}
 use Rattle.claims.specs.Records.{recordAfter, Agrees}
 use Rattle.claims.specs.Runs.{Starts, Takes, Advances, Asks, Ran}
 use Rattle.claims.proofs.Agreement.{agrees}
-use Rattle.claims.proofs.Asked.{answered}
+use Rattle.claims.proofs.Asked.{answered, granted-open}
+use Rattle.claims.proofs.StationFollows.{sound}
 
 -- ---- what each call leaves
 
@@ -95,21 +96,14 @@ module _ (s : Settings) where
     agreed = subst (Agrees s h) (sym (arrives h r ran .0)) (agrees s (interval-positive h r ran) h)
 
     -- each of the answers is given exactly where the history says so
-    pub asked : (n : ℕ) (p q : Permission) → Asks r n p → (p ≡ q) ↔ Applies s h n q
+    pub asked : (n : ℕ) (p q : Permission) → Asks r n p → (p ≡ q) ↔ Applies (listener s) h n q
     asked n p q x =
-        let w = answered s (interval-positive h r ran) h r agreed n q in
+        let w = answered (listener s) (sound s) (interval-positive h r ran) h r (agreed .as-heard) n q in
         (λ e. w .0 (sym (answers-ask r n p x) ∙ e), λ y. answers-ask r n p x ∙ w .1 y)
 
     -- a question to send for 1 to 65,535 TU is granted exactly if each unit that it would cover is open
-    pub granted : (n : ℕ) → 1 ≤ n → n ≤ 65535 → (p : Permission) → Asks r n p → (permissionNumber p ≡ 0) ↔ AllOpen s h n
+    pub granted : (n : ℕ) → 1 ≤ n → n ≤ 65535 → (p : Permission) → Asks r n p → (permissionNumber p ≡ 0) ↔ AllOpen (listener s) h n
     granted n lo hi p x =
-        let w = asked n p Permission.Granted x in
-        (λ e. w .0 (is-granted p e) .1, λ o. ap permissionNumber (w .1 ((lo, hi), o)))
-      where
-        is-granted : (q : Permission) → permissionNumber q ≡ 0 → q ≡ Permission.Granted
-        is-granted Permission.Granted e = refl
-        is-granted Permission.SwitchSilences e = absurd (omega arith)
-        is-granted Permission.QuietNow e = absurd (omega arith)
-        is-granted Permission.QuietLater e = absurd (omega arith)
-        is-granted Permission.SwitchBefore e = absurd (omega arith)
-        is-granted Permission.WrongLength e = absurd (omega arith)
+        let same = ap permissionNumber (answers-ask r n p x) in
+        let w = granted-open (listener s) (sound s) (interval-positive h r ran) h r (agreed .as-heard) n lo hi in
+        (λ e. w .0 (sym same ∙ e), λ o. same ∙ w .1 o)

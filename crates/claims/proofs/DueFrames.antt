@@ -1,14 +1,13 @@
 -- What a frame that is due a reply says of itself (01, "Replies": "Due only for accepted Action frames whose DA is the station"; 02, One): its three
 -- addresses, and its body. Assumes nothing.
 use mathlib.Core.Bool.{Bool, true, false, _&&_, _||_}
-use mathlib.Core.List.{List, [], _∷_}
-use mathlib.Core.Path.{_≡_, refl, sym, ap, ap₂, _∙_, subst}
+use mathlib.Core.List.{List}
+use mathlib.Core.Path.{_≡_, refl, sym, ap, _∙_, subst}
 use Prim.Native.Nat.{ℕ, _-_}
-use borrow.Author.Tests.{eqb-true, not-false}
-use lib.Dec.{eqb}
+use borrow.Author.Tests.{not-false}
 use lib.ListN.{take, drop, take-append-drop}
 use Rattle.action.specs.Openings.{fixedFields}
-use Rattle.answer.proofs.Booleans.{clash, both, neither}
+use Rattle.answer.proofs.Booleans.{clash, neither}
 use Rattle.answer.proofs.Judged.{never, passed, kept}
 use Rattle.answer.specs.Checks.{Outcome, refused, accepted, pick, andThen}
 use Rattle.answer.specs.Faults.{Placed}
@@ -17,7 +16,9 @@ use Rattle.answer.specs.declared.Refusal.{Refusal}
 use native.Mathlib.Omega.{arith}
 use Rattle.frame.proofs.ActionParts.{parts}
 use Rattle.frame.specs.Actions.{Body, requests, actionMeans}
-use Rattle.header.specs.Headers.{headerLength, bodyOf, same, da, sa, bssid, toAll, foreignAddress, managementMeans, addressMeans, headerMeans}
+use Rattle.header.proofs.Addresses.{same-is}
+use Rattle.header.specs.Headers.{headerLength, bodyOf, da, sa, bssid, toAll, foreignAddress, managementMeans, addressMeans, headerMeans}
+use Rattle.header.specs.declared.address.Cell.{Cell}
 use Rattle.header.specs.declared.management.Subtype.{Subtype}
 use Rattle.measurement_body.proofs.PlacesRead.{Reads, place-reads}
 use Rattle.measurement_body.specs.Lists.{measurementsIn, nth}
@@ -29,15 +30,7 @@ use Rattle.measurement_element.specs.MeasurementRequest.{requestMeans, requestF
 use Rattle.measurement_element.specs.declared.measurement_request.Request.{Request}
 use Rattle.octets.specs.Numbers.{Octets}
 use Rattle.walk.proofs.RunLaws.{octets-front, octets-after}
-use Rattle.reply.specs.Due.{Owed, asks, breaks, isReturned, hasCategory, orReturn, afterHeader, dueMeans}
-
-same-is-equal : (xs ys : List ℕ) → same xs ys ≡ true → xs ≡ ys
-same-is-equal [] [] e = refl
-same-is-equal [] (y ∷ ys) e = clash (sym e)
-same-is-equal (x ∷ xs) [] e = clash (sym e)
-same-is-equal (x ∷ xs) (y ∷ ys) e =
-    let p = both (eqb x y) (same xs ys) e in
-    ap₂ (λ (z : ℕ) (zs : List ℕ). z ∷ zs) (eqb-true x y (p .0)) (same-is-equal xs ys (p .1))
+use Rattle.reply.specs.Due.{Owed, asks, breaks, isReturned, hasCategory, orReturn, afterHeader, dueMeans, dueIn}
 
 first-holds : (a b : Bool) → (a || b) ≡ true → b ≡ false → a ≡ true
 first-holds true b e k = refl
@@ -53,7 +46,7 @@ pub record OwedByStation (own ap f : List ℕ) (x : Owed) : Type 0 where
 
 module _ (own ap' f : List ℕ) (x : Owed) where
   -- past the checks on the addresses, and not to all ones
-  addressed : addressMeans own ap' f ≡ accepted false → orReturn (bodyOf f) (actionMeans (bodyOf f)) ≡ accepted x → OwedByStation own ap' f x
+  addressed : addressMeans Cell.Ap own ap' f ≡ accepted false → orReturn (bodyOf f) (actionMeans (bodyOf f)) ≡ accepted x → OwedByStation own ap' f x
   unfolding addressMeans foreignAddress
   addressed e is =
       let p = passed _ _ _ e in
@@ -61,14 +54,14 @@ module _ (own ap' f : List ℕ) (x : Owed) where
       let from = neither _ _ (p .0) in
       let bss = neither _ _ (from .1) in
       record {
-        toStation = same-is-equal _ _ (first-holds _ _ (not-false _ (bss .1)) one);
+        toStation = same-is _ _ (first-holds _ _ (not-false _ (bss .1)) one);
         toOne = one;
-        fromAp = same-is-equal _ _ (not-false _ (from .0));
-        ofBss = same-is-equal _ _ (not-false _ (bss .0));
+        fromAp = same-is _ _ (not-false _ (from .0));
+        ofBss = same-is _ _ (not-false _ (bss .0));
         is = is;
       }
 
-  by-checks : (m : Outcome Subtype) (o : Outcome Bool) → addressMeans own ap' f ≡ o
+  by-checks : (m : Outcome Subtype) (o : Outcome Bool) → addressMeans Cell.Ap own ap' f ≡ o
       → andThen (andThen m (λ s. andThen o (λ t. accepted (record { subtype = s; toAll = t })))) (afterHeader f) ≡ accepted x → OwedByStation own ap' f x
   by-checks (refused r) o a e = absurd (never e)
   by-checks (accepted s) (refused r) a e = absurd (never e)
@@ -78,8 +71,8 @@ module _ (own ap' f : List ℕ) (x : Owed) where
   by-checks (accepted Subtype.Action) (accepted false) a e = addressed a e
 
   pub owed-by-station : dueMeans own ap' f ≡ accepted x → OwedByStation own ap' f x
-  unfolding dueMeans headerMeans
-  owed-by-station e = by-checks (managementMeans f) (addressMeans own ap' f) refl e
+  unfolding dueIn headerMeans
+  owed-by-station e = by-checks (managementMeans f) (addressMeans Cell.Ap own ap' f) refl e
 
 -- what is asked is what the body means
 pub due-asks : (own ap' f : List ℕ) (body : Body) → dueMeans own ap' f ≡ accepted (asks body) → actionMeans (bodyOf f) ≡ accepted body

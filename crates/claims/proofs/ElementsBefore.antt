@@ -46,13 +46,13 @@ at-once e h = record { own = 0; place = omega (arith, e); holds = h }
 
 module _ (b : ℕ) where
   abbrev SaysFirst : ℕ → List ℕ → Told → ℕ → Type 0
-  SaysFirst n run t k = Accepts (says b n (elementsIn (take k run)) t)
+  SaysFirst n run t k = Accepts (says (takes b) n (elementsIn (take k run)) t)
 
   says-none : (n : ℕ) (run : List ℕ) (t : Told) → SaysFirst n run t 0
   unfolding says
-  says-none n run t = (t, ap (λ (es : Elements). says b n es t) none)
+  says-none n run t = (t, ap (λ (es : Elements). says (takes b) n es t) none)
 
-  pub says-before : (es : Elements) (n : ℕ) (run : List ℕ) (t : Told) (p : ℕ) (r : Refusal) → elementsIn run ≡ es → says b n es t ≡ refused (faultAt p r)
+  pub says-before : (es : Elements) (n : ℕ) (run : List ℕ) (t : Told) (p : ℕ) (r : Refusal) → elementsIn run ≡ es → says (takes b) n es t ≡ refused (faultAt p r)
       → Reached n p (SaysFirst n run t)
   unfolding says
   says-before Raw.end n run t p r e g = absurd (never (sym g))
@@ -69,8 +69,8 @@ module _ (b : ℕ) where
         place = omega (arith, later .place);
         holds = (
           later .holds .0,
-          ap (λ (x : Elements). says b n x t) (element-kept run id c es e (later .own))
-              ∙ ap (λ (o : Placed Told). andThen o (says b (pastElement n c) (elementsIn (take (later .own) (y .rest))))) took
+          ap (λ (x : Elements). says (takes b) n x t) (element-kept run id c es e (later .own))
+              ∙ ap (λ (o : Placed Told). andThen o (says (takes b) (pastElement n c) (elementsIn (take (later .own) (y .rest))))) took
               ∙ later .holds .1,
         );
       })

@@ -19,14 +19,15 @@ use Rattle.frame.specs.Actions.{Body, requests, reports, tpcRequest, tpcReport,
 use Rattle.frame.specs.Frames.{frameMeans}
 use Rattle.header.proofs.Heard.{has-header, not-too-long}
 use Rattle.header.specs.Headers.{headerLength, bodyOf, da, sa}
+use Rattle.header.specs.declared.address.Cell.{Cell}
 use Rattle.measured_report.specs.declared.Readings.{Readings}
 use Rattle.octets.specs.Numbers.{octet}
 use Rattle.reply.proofs.Framed.{head-length}
 use Rattle.reply.proofs.Owing.{action-returned, Returned, returned}
 use Rattle.reply.proofs.Returning.{some, small, same-size}
 use Rattle.reply.specs.Due.{Owed, breaks, isReturned, hasCategory, orReturn, dueMeans}
-use Rattle.reply.specs.Frames.{replyHead, replyFrame, errorReturn}
-use Rattle.reply.specs.Replies.{tpcReply, measurementReply}
+use Rattle.reply.specs.Frames.{headTo, replyFrame, errorReturn}
+use Rattle.reply.specs.Replies.{tpcReply, measurementReply, tpcReplyIn, measurementReplyIn}
 use Rattle.claims.proofs.DueFrames.{owed-by-station}
 use Rattle.claims.proofs.ReplyParts.{ReturnParts}
 use Rattle.claims.specs.ErrorReturns.{category, ReturnsBody}
@@ -44,7 +45,7 @@ octet-past (suc n) i (x ∷ xs) = ap (λ (k : ℕ). octet k (x ∷ xs)) (let e :
 
 -- ---- a frame that is owed its body back
 
-refused-so : (own ap' f body : List ℕ) (b : ℕ) (p : Returned own ap' f body) → frameMeans own ap' b f ≡ refused (faultPast headerLength (p .fault))
+refused-so : (own ap' f body : List ℕ) (b : ℕ) (p : Returned Cell.Ap own ap' f body) → frameMeans own ap' b f ≡ refused (faultPast headerLength (p .fault))
 unfolding frameMeans
 refused-so own ap' f body b p = rw (p .head, p .breaks-it) refl
 
@@ -65,18 +66,18 @@ first f = sym (octet-past headerLength 0 f)
 pub returns-body : (own ap' f os : List ℕ) → ReturnParts own ap' f os → ReturnsBody own ap' f os
 returns-body own ap' f os p =
     let body = p .body in
-    let k = returned own ap' f (p .due) in
+    let k = returned Cell.Ap own ap' f (p .due) in
     let a = owed-by-station own ap' f (breaks body) (p .due) in
     let octets : os ≡ replyFrame (da f) (sa f) (errorReturn body) = p .octets ∙ subst₂ (λ (o m : List ℕ). replyFrame o m (errorReturn body) ≡ replyFrame (da f) (sa f) (errorReturn body)) (a .toStation) (a .fromAp) refl in
     let has = some (bodyOf f) (k .free) in
-    let long = has-header own ap' f _ (k .head) in
+    let long = has-header Cell.Ap own ap' f _ (k .head) in
     let size = ap length (k .own-body) in
     let as-long : length os ≡ length f =
     omega (
       arith,
       ap length octets,
-      length-append (replyHead (da f) (sa f)) (errorReturn body),
-      head-length (da f) (sa f) refl refl,
+      length-append (headTo (da f) (sa f) (sa f)) (errorReturn body),
+      head-length (da f) (sa f) (sa f) refl refl refl,
       same-size body (omega (arith, has, size)),
       size,
       length-drop headerLength f,
@@ -90,7 +91,7 @@ returns-body own ap' f os p =
       present = omega (arith, has, length-drop headerLength f);
       free = subst (λ (n : ℕ). n < 128) (first f) (small (bodyOf f) (k .free));
       as-long = as-long;
-      short = omega (arith, as-long, not-too-long own ap' f _ (k .head));
+      short = omega (arith, as-long, not-too-long Cell.Ap own ap' f _ (k .head));
       top-bit =
           ap (octet headerLength) octets ∙ ap (λ (x : List ℕ). octet 0 x + 128) (k .own-body) ∙ ap (λ (n : ℕ). n + 128) (first f);
       same-octets = later f os (ap (drop 25) octets ∙ past-category f body (k .own-body));
@@ -129,11 +130,11 @@ module _ (own ap' g : List ℕ) (top : 128 ≤ category g) where
       by (accepted b) a k = let q = parts (bodyOf g) b a in leads b (q .run) (q .front)
 
   pub never-tpc : (report : TpcReport) (os : List ℕ) → tpcReply own ap' report g ≡ accepted os → ⊥
-  unfolding tpcReply
+  unfolding tpcReplyIn
   never-tpc report os e = let p = followed (dueMeans own ap' g) _ os e in nothing-owed (p .0) (p .1)
 
   pub never-measurement : (clock index : ℕ) (readings : Readings) (os : List ℕ) → measurementReply own ap' clock index readings g ≡ accepted os → ⊥
-  unfolding measurementReply
+  unfolding measurementReplyIn
   never-measurement clock index readings os e = let p = followed (dueMeans own ap' g) _ os e in nothing-owed (p .0) (p .1)
 
 -- so an error return is not answered with another, nor with anything else

@@ -25,6 +25,7 @@ use Rattle.frame.specs.Frames.{Kind, beacon, probeResponse, action, Sent, kindO
 use Rattle.frame.specs.Laid.{quietsOf, frameLaid}
 use Rattle.frame.specs.declared.Received.{Received}
 use Rattle.header.specs.Headers.{headerLength, bodyOf, headerMeans}
+use Rattle.header.specs.declared.address.Cell.{Cell}
 use Rattle.header.specs.declared.management.Subtype.{Subtype}
 use Rattle.measurement_body.specs.Lists.{measurementsIn}
 use Rattle.measurement_body.specs.Reports.{reportSort}
@@ -124,7 +125,7 @@ module _ (own ap' : List ℕ) (b : ℕ) (f : List ℕ) where
   of-frame : Yields (λ s. KindOf b (bodyOf f) (s .kind)) (frameMeans own ap' b f)
   unfolding frameMeans
   of-frame =
-      after-value _ (nowhere (headerMeans own ap' f)) _
+      after-value _ (nowhere (headerMeans Cell.Ap own ap' f)) _
       (λ h e. after-value _ (placedPast headerLength (kindOf b (h .subtype) (bodyOf f))) _
       (λ k g. of-value _ (of-kind (bodyOf f) b (h .subtype) k (past-value headerLength (kindOf b (h .subtype) (bodyOf f)) g))))
 

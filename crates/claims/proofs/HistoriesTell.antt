@@ -37,13 +37,14 @@ use Rattle.station.specs.declared.clock.Advanced.{Advanced}
 use Rattle.capture.specs.Lines.{lineOf, closingOf}
 use Rattle.capture.specs.declared.words.Word.{Word}
 use Rattle.capture_record.specs.declared.entry.Settings.{Settings}
-use Rattle.claims.specs.Histories.{History, tooFar}
+use Rattle.claims.specs.Histories.{History, tooFar, listener}
 use Rattle.claims.specs.HistoryLines.{Followed, nobody, since, refusesStart, followedAfter, says, saysFrame, Tells, TellsRecords, TellsBlock, TellsBlocks, ToldByHistories}
 use Rattle.claims.specs.Numbered.{Said, numberedFrom}
 use Rattle.claims.specs.Records.{recordAfter, Agrees}
 use Rattle.claims.proofs.Agreement.{agrees}
 use Rattle.claims.proofs.Asked.{answered}
 use Rattle.claims.proofs.ListedFiles.{numbered-append, blocks-counted}
+use Rattle.claims.proofs.StationFollows.{sound}
 
 -- the lister follows the station of this history, or none
 Matches : Lister → Followed → Type 0
@@ -152,7 +153,7 @@ module _ (l : Lister) (s : Settings) (h : History) (active : l .active ≡ true)
   one-advance n =
       record {
         said = says Word.Advance (answerNumber (advanceOf (l .station) n .answer));
-        tells = ap (says Word.Advance) (advance-number (l .station) n ∙ ap (λ (t : ℕ). pick (tooFar t n) 14 0) (agreed .same-clock));
+        tells = ap (says Word.Advance) (advance-number (l .station) n ∙ ap (λ (t : ℕ). pick (tooFar t n) 14 0) (agreed .as-heard .same-clock));
         text = refl;
         line-count = refl;
         keeps = (refl, ap (λ (r : Station). advanceOf r n .station) same, positive);
@@ -161,7 +162,7 @@ module _ (l : Lister) (s : Settings) (h : History) (active : l .active ≡ true)
   one-frame : (f : List ℕ) → One l (since s h) (hearing f) (Lists.taken l (takeOf (l .station) f))
   unfolding Matches recordAfter
   one-frame f =
-      let settled : frameMeans (l .station .own) (l .station .ap) (l .station .interval) f ≡ frameMeans (s .own) (s .ap) (s .interval) f = rw (agreed .same-own, agreed .same-ap, agreed .same-interval) in
+      let settled : frameMeans (l .station .own) (l .station .ap) (l .station .interval) f ≡ frameMeans (s .own) (s .ap) (s .interval) f = rw (agreed .same-own, agreed .same-ap, agreed .as-heard .same-interval) in
       record {
         said = verdictSaid (takeOf (l .station) f .verdict);
         tells = take-said (l .station) f ∙ ap saysFrame settled;
@@ -175,7 +176,7 @@ module _ (l : Lister) (s : Settings) (h : History) (active : l .active ≡ true)
   one-ask n =
       record {
         said = says Word.Ask (permissionNumber (permissionOf (l .station) n));
-        tells = (permissionOf (l .station) n, answered s positive h (l .station) agreed n (permissionOf (l .station) n) .0 refl, refl);
+        tells = (permissionOf (l .station) n, answered (listener s) (sound s) positive h (l .station) (agreed .as-heard) n (permissionOf (l .station) n) .0 refl, refl);
         text = refl;
         line-count = refl;
         keeps = (active, same, positive);

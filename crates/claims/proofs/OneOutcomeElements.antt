@@ -119,11 +119,11 @@ switch-write κs a e f x y p q = written-once p q
 pub dfs-read : OneResult 1 Dfs-read.Kinds.ps Dfs-read.Kinds.r Dfs-read.Reads.Post
 dfs-read κs a e f x y p q = once p q
 
-pair-of : Outcome ChannelMap → Dfs-pair.Pair
+pub pair-of : Outcome ChannelMap → Dfs-pair.Pair
 pair-of (refused r) = Dfs-pair.Pair.Refused r
 pair-of (accepted m) = Dfs-pair.Pair.Is m
 
-pair-told : (x : Dfs-pair.Pair) → pair-of (pairTold x) ≡ x
+pub pair-told : (x : Dfs-pair.Pair) → pair-of (pairTold x) ≡ x
 unfolding pair-of
 pair-told (Dfs-pair.Pair.Refused r) = refl
 pair-told (Dfs-pair.Pair.Is m) = refl

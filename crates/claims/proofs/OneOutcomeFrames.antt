@@ -21,8 +21,11 @@ use Rattle.answer.specs.Faults.{Placed}
 use Rattle.beacon.proofs.read as Beacon-read
 use Rattle.measurement_element.specs.MeasurementRequest.{requestTold}
 use Rattle.measurement_element.specs.declared.measurement_request.Reading as RequestReading
+use Rattle.element.specs.IbssDfs.{pairTold}
+use Rattle.frame.proofs.dfs_pair_at as Dfs-pair-at
 use Rattle.frame.proofs.read as Frame-read
 use Rattle.frame.proofs.read_body as Read-body
+use Rattle.frame.proofs.read_in_ibss as Read-in-ibss
 use Rattle.frame.proofs.read_request as Read-request
 use Rattle.frame.proofs.report_at as Report-at
 use Rattle.frame.proofs.request_at as Request-at
@@ -35,6 +38,7 @@ use Rattle.header.proofs.body as Header-body
 use Rattle.header.proofs.read as Header-read
 use Rattle.header.proofs.read_address as Header-read-address
 use Rattle.header.proofs.read_management as Header-read-management
+use Rattle.header.proofs.sender as Header-sender
 use Rattle.header.specs.Headers.{Head, addressTold, headerTold, managementTold}
 use Rattle.header.specs.declared.Header.{Header}
 use Rattle.header.specs.declared.address.Addressed.{Addressed}
@@ -50,7 +54,7 @@ use Rattle.single_body.specs.Kinds.{singleTold}
 use Rattle.single_body.specs.declared.kinds.Single.{Single}
 use Rattle.single_body.specs.declared.reading.Reading as Singles
 use Rattle.answer.specs.Outcomes.{OneResult, OneOutcome}
-use Rattle.claims.proofs.OneOutcomeElements.{request-of, request-told}
+use Rattle.claims.proofs.OneOutcomeElements.{pair-of, pair-told, request-of, request-told}
 use Rattle.claims.proofs.Same.{once, told-once, written-once}
 
 management-of : Outcome Subtype → Management
@@ -92,6 +96,9 @@ header-told (Header.Is s a) = refl
 pub header-body : (κs : Lfts 1) (a : Dens κs Header-body.Kinds.ps) (e f : AtExit (endedOf 1 Header-body.Kinds.ps Header-body.Kinds.r) κs) (x y : resT Header-body.Kinds.r κs .Denot)
     → Header-body.Reads.Post κs a x e → Header-body.Reads.Post κs a y f → now x ≡ now y
 header-body κs a e f x y p q = once p q
+
+pub header-sender : OneResult 1 Header-sender.Kinds.ps Header-sender.Kinds.r Header-sender.Reads.Post
+header-sender κs a e f x y p q = once p q
 
 pub header-read : OneResult 1 Header-read.Kinds.ps Header-read.Kinds.r Header-read.Reads.Post
 header-read κs a e f x y p q = told-once headerTold header-of header-told p q
@@ -175,6 +182,12 @@ read-body κs a e f x y p q = told-once frameTold reading-of reading-told p q
 
 pub frame-read : OneResult 1 Frame-read.Kinds.ps Frame-read.Kinds.r Frame-read.Reads.Post
 frame-read κs a e f x y p q = once p q
+
+pub frame-read-in-ibss : OneResult 1 Read-in-ibss.Kinds.ps Read-in-ibss.Kinds.r Read-in-ibss.Reads.Post
+frame-read-in-ibss κs a e f x y p q = once p q
+
+pub frame-dfs-pair-at : OneResult 1 Dfs-pair-at.Kinds.ps Dfs-pair-at.Kinds.r Dfs-pair-at.Reads.Post
+frame-dfs-pair-at κs a e f x y p q = told-once pairTold pair-of pair-told p q
 
 pub request-at : OneResult 1 Request-at.Kinds.ps Request-at.Kinds.r Request-at.Reads.Post
 request-at κs a e f x y p q = told-once requestTold request-of request-told p q

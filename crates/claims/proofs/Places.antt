@@ -16,12 +16,13 @@ use Rattle.frame.specs.Actions.{actionMeans}
 use Rattle.frame.specs.Frames.{kindOf, frameMeans}
 use Rattle.header.proofs.Heard.{has-header}
 use Rattle.header.specs.Headers.{headerLength, bodyOf, managementMeans, addressMeans, headerMeans}
+use Rattle.header.specs.declared.address.Cell.{Cell}
 use Rattle.header.specs.declared.management.Subtype.{Subtype}
 use Rattle.claims.specs.Places.{BrokenNowhere, FaultIn}
 
 -- ---- the header: 1 to 4
 
-header-nowhere : (own ap' f : List ℕ) → Refuses BrokenNowhere (headerMeans own ap' f)
+header-nowhere : (own ap' f : List ℕ) → Refuses BrokenNowhere (headerMeans Cell.Ap own ap' f)
 unfolding headerMeans managementMeans addressMeans
 header-nowhere own ap' f =
     by-then BrokenNowhere (managementMeans f) _
@@ -29,7 +30,7 @@ header-nowhere own ap' f =
     (λ h. by-check BrokenNowhere _ _ _ (inr (inl refl))
     (λ k. by-check BrokenNowhere _ _ _ (inr (inr (inl refl))) (λ l. by-none BrokenNowhere _ (by-value BrokenNowhere _)))))
     (λ s e.
-    by-then BrokenNowhere (addressMeans own ap' f) _
+    by-then BrokenNowhere (addressMeans Cell.Ap own ap' f) _
     (by-check BrokenNowhere _ _ _ (inr (inr (inr refl))) (λ h. by-none BrokenNowhere _ (by-value BrokenNowhere _)))
     (λ t g. by-value BrokenNowhere _))
 
@@ -87,8 +88,8 @@ nowhere-lies f (accepted a) h = by-value (FaultIn f) a
 pub fault-placed : (own ap' : List ℕ) (b : ℕ) (f : List ℕ) (x : Fault) → frameMeans own ap' b f ≡ refused x → FaultIn f x
 unfolding frameMeans
 fault-placed own ap' b f =
-    by-then (FaultIn f) (nowhere (headerMeans own ap' f)) _ (nowhere-lies f (headerMeans own ap' f) (header-nowhere own ap' f))
+    by-then (FaultIn f) (nowhere (headerMeans Cell.Ap own ap' f)) _ (nowhere-lies f (headerMeans Cell.Ap own ap' f) (header-nowhere own ap' f))
     (λ h e.
-    let long = has-header own ap' f h (nowhere-value (headerMeans own ap' f) e) in
+    let long = has-header Cell.Ap own ap' f h (nowhere-value (headerMeans Cell.Ap own ap' f) e) in
     by-then (FaultIn f) (placedPast headerLength (kindOf b (h .subtype) (bodyOf f))) _
     (past-lies f long (kindOf b (h .subtype) (bodyOf f)) (kind-lies f long b (h .subtype))) (λ k g. by-value (FaultIn f) _))

@@ -15,13 +15,13 @@ use Rattle.schedule.specs.declared.Schedule.{Schedule}
 use Rattle.station.specs.Asking.{coveredBy, quiet}
 use Rattle.station.specs.Stations.{inUse}
 use Rattle.station.specs.declared.Station.{Station}
-use Rattle.capture_record.specs.declared.entry.Settings.{Settings}
-use Rattle.claims.specs.Histories.{History, clockAfter}
+use Rattle.claims.specs.Histories.{History, clockAfter, Listener}
 use Rattle.claims.specs.OpenUnits.{SetUnit, BegunUnit, QuietUnit}
-use Rattle.claims.specs.Records.{Agrees}
+use Rattle.claims.specs.Records.{Agreeing}
 use Rattle.claims.specs.Standing.{RunsOn, SetsEach, SchedulesAre, UntilIs}
 use Rattle.claims.proofs.BegunRuns.{runs-on-begun, begun-or-runs-on}
 use Rattle.claims.proofs.CoveredUnits.{covers-unit, unit-covers}
+use Rattle.claims.proofs.Following.{Sound}
 use Rattle.claims.proofs.OneSaying.{counts-one}
 use Rattle.claims.proofs.SetSchedules.{counts-allowed, counted-once, set-by-some, sets-some}
 
@@ -48,42 +48,42 @@ some-covered (y ∷ xs) u x m c =
     later : coveredBy xs u ≡ true → (covered y u || coveredBy xs u) ≡ true
     later e = ⊎-elim (λ (z : covered y u ≡ true). or-stop _ _ z) (λ (z : covered y u ≡ false). or-go _ z ∙ e) (either (covered y u))
 
-module _ (s : Settings) (pos : 1 ≤ s .interval) (h : History) (u : ℕ) where
+module _ (l : Listener) (sound : Sound l) (pos : 1 ≤ l .interval) (h : History) (u : ℕ) where
   -- ---- by the schedules in use
 
-  covered-set : (xs : List Schedule) → SchedulesAre s h xs → coveredBy xs u ≡ true → SetUnit s h u
+  covered-set : (xs : List Schedule) → SchedulesAre l h xs → coveredBy xs u ≡ true → SetUnit l h u
   covered-set xs (inl (f, e)) y = let w = covered-some xs u y in absurd (List·Memᴰ·not-nil (subst (List·Memᴰ (w .0)) e (w .1)))
   covered-set xs (inr (said, t, counts, each)) y =
       let w = covered-some xs u y in
-      let z = set-by-some s t (said .quiets) xs (w .0) each (w .1) in
+      let z = set-by-some l t (said .quiets) xs (w .0) each (w .1) in
       let q = z .0 in
-      (said, t, q, counts, z .1, covers-unit s pos t q (w .0) (z .2) (counted-once s (said .quiets) q (counts-allowed s h said t counts) (z .1)) u (w .2))
+      (said, t, q, counts, z .1, covers-unit l pos t q (w .0) (z .2) (counted-once l (said .quiets) q (counts-allowed l sound h said t counts) (z .1)) u (w .2))
 
-  set-covered : (xs : List Schedule) → SchedulesAre s h xs → SetUnit s h u → coveredBy xs u ≡ true
+  set-covered : (xs : List Schedule) → SchedulesAre l h xs → SetUnit l h u → coveredBy xs u ≡ true
   set-covered xs (inl (f, e)) (said, t, q, counts, m, c) = absurd (f said t counts)
   set-covered xs (inr (said', t', counts', each)) (said, t, q, counts, m, c) =
-      let same = counts-one s pos h (said', t') (said, t) counts' counts in
-      let each' : SetsEach s t (said .quiets) xs = subst (λ (z : Told × ℕ). SetsEach s (z .1) (z .0 .quiets) xs) same each in
-      let w = sets-some s t (said .quiets) xs q each' m in
+      let same = counts-one l sound pos h (said', t') (said, t) counts' counts in
+      let each' : SetsEach l t (said .quiets) xs = subst (λ (z : Told × ℕ). SetsEach l (z .1) (z .0 .quiets) xs) same each in
+      let w = sets-some l t (said .quiets) xs q each' m in
       some-covered xs u (w .0) (w .1)
-      (unit-covers s pos t q (w .0) (w .2) (counted-once s (said .quiets) q (counts-allowed s h said t counts) m) u c)
+      (unit-covers l pos t q (w .0) (w .2) (counted-once l (said .quiets) q (counts-allowed l sound h said t counts) m) u c)
 
   -- ---- by what has begun: from the clock on, the latest end of what runs on is enough, however many run
 
-  module _ (n : ℕ) (until : UntilIs s h n) (from : clockAfter h ≤ u) where
-    before-begun : u < n → BegunUnit s h u
+  module _ (n : ℕ) (until : UntilIs l h n) (from : clockAfter h ≤ u) where
+    before-begun : u < n → BegunUnit l h u
     before-begun lt = ⊎-elim (λ (z : n ≡ 0). absurd (omega arith)) runs (until .1)
       where
-        runs : RunsOn s h n → BegunUnit s h u
-        runs x = let w = runs-on-begun s h n x in (w .0, n, w .1, omega (arith, w .2), lt)
+        runs : RunsOn l h n → BegunUnit l h u
+        runs x = let w = runs-on-begun l sound h n x in (w .0, n, w .1, omega (arith, w .2), lt)
 
-    begun-set-or-before : BegunUnit s h u → SetUnit s h u ⊎ (u < n)
+    begun-set-or-before : BegunUnit l h u → SetUnit l h u ⊎ (u < n)
     begun-set-or-before (a, e, begun, lo, hi) = ⊎-elim
         (λ now. inl (now .said, now .accepted, now .quiet, now .counts, now .among, (a, now .begins, lo, omega (arith, now .ends))))
         (λ on. inr (omega (arith, until .0 e on)))
-        (begun-or-runs-on s h a e begun)
+        (begun-or-runs-on l sound h a e begun)
 
-    pub latest-end-enough : QuietUnit s h u ↔ (SetUnit s h u ⊎ (u < n))
+    pub latest-end-enough : QuietUnit l h u ↔ (SetUnit l h u ⊎ (u < n))
     latest-end-enough = (
       λ q. ⊎-elim (λ x. inl x) begun-set-or-before q,
       λ q. ⊎-elim (λ x. inl x) (λ lt. inr (before-begun lt)) q,
@@ -91,8 +91,8 @@ module _ (s : Settings) (pos : 1 ≤ s .interval) (h : History) (u : ℕ) where
 
   -- ---- the record
 
-  module _ (r : Station) (a : Agrees s h r) (from : clockAfter h ≤ u) where
-    pub quiet-unit : quiet r u ≡ true → QuietUnit s h u
+  module _ (r : Station) (a : Agreeing l h r) (from : clockAfter h ≤ u) where
+    pub quiet-unit : quiet r u ≡ true → QuietUnit l h u
     unfolding quiet
     quiet-unit e =
         ⊎-elim
@@ -100,7 +100,7 @@ module _ (s : Settings) (pos : 1 ≤ s .interval) (h : History) (u : ℕ) where
         (λ (n : ltb u (r .until) ≡ false). inl (covered-set (inUse r) (a .schedules-told) (sym (or-go (ltb u (r .until)) n) ∙ e)))
         (either (ltb u (r .until)))
 
-    set-quiet : SetUnit s h u → quiet r u ≡ true
+    set-quiet : SetUnit l h u → quiet r u ≡ true
     unfolding quiet
     set-quiet x =
         ⊎-elim
@@ -112,5 +112,5 @@ module _ (s : Settings) (pos : 1 ≤ s .interval) (h : History) (u : ℕ) where
     unfolding quiet
     before-quiet lt = or-stop (ltb u (r .until)) _ (lt-ltb u (r .until) lt)
 
-    pub unit-quiet : QuietUnit s h u → quiet r u ≡ true
+    pub unit-quiet : QuietUnit l h u → quiet r u ≡ true
     unit-quiet q = ⊎-elim set-quiet before-quiet (latest-end-enough (r .until) (a .until-told) from .0 q)

@@ -10,7 +10,9 @@ use Rattle.octets.specs.Writing.{wroteTold, wrote, after, left}
 use Rattle.octets.specs.declared.writing.Wrote.{Wrote}
 use Rattle.measured_report.proofs.report_for as Report-for
 use Rattle.reply.proofs.to_measurement_request as To-measurement-request
+use Rattle.reply.proofs.to_measurement_request_in_ibss as To-measurement-request-in-ibss
 use Rattle.reply.proofs.to_tpc_request as To-tpc-request
+use Rattle.reply.proofs.to_tpc_request_in_ibss as To-tpc-request-in-ibss
 use Rattle.reply.specs.Replies.{leftBy, Replied}
 use Rattle.answer.specs.Outcomes.{OneOutcome, OneResult}
 use Rattle.claims.proofs.Same.{once, told-once, answer, answer-told}
@@ -26,6 +28,13 @@ to-tpc-request κs a e f x y p q = replied-once p q
 
 pub to-measurement-request : OneOutcome 2 To-measurement-request.Kinds.ps To-measurement-request.Kinds.r To-measurement-request.Reads.Post (λ κs e. now (e .1 .1 .1 .1 .1 .1 .0))
 to-measurement-request κs a e f x y p q = replied-once p q
+
+pub to-tpc-request-in-ibss : OneOutcome 2 To-tpc-request-in-ibss.Kinds.ps To-tpc-request-in-ibss.Kinds.r To-tpc-request-in-ibss.Reads.Post (λ κs e. now (e .1 .1 .1 .1 .0))
+to-tpc-request-in-ibss κs a e f x y p q = replied-once p q
+
+pub to-measurement-request-in-ibss : OneOutcome 2 To-measurement-request-in-ibss.Kinds.ps To-measurement-request-in-ibss.Kinds.r To-measurement-request-in-ibss.Reads.Post
+    (λ κs e. now (e .1 .1 .1 .1 .1 .1 .0))
+to-measurement-request-in-ibss κs a e f x y p q = replied-once p q
 
 -- ---- demand 1
 

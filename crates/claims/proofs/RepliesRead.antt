@@ -6,10 +6,7 @@ use mathlib.Core.Logic.{_⊎_, inl, inr}
 use mathlib.Core.Path.{_≡_, refl, ap, _∙_, subst₂}
 use Prim.Native.Nat.{ℕ, _≤_, _<_, _^_}
 use native.Mathlib.Omega.{arith}
-use borrow.Author.Tests.{eq-eqb}
-use lib.Dec.{eqb}
 use lib.ListN.{length}
-use Rattle.answer.proofs.Booleans.{and-go}
 use Rattle.answer.specs.Checks.{accepted}
 use Rattle.element.specs.TpcReport.{TpcReportFits, tpcReportOctets}
 use Rattle.element.specs.declared.tpc_report.TpcReport.{TpcReport}
@@ -17,7 +14,9 @@ use Rattle.frame.proofs.ActionTrip.{action-trip}
 use Rattle.frame.specs.Actions.{Body, requests, reports, tpcRequest, tpcReport, actionMeans, actionOctets, actionMay, ActionFits}
 use Rattle.frame.specs.Frames.{action, frameMeans}
 use Rattle.header.proofs.Heard.{heard-as}
-use Rattle.header.specs.Headers.{same, da, sa, toAll, foreignHeader, foreignAddress, headerMeans}
+use Rattle.header.proofs.Addresses.{same-self}
+use Rattle.header.specs.Headers.{da, sa, toAll, foreignHeader, foreignAddress, headerMeans}
+use Rattle.header.specs.declared.address.Cell.{Cell}
 use Rattle.header.specs.declared.management.Subtype.{Subtype}
 use Rattle.measured_report.specs.declared.Readings.{Readings}
 use Rattle.measurement_body.specs.Lists.{mayAll, mayList}
@@ -39,10 +38,6 @@ use Rattle.claims.specs.RepliesRead.{TpcReadsBack, ReadsBack}
 
 -- ---- the header
 
-same-self : (xs : List ℕ) → same xs xs ≡ true
-same-self [] = refl
-same-self (x ∷ xs) = and-go (eqb x x) (eq-eqb x x refl) ∙ same-self xs
-
 -- between the addresses of a frame that went to one station
 module _ (f os : List ℕ) (one : toAll f ≡ false) (short : length os ≤ longestReplyBody) where
   abbrev heard : List ℕ
@@ -56,12 +51,12 @@ module _ (f os : List ℕ) (one : toAll f ≡ false) (short : length os ≤ long
   unfolding toAll
   to-one = one
 
-  from-ap : foreignAddress (da f) (sa f) heard ≡ false
+  from-ap : foreignAddress Cell.Ap (da f) (sa f) heard ≡ false
   unfolding foreignAddress
   from-ap = rw (same-self (sa f), same-self (da f))
 
-  headed : headerMeans (da f) (sa f) heard ≡ accepted (record { subtype = Subtype.Action; toAll = false })
-  headed = heard-as (da f) (sa f) heard Subtype.Action false (omega arith) (omega arith) not-foreign from-ap refl to-one
+  headed : headerMeans Cell.Ap (da f) (sa f) heard ≡ accepted (record { subtype = Subtype.Action; toAll = false })
+  headed = heard-as Cell.Ap (da f) (sa f) heard Subtype.Action false (omega arith) (omega arith) not-foreign from-ap refl to-one
 
   framed : (b : ℕ) (k : Body) → actionMeans os ≡ accepted k → frameMeans (da f) (sa f) b heard ≡ accepted (record { toAll = false; kind = action k })
   unfolding frameMeans

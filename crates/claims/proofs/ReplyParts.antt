@@ -20,7 +20,7 @@ use Rattle.measurement_element.specs.declared.measurement_report.Report.{Report
 use Rattle.measurement_element.specs.declared.measurement_request.Request.{Request}
 use Rattle.reply.specs.Due.{Owed, asks, breaks, dueMeans}
 use Rattle.reply.specs.Frames.{replyFrame, errorReturn}
-use Rattle.reply.specs.Replies.{owed, tpcAnswer, tpcReply, measurementAnswer, measurementReply}
+use Rattle.reply.specs.Replies.{owed, tpcAnswer, tpcReply, measurementAnswer, measurementReply, tpcReplyIn, measurementReplyIn}
 use Rattle.single_body.specs.Singles.{tpcReportBody}
 
 module _ (own ap f os : List ℕ) where
@@ -53,7 +53,7 @@ module _ (own ap f os : List ℕ) where
     by-tpc-request (switch w) d g = absurd (never g)
 
     pub tpc-parts : tpcReply own ap report f ≡ accepted os → TpcParts report ⊎ ReturnParts
-    unfolding tpcReply
+    unfolding tpcReplyIn
     tpc-parts e = let (x, d, g) = followed (dueMeans own ap f) _ os e in by-owed (tpcAnswer own ap report) by-tpc-request x d g
 
   -- ---- to an element of a Measurement Request
@@ -97,5 +97,5 @@ module _ (own ap f os : List ℕ) where
     by-request (switch w) d g = absurd (never g)
 
     pub measurement-parts : measurementReply own ap clock index readings f ≡ accepted os → MeasurementParts clock index readings ⊎ ReturnParts
-    unfolding measurementReply
+    unfolding measurementReplyIn
     measurement-parts e = let (x, d, g) = followed (dueMeans own ap f) _ os e in by-owed (measurementAnswer own ap clock index readings) by-request x d g

@@ -18,6 +18,7 @@ use Rattle.answer.specs.declared.Refusal.{Refusal}
 use Rattle.frame.specs.Actions.{Body}
 use Rattle.frame.specs.Frames.{Kind, action, kindOf, sent, frameMeans}
 use Rattle.header.specs.Headers.{headerLength, longestFrame, bodyOf, same, da, sa, bssid, flags, subtype, fragment, isRead, subtypeOf, hasForeignFlag, foreignHeader, toAll, foreignAddress, managementMeans, addressMeans, Head, headerMeans}
+use Rattle.header.specs.declared.address.Cell.{Cell}
 use Rattle.header.specs.declared.management.Subtype.{Subtype}
 use Rattle.octets.specs.Numbers.{octet, bit}
 use Rattle.claims.specs.Reserved.{headerIgnored, MeasurementsAlike, FramesAlike}
@@ -111,11 +112,11 @@ module _ (f g : List ℕ) (a : FramesAlike f g) where
       ∙ ap₂ (managedBy (length g) (octet 0 g)) same-flags same-fragment
 
   module _ (own ap' : List ℕ) where
-    same-address : addressMeans own ap' f ≡ addressMeans own ap' g
+    same-address : addressMeans Cell.Ap own ap' f ≡ addressMeans Cell.Ap own ap' g
     unfolding addressMeans foreignAddress toAll
     same-address = ap₂ (λ (x y : List ℕ). addressedBy own ap' x y (bssid f)) same-da same-sa ∙ ap (addressedBy own ap' (da g) (sa g)) same-bssid
 
-    same-header : headerMeans own ap' f ≡ headerMeans own ap' g
+    same-header : headerMeans Cell.Ap own ap' f ≡ headerMeans Cell.Ap own ap' g
     unfolding headerMeans
     same-header =
         ap₂ (λ (m : Outcome Subtype) (o : Outcome Bool). andThen m (λ s. andThen o (λ t. accepted (headOf s t)))) same-management same-address
@@ -123,16 +124,16 @@ module _ (f g : List ℕ) (a : FramesAlike f g) where
     -- ---- the body
 
     -- an accepted header has the subtype of the frame
-    subtype-is : (h : Head) → headerMeans own ap' g ≡ accepted h → subtypeOf (subtype g) ≡ h .subtype
+    subtype-is : (h : Head) → headerMeans Cell.Ap own ap' g ≡ accepted h → subtypeOf (subtype g) ≡ h .subtype
     unfolding headerMeans managementMeans
     subtype-is h e =
         let p = followed (managementMeans g) _ h e in
-        let q = followed (addressMeans own ap' g) _ h (p .2) in
+        let q = followed (addressMeans Cell.Ap own ap' g) _ h (p .2) in
         let r = passed _ _ _ (passed _ _ _ (passed _ _ _ (p .1) .1) .1) in
         kept _ (r .1) ∙ ap (λ (x : Head). x .subtype) (let is : headOf (p .0) (q .0) ≡ h = accepted-once (q .2) in is)
 
     module _ (b : ℕ) where
-      same-kind : (h : Head) → headerMeans own ap' g ≡ accepted h → kindOf b (h .subtype) (bodyOf f) ≡ kindOf b (h .subtype) (bodyOf g)
+      same-kind : (h : Head) → headerMeans Cell.Ap own ap' g ≡ accepted h → kindOf b (h .subtype) (bodyOf f) ≡ kindOf b (h .subtype) (bodyOf g)
       same-kind h e = by (a .bodies)
         where
           by : (bodyOf f ≡ bodyOf g) ⊎ ((subtype f ≡ 13) × MeasurementsAlike (bodyOf f) (bodyOf g))
@@ -148,5 +149,5 @@ module _ (f g : List ℕ) (a : FramesAlike f g) where
       unfolding frameMeans
       frame-ignored =
           ap (λ (o : Outcome Head). andThen (nowhere o) (λ h. sent (h .toAll) (placedPast headerLength (kindOf b (h .subtype) (bodyOf f))))) same-header
-          ∙ then-alike (nowhere (headerMeans own ap' g)) _ _
-          (λ h e. ap (λ (k : Placed Kind). sent (h .toAll) (placedPast headerLength k)) (same-kind h (nowhere-value (headerMeans own ap' g) e)))
+          ∙ then-alike (nowhere (headerMeans Cell.Ap own ap' g)) _ _
+          (λ h e. ap (λ (k : Placed Kind). sent (h .toAll) (placedPast headerLength k)) (same-kind h (nowhere-value (headerMeans Cell.Ap own ap' g) e)))

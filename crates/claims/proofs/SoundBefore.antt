@@ -22,6 +22,7 @@ use Rattle.frame.specs.Actions.{Body, actionMeans}
 use Rattle.frame.specs.Frames.{Kind, beacon, probeResponse, action, kindOf, sent, frameMeans}
 use Rattle.header.proofs.Heard.{heard-as, has-header, not-too-long}
 use Rattle.header.specs.Headers.{headerLength, bodyOf, same, da, sa, bssid, version, type, flags, fragment, subtype, isRead, hasForeignFlag, subtypeOf, foreignHeader, toAll, foreignAddress, managementMeans, addressMeans, Head, headerMeans}
+use Rattle.header.specs.declared.address.Cell.{Cell}
 use Rattle.header.specs.declared.management.Subtype.{Subtype}
 use Rattle.octets.specs.Numbers.{octet}
 use Rattle.claims.specs.SoundBefore.{firstElement, SoundBefore}
@@ -47,7 +48,7 @@ module _ (p : ℕ) (f : List ℕ) (h : headerLength ≤ p) where
   unfolding toAll
   same-to-all = ap (λ (os : List ℕ). same os (replicate 6 255)) (from-kept p f 6 4 (omega arith))
 
-  same-address : (own ap' : List ℕ) → foreignAddress own ap' (take p f) ≡ foreignAddress own ap' f
+  same-address : (own ap' : List ℕ) → foreignAddress Cell.Ap own ap' (take p f) ≡ foreignAddress Cell.Ap own ap' f
   unfolding foreignAddress
   same-address own ap' =
       ap₂ (λ (from bss : List ℕ). not (same from ap') || (not (same bss ap') || not (same (da (take p f)) own || toAll (take p f))))
@@ -61,7 +62,7 @@ module _ (p : ℕ) (f : List ℕ) (h : headerLength ≤ p) where
 record Headed (own ap' : List ℕ) (f : List ℕ) (h : Head) : Type 0 where
   read : isRead (subtype f) ≡ true
   is : subtypeOf (subtype f) ≡ h .subtype
-  stays : (p : ℕ) → headerLength ≤ p → headerMeans own ap' (take p f) ≡ accepted h
+  stays : (p : ℕ) → headerLength ≤ p → headerMeans Cell.Ap own ap' (take p f) ≡ accepted h
 
 is-read : (f : List ℕ) → foreignHeader f ≡ false → isRead (subtype f) ≡ true
 unfolding foreignHeader
@@ -70,11 +71,11 @@ is-read f e =
     let typed = neither (not (eqb (version f) 0)) (not (eqb (type f) 0) || (not (isRead (subtype f)) || rest)) e .1 in
     not-false (isRead (subtype f)) (neither (not (isRead (subtype f))) rest (neither (not (eqb (type f) 0)) (not (isRead (subtype f)) || rest) typed .1) .0)
 
-headed : (own ap' : List ℕ) (f : List ℕ) (h : Head) → headerMeans own ap' f ≡ accepted h → Headed own ap' f h
+headed : (own ap' : List ℕ) (f : List ℕ) (h : Head) → headerMeans Cell.Ap own ap' f ≡ accepted h → Headed own ap' f h
 unfolding headerMeans managementMeans addressMeans
 headed own ap' f h e =
     let m = followed (managementMeans f) _ h e in
-    let a = followed (addressMeans own ap' f) _ h (m .2) in
+    let a = followed (addressMeans Cell.Ap own ap' f) _ h (m .2) in
     let managed = passed _ _ _ (passed _ _ _ (passed _ _ _ (m .1) .1) .1) in
     let addressed = passed _ _ _ (a .1) in
     let is : subtypeOf (subtype f) ≡ m .0 = kept _ (managed .1) in
@@ -84,9 +85,9 @@ headed own ap' f h e =
       is = is ∙ ap (λ (x : Head). x .subtype) (accepted-once (a .2));
       stays =
           λ p late.
-          heard-as own ap' (take p f) (m .0) (a .0)
-          (long-kept p f headerLength late (has-header own ap' f h e))
-          (omega (arith, length-take p f, not-too-long own ap' f h e))
+          heard-as Cell.Ap own ap' (take p f) (m .0) (a .0)
+          (long-kept p f headerLength late (has-header Cell.Ap own ap' f h e))
+          (omega (arith, length-take p f, not-too-long Cell.Ap own ap' f h e))
           (same-header p f late ∙ managed .0)
           (same-address p f late own ap' ∙ addressed .0)
           (ap subtypeOf (same-subtype p f late) ∙ is)
@@ -107,7 +108,7 @@ notice-is n e other = by (eqb n 5) (eqb n 8) (eqb n 13) e other
 
 -- ---- the frame
 
-module _ (own ap' : List ℕ) (b : ℕ) (f : List ℕ) (p : ℕ) (h : Head) (head : headerMeans own ap' f ≡ accepted h) (q : ℕ) (place : p ≡ headerLength + q) where
+module _ (own ap' : List ℕ) (b : ℕ) (f : List ℕ) (p : ℕ) (h : Head) (head : headerMeans Cell.Ap own ap' f ≡ accepted h) (q : ℕ) (place : p ≡ headerLength + q) where
   -- the first octets mean what the first octets of the body do
   cut-means : frameMeans own ap' b (take p f) ≡ sent (h .toAll) (placedPast headerLength (kindOf b (h .subtype) (take q (bodyOf f))))
   unfolding frameMeans
@@ -115,7 +116,7 @@ module _ (own ap' : List ℕ) (b : ℕ) (f : List ℕ) (p : ℕ) (h : Head) (hea
       ap (λ (o : Outcome Head). andThen (nowhere o) (λ x. sent (x .toAll) (placedPast headerLength (kindOf b (x .subtype) (bodyOf (take p f))))))
       (headed own ap' f h head .stays p (omega (arith, place)))
       ∙ ap (λ (os : List ℕ). sent (h .toAll) (placedPast headerLength (kindOf b (h .subtype) os)))
-      (ap (λ (n : ℕ). bodyOf (take n f)) place ∙ after-cut headerLength q f (has-header own ap' f h head))
+      (ap (λ (n : ℕ). bodyOf (take n f)) place ∙ after-cut headerLength q f (has-header Cell.Ap own ap' f h head))
 
   cut-accepted : Accepts (kindOf b (h .subtype) (take q (bodyOf f))) → Accepts (frameMeans own ap' b (take p f))
   cut-accepted (k, e) = (_, cut-means ∙ ap (λ (o : Placed Kind). sent (h .toAll) (placedPast headerLength o)) e)
@@ -183,8 +184,8 @@ pub sound-before : (own ap' : List ℕ) (b : ℕ) (f : List ℕ) (p : ℕ) (r : 
     → SoundBefore own ap' b f p
 unfolding frameMeans
 sound-before own ap' b f p r e late =
-    refused-by (nowhere (headerMeans own ap' f)) _ e
-    (λ g. absurd (not-nowhere p r (headerMeans own ap' f) g))
+    refused-by (nowhere (headerMeans Cell.Ap own ap' f)) _ e
+    (λ g. absurd (not-nowhere p r (headerMeans Cell.Ap own ap' f) g))
     (λ h g k.
     let x = past-place p r headerLength (kindOf b (h .subtype) (bodyOf f)) (made-refused (placedPast headerLength (kindOf b (h .subtype) (bodyOf f))) _ k) in
-    sound own ap' b f p h (nowhere-value (headerMeans own ap' f) g) (x .own) (x .place) r (x .refuses) late)
+    sound own ap' b f p h (nowhere-value (headerMeans Cell.Ap own ap' f) g) (x .own) (x .place) r (x .refuses) late)

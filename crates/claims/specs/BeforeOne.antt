@@ -19,6 +19,7 @@ use Rattle.element.specs.TpcRequest.{tpcRequestMeans}
 use Rattle.frame.specs.Actions.{Body, requests, reports, tpcRequest, tpcReport, switch}
 use Rattle.frame.specs.Frames.{Kind, beacon, probeResponse, action, Sent}
 use Rattle.header.specs.Headers.{bodyOf, Head, headerMeans}
+use Rattle.header.specs.declared.address.Cell.{Cell}
 use Rattle.header.specs.declared.management.Subtype.{Subtype}
 use Rattle.measurement_body.specs.Lists.{Sort, repeats}
 use Rattle.measurement_body.specs.Reports.{reportSort}
@@ -119,7 +120,7 @@ module _ (walk : List ℕ → Handed) where
 
   unfoldable pub oldFrameBy : List ℕ → List ℕ → ℕ → List ℕ → Outcome Sent
   oldFrameBy own ap b f =
-      andThen (headerMeans own ap f)
+      andThen (headerMeans Cell.Ap own ap f)
       (λ h. andThen (oldKindOf b (h .subtype) (bodyOf f)) (λ k. accepted (record { toAll = h .toAll; kind = k })))
 
 abbrev pub oldFrameMeans : List ℕ → List ℕ → ℕ → List ℕ → Outcome Sent
@@ -156,4 +157,4 @@ asBefore o = oldTold (withoutPlace o)
 
 -- of a frame for the station: it is asked of an action frame alone
 abbrev pub NothingPassed : List ℕ → List ℕ → List ℕ → Type 0
-NothingPassed own ap f = (h : Head) → headerMeans own ap f ≡ accepted h → h .subtype ≡ Subtype.Action → NoVendor (bodyOf f)
+NothingPassed own ap f = (h : Head) → headerMeans Cell.Ap own ap f ≡ accepted h → h .subtype ≡ Subtype.Action → NoVendor (bodyOf f)

@@ -1,5 +1,5 @@
--- The history of one station (00, demand 3): the settings that it was started with, the calls that it was given after the start, refused
--- ones among them, and what can be read off them. Nothing here names a station or a step of one.
+-- The history of one station (00, demand 3): what it goes by from its start on, the calls that it was given after the start, refused
+-- ones among them, and what can be read off them. Nothing here names a station's record or a step of one.
 use mathlib.Core.Bool.{Bool, _||_}
 use mathlib.Core.List.{List, [], _∷_}
 use mathlib.Core.Logic.{_⊎_}
@@ -13,7 +13,7 @@ use Rattle.beacon.specs.declared.MaybeSwitch.{MaybeSwitch}
 use Rattle.capture_record.specs.declared.entry.Settings.{Settings}
 use Rattle.element.specs.declared.channel_switch.ChannelSwitch.{ChannelSwitch}
 use Rattle.element.specs.declared.power_constraint.PowerConstraint.{PowerConstraint}
-use Rattle.frame.specs.Actions.{requests, reports, tpcRequest, tpcReport, switch}
+use Rattle.frame.specs.Announcements.{announcementIn}
 use Rattle.frame.specs.Frames.{Kind, beacon, probeResponse, action, frameMeans}
 
 -- a call as it was made: the octets of a frame, an advance by so many TU, a question to send for so many TU
@@ -41,11 +41,22 @@ clockAfter (ask n ∷ h) = clockAfter h
 
 -- ---- accepted frames
 
--- the call was a frame that was accepted, and it was of this kind
+-- a station by what it goes by: its beacon interval, its channel at the start, and as what kind of frame it hears a call, after the calls before it.
+-- To hear is to accept: a call that is no frame, or a refused one, is heard as nothing
+pub record Listener : Type 1 where
+  pub interval : ℕ
+  pub channel : ℕ
+  pub hears : Call → History → Kind → Type 0
+
+-- by a station's settings (01): the call was a frame that was accepted, and it was of this kind
 abbrev pub Hears : Settings → Call → Kind → Type 0
 Hears s (frame f) k = (toAll : Bool) × (frameMeans (s .own) (s .ap) (s .interval) f ≡ accepted (record { toAll = toAll; kind = k }))
 Hears s (advance n) k = ⊥
 Hears s (ask n) k = ⊥
+
+-- the station of 01: whether it accepts a frame depends on the frame alone, whatever came before
+abbrev pub listener : Settings → Listener
+listener s = record { interval = s .interval; channel = s .channel; hears = λ c h k. Hears s c k }
 
 -- a beacon or a probe response says this
 abbrev pub Says : Kind → Told → Type 0
@@ -53,27 +64,17 @@ Says (beacon t) said = t ≡ said
 Says (probeResponse t) said = t ≡ said
 Says (action body) said = ⊥
 
--- an announcement stands in a beacon, in a probe response, or in an action frame of its own
-abbrev pub announcementIn : Kind → MaybeSwitch
-announcementIn (beacon t) = t .notice .switch
-announcementIn (probeResponse t) = t .notice .switch
-announcementIn (action (requests token rs)) = MaybeSwitch.Absent
-announcementIn (action (reports token rs)) = MaybeSwitch.Absent
-announcementIn (action (tpcRequest token)) = MaybeSwitch.Absent
-announcementIn (action (tpcReport token t)) = MaybeSwitch.Absent
-announcementIn (action (switch w)) = MaybeSwitch.Is w
+-- the call, made after h, was an accepted beacon or probe response
+abbrev pub Tells : Listener → Call → History → Told → Type 0
+Tells l c h said = (k : Kind) × l .hears c h k × Says k said
 
--- the call was an accepted beacon or probe response
-abbrev pub Tells : Settings → Call → Told → Type 0
-Tells s c said = (k : Kind) × Hears s c k × Says k said
+-- it was an accepted announcement
+abbrev pub Announces : Listener → Call → History → ChannelSwitch → Type 0
+Announces l c h w = (k : Kind) × l .hears c h k × (announcementIn k ≡ MaybeSwitch.Is w)
 
--- the call was an accepted announcement
-abbrev pub Announces : Settings → Call → ChannelSwitch → Type 0
-Announces s c w = (k : Kind) × Hears s c k × (announcementIn k ≡ MaybeSwitch.Is w)
-
--- the call was an accepted beacon or probe response with a Power Constraint
-abbrev pub Constrains : Settings → Call → PowerConstraint → Type 0
-Constrains s c p = (said : Told) × Tells s c said × (said .notice .power ≡ MaybePower.Is p)
+-- it was an accepted beacon or probe response with a Power Constraint
+abbrev pub Constrains : Listener → Call → History → PowerConstraint → Type 0
+Constrains l c h p = (said : Told) × Tells l c h said × (said .notice .power ≡ MaybePower.Is p)
 
 -- ---- the latest of some calls
 

@@ -22,7 +22,7 @@ use Rattle.station.specs.declared.asking.Permission.{Permission}
 use Rattle.capture.specs.Lines.{closingOf}
 use Rattle.capture.specs.declared.words.Word.{Word}
 use Rattle.capture_record.specs.declared.entry.Settings.{Settings}
-use Rattle.claims.specs.Histories.{frame, advance, ask, History, tooFar, clockAfter}
+use Rattle.claims.specs.Histories.{frame, advance, ask, History, tooFar, clockAfter, listener}
 use Rattle.claims.specs.Numbered.{Said, numberedFrom, damagedAmong}
 use Rattle.claims.specs.OpenUnits.{Applies}
 
@@ -63,7 +63,7 @@ Tells (advancing n) (since s h) line = line ≡ says Word.Advance (pick (tooFar 
 Tells (hearing f) nobody line = line ≡ says Word.Frame (numberOf Refusal.NoStation)
 Tells (hearing f) (since s h) line = line ≡ saysFrame (frameMeans (s .own) (s .ap) (s .interval) f)
 Tells (asking n) nobody line = line ≡ says Word.Ask (numberOf Refusal.NoStation)
-Tells (asking n) (since s h) line = (p : Permission) × Applies s h n p × (line ≡ says Word.Ask (permissionNumber p))
+Tells (asking n) (since s h) line = (p : Permission) × Applies (listener s) h n p × (line ≡ says Word.Ask (permissionNumber p))
 
 -- the lines of records, and who is followed after them
 unfoldable pub TellsRecords : Records → Followed → List Said → Followed → Type 0

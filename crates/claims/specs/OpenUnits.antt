@@ -9,20 +9,19 @@ use Rattle.beacon.specs.Beacons.{Told}
 use Rattle.element.specs.declared.channel_switch.ChannelSwitch.{ChannelSwitch}
 use Rattle.element.specs.declared.quiet.Quiet.{Quiet}
 use Rattle.station.specs.declared.asking.Permission.{Permission}
-use Rattle.capture_record.specs.declared.entry.Settings.{Settings}
-use Rattle.claims.specs.Histories.{History, clockAfter}
+use Rattle.claims.specs.Histories.{History, clockAfter, Listener}
 use Rattle.claims.specs.QuietRuns.{CoversUnit}
 use Rattle.claims.specs.Standing.{Awaits, Counts, Begun}
 
-module _ (s : Settings) (h : History) where
+module _ (l : Listener) (h : History) where
   -- the unit lies in a quiet interval set by the latest accepted beacon or probe response since the last switch
   abbrev pub SetUnit : ℕ → Type 0
   SetUnit u =
-      (said : Told) × (t : ℕ) × (q : Quiet) × Counts s h said t × List·Memᴰ q (said .quiets) × CoversUnit (s .interval) t q u
+      (said : Told) × (t : ℕ) × (q : Quiet) × Counts l h said t × List·Memᴰ q (said .quiets) × CoversUnit (l .interval) t q u
 
   -- the unit lies in a "quiet interval begun while its frame was the latest, with no switch at its beginning or since" (02, Two)
   abbrev pub BegunUnit : ℕ → Type 0
-  BegunUnit u = (a : ℕ) × (e : ℕ) × Begun s h a e × (a ≤ u) × (u < e)
+  BegunUnit u = (a : ℕ) × (e : ℕ) × Begun l h a e × (a ≤ u) × (u < e)
 
   -- the unit is quiet by the one or by the other
   abbrev pub QuietUnit : ℕ → Type 0
@@ -31,8 +30,8 @@ module _ (s : Settings) (h : History) where
   -- the unit lies before any pending switch, outside the wait of a mode-1 announcement that is still the latest, outside every quiet
   -- interval that the latest frame set and outside every one that has begun
   pub record Open (u : ℕ) : Type 0 where
-    pub before-switch : (at : ℕ) (w : ChannelSwitch) → Awaits s h at w → u < at
-    pub no-wait : (at : ℕ) (w : ChannelSwitch) → Awaits s h at w → w .mode ≡ 1 → u < at → ⊥
+    pub before-switch : (at : ℕ) (w : ChannelSwitch) → Awaits l h at w → u < at
+    pub no-wait : (at : ℕ) (w : ChannelSwitch) → Awaits l h at w → w .mode ≡ 1 → u < at → ⊥
     pub not-set : SetUnit u → ⊥
     pub not-begun : BegunUnit u → ⊥
 
@@ -44,16 +43,16 @@ module _ (s : Settings) (h : History) where
 
   -- a mode-1 switch is pending
   abbrev pub Waits : Type 0
-  Waits = (at : ℕ) × (w : ChannelSwitch) × Awaits s h at w × (w .mode ≡ 1)
+  Waits = (at : ℕ) × (w : ChannelSwitch) × Awaits l h at w × (w .mode ≡ 1)
 
   -- some covered unit after t and before the pending switch, if any, is quiet
   abbrev pub QuietLater : ℕ → Type 0
   QuietLater n =
-      (u : ℕ) × (clockAfter h < u) × (u < clockAfter h + n) × ((at : ℕ) (w : ChannelSwitch) → Awaits s h at w → u < at) × QuietUnit u
+      (u : ℕ) × (clockAfter h < u) × (u < clockAfter h + n) × ((at : ℕ) (w : ChannelSwitch) → Awaits l h at w → u < at) × QuietUnit u
 
   -- the switch lies before t + n
   abbrev pub SwitchWithin : ℕ → Type 0
-  SwitchWithin n = (at : ℕ) × (w : ChannelSwitch) × Awaits s h at w × (at < clockAfter h + n)
+  SwitchWithin n = (at : ℕ) × (w : ChannelSwitch) × Awaits l h at w × (at < clockAfter h + n)
 
   -- ---- the answers: each one exactly where it is the first that applies
 

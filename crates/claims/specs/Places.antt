@@ -34,6 +34,7 @@ BrokenAt f n Refusal.BlockDamaged = ⊥
 BrokenAt f n Refusal.NoReplyDue = ⊥
 BrokenAt f n Refusal.NoStation = ⊥
 BrokenAt f n Refusal.RecordMalformed = ⊥
+BrokenAt f n Refusal.ForeignAnnouncement = ⊥
 
 -- 1 to 4: no octet is at fault
 abbrev pub BrokenNowhere : Refusal → Type 0

@@ -7,8 +7,20 @@ use Rattle.station.specs.Stations.{fresh, inUse}
 use Rattle.station.specs.Taking.{takeOf}
 use Rattle.station.specs.declared.Station.{Station}
 use Rattle.capture_record.specs.declared.entry.Settings.{Settings}
-use Rattle.claims.specs.Histories.{frame, advance, ask, History, clockAfter}
+use Rattle.claims.specs.Histories.{frame, advance, ask, History, clockAfter, Listener, listener}
 use Rattle.claims.specs.Standing.{ChannelIs, PowerIs, PendingIs, SchedulesAre, UntilIs}
+
+-- whoever listened, every field is what the history says, but for the addresses, of which it says nothing
+pub record Agreeing (l : Listener) (h : History) (r : Station) : Type 0 where
+  pub same-interval : r .interval ≡ l .interval
+  pub same-clock : r .clock ≡ clockAfter h
+  pub channel-told : ChannelIs l h (r .channel)
+  pub power-told : PowerIs l h (r .power)
+  pub pending-told : PendingIs l h (r .pending)
+  pub schedules-told : SchedulesAre l h (inUse r)
+  pub until-told : UntilIs l h (r .until)
+
+-- ---- the station of 01
 
 module _ (s : Settings) where
   unfoldable pub recordAfter : History → Station
@@ -17,13 +29,8 @@ module _ (s : Settings) where
   recordAfter (advance n ∷ h) = advanceOf (recordAfter h) n .station
   recordAfter (ask n ∷ h) = recordAfter h
 
+  -- the addresses are those of the settings
   pub record Agrees (h : History) (r : Station) : Type 0 where
     pub same-own : r .own ≡ s .own
     pub same-ap : r .ap ≡ s .ap
-    pub same-interval : r .interval ≡ s .interval
-    pub same-clock : r .clock ≡ clockAfter h
-    pub channel-told : ChannelIs s h (r .channel)
-    pub power-told : PowerIs s h (r .power)
-    pub pending-told : PendingIs s h (r .pending)
-    pub schedules-told : SchedulesAre s h (inUse r)
-    pub until-told : UntilIs s h (r .until)
+    pub as-heard : Agreeing (listener s) h r

@@ -12,23 +12,22 @@ use Rattle.element.specs.declared.power_constraint.PowerConstraint.{PowerConstr
 use Rattle.element.specs.declared.quiet.Quiet.{Quiet}
 use Rattle.pending.specs.declared.Pending.{Pending}
 use Rattle.schedule.specs.declared.Schedule.{Schedule}
-use Rattle.capture_record.specs.declared.entry.Settings.{Settings}
-use Rattle.claims.specs.Histories.{Call, History, clockAfter, Tells, Announces, Constrains, Latest, Throughout}
+use Rattle.claims.specs.Histories.{Call, History, clockAfter, Listener, Tells, Announces, Constrains, Latest, Throughout}
 use Rattle.claims.specs.QuietRuns.{RunBegins}
 use Rattle.claims.specs.Tbtts.{CountedTo}
 
-module _ (s : Settings) where
+module _ (l : Listener) where
   -- ---- announcements and switches
 
   abbrev pub NoAnnouncement : Call → History → Type 0
-  NoAnnouncement c h = (w : ChannelSwitch) → Announces s c w → ⊥
+  NoAnnouncement c h = (w : ChannelSwitch) → Announces l c h w → ⊥
 
   -- the latest announcement is w, for the moment `at`: so many TBTTs after it was accepted, and with a count of 0 at once
   abbrev pub LastAnnounced : History → ℕ → ChannelSwitch → Type 0
   LastAnnounced h at w =
       Latest
       NoAnnouncement
-      (λ c g. Announces s c w × CountedTo (s .interval) (clockAfter g) (w .count) at)
+      (λ c g. Announces l c g w × CountedTo (l .interval) (clockAfter g) (w .count) at)
       h
 
   -- its moment is still to come
@@ -37,7 +36,7 @@ module _ (s : Settings) where
 
   -- the call, made after h, brings a switch: by a count of 0, or since the clock reaches the moment that was awaited
   pub data Switches (c : Call) (h : History) (w : ChannelSwitch) : Type 0 where
-    at-once : Announces s c w → w .count ≡ 0 → Switches c h w
+    at-once : Announces l c h w → w .count ≡ 0 → Switches c h w
     reached : (at : ℕ) → Awaits h at w → at ≤ clockAfter (c ∷ h) → Switches c h w
 
   abbrev pub NoSwitch : Call → History → Type 0
@@ -49,8 +48,8 @@ module _ (s : Settings) where
   abbrev pub Counts : History → Told → ℕ → Type 0
   Counts h said t =
       Latest
-      (λ c g. ((x : Told) → Tells s c x → ⊥) × NoSwitch c g)
-      (λ c g. Tells s c said × (t ≡ clockAfter g) × NoSwitch c g)
+      (λ c g. ((x : Told) → Tells l c g x → ⊥) × NoSwitch c g)
+      (λ c g. Tells l c g said × (t ≡ clockAfter g) × NoSwitch c g)
       h
 
   -- ---- quiet intervals that have begun
@@ -62,7 +61,7 @@ module _ (s : Settings) where
     pub counts : Counts h said accepted
     pub quiet : Quiet
     pub among : List·Memᴰ quiet (said .quiets)
-    pub begins : RunBegins (s .interval) accepted quiet a
+    pub begins : RunBegins (l .interval) accepted quiet a
     pub begun : a ≤ clockAfter h
     pub ends : e ≡ a + quiet .duration
 
@@ -72,22 +71,22 @@ module _ (s : Settings) where
 
   -- one that had begun, and ends before e, runs on: a later beacon or probe response replaced its frame, and no switch came with it or since
   abbrev pub RunsOn : History → ℕ → Type 0
-  RunsOn h e = Latest NoSwitch (λ c g. ((said : Told) × Tells s c said) × NoSwitch c g × ((a : ℕ) × BegunNow g a e)) h
+  RunsOn h e = Latest NoSwitch (λ c g. ((said : Told) × Tells l c g said) × NoSwitch c g × ((a : ℕ) × BegunNow g a e)) h
 
   -- ---- each field of the record, as the history has it
 
   -- the latest switch gave the channel; before any switch it is that of the start
   abbrev pub ChannelIs : History → ℕ → Type 0
   ChannelIs h n =
-      (Throughout NoSwitch h × (n ≡ s .channel))
+      (Throughout NoSwitch h × (n ≡ l .channel))
       ⊎ Latest NoSwitch (λ c g. (w : ChannelSwitch) × Switches c g w × (n ≡ w .channel)) h
 
   -- the latest Power Constraint, and no switch with it or after it
   abbrev pub LastConstrained : History → PowerConstraint → Type 0
   LastConstrained h p =
       Latest
-      (λ c g. ((x : PowerConstraint) → Constrains s c x → ⊥) × NoSwitch c g)
-      (λ c g. Constrains s c p × NoSwitch c g)
+      (λ c g. ((x : PowerConstraint) → Constrains l c g x → ⊥) × NoSwitch c g)
+      (λ c g. Constrains l c g p × NoSwitch c g)
       h
 
   abbrev pub PowerIs : History → MaybePower → Type 0
@@ -102,9 +101,9 @@ module _ (s : Settings) where
   -- a Quiet element that was accepted at t starts so far past the TBTT that it counts to, and runs again every so many TBTTs
   pub record Sets (t : ℕ) (q : Quiet) (x : Schedule) : Type 0 where
     pub tbtt : ℕ
-    pub counted : CountedTo (s .interval) t (q .count) tbtt
+    pub counted : CountedTo (l .interval) t (q .count) tbtt
     pub starts : x .start ≡ tbtt + q .offset
-    pub repeats : x .period ≡ q .period * s .interval
+    pub repeats : x .period ≡ q .period * l .interval
     pub lasts : x .duration ≡ q .duration
 
   -- one schedule for each element, in their order

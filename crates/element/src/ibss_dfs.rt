@@ -27,8 +27,8 @@ pub struct IbssDfs {
     pub pairs: usize,
 }
 
-// What stands beside a refusal.
-const NONE: IbssDfs = IbssDfs {
+// What stands beside a refusal, and where there is no element 41.
+pub const NONE: IbssDfs = IbssDfs {
     owner: [0; 6],
     recovery: 0,
     pairs: 0,

@@ -19,6 +19,7 @@ use Rattle.element.specs.TpcReport.{tpcReportMeans}
 use Rattle.element.specs.TpcRequest.{tpcRequestMeans}
 use Rattle.element.specs.declared.channel_switch.ChannelSwitch.{ChannelSwitch}
 use Rattle.header.specs.Headers.{headerLength, bodyOf, headerMeans}
+use Rattle.header.specs.declared.address.Cell.{Cell}
 use Rattle.header.specs.declared.management.Subtype.{Subtype}
 use Rattle.measurement_body.specs.Lists.{measurementsIn}
 use Rattle.measurement_body.specs.Reports.{reportSort}
@@ -72,7 +73,7 @@ module _ (b : ℕ) where
   unfolding actionMeans
   body-allowed body = after-value BodyAllowed (opensWith body) (afterOpening body) (λ o e. after-allowed body o)
 
-  kind-allowed : (s : Subtype) (body : List ℕ) → Yields (KindAllowed b) (kindOf b s body)
+  pub kind-allowed : (s : Subtype) (body : List ℕ) → Yields (KindAllowed b) (kindOf b s body)
   unfolding BodyAllowed
   kind-allowed Subtype.Beacon body = after-value (KindAllowed b) (beaconMeans b body) _ (λ t e. of-value (KindAllowed b) (beacon-allowed b body t e))
   kind-allowed Subtype.ProbeResponse body = after-value (KindAllowed b) (beaconMeans b body) _ (λ t e. of-value (KindAllowed b) (beacon-allowed b body t e))
@@ -81,11 +82,11 @@ module _ (b : ℕ) where
   pub frame-allowed : (own ap' f : List ℕ) (x : Sent) → frameMeans own ap' b f ≡ accepted x → KindAllowed b (x .kind)
   unfolding frameMeans
   frame-allowed own ap' f =
-      after-value (λ (x : Sent). KindAllowed b (x .kind)) (nowhere (headerMeans own ap' f)) _
+      after-value (λ (x : Sent). KindAllowed b (x .kind)) (nowhere (headerMeans Cell.Ap own ap' f)) _
       (λ h e. after-value (λ (x : Sent). KindAllowed b (x .kind)) (placedPast headerLength (kindOf b (h .subtype) (bodyOf f))) _
       (λ k g. of-value (λ (x : Sent). KindAllowed b (x .kind)) (kind-allowed (h .subtype) (bodyOf f) k (past-value headerLength (kindOf b (h .subtype) (bodyOf f)) g))))
 
-  received-allowed : (o : Placed Sent) → ((x : Sent) → o ≡ accepted x → KindAllowed b (x .kind)) → ReceivedAllowed b (frameLaid o)
+  pub received-allowed : (o : Placed Sent) → ((x : Sent) → o ≡ accepted x → KindAllowed b (x .kind)) → ReceivedAllowed b (frameLaid o)
   received-allowed (refused r) h = tt
   received-allowed (accepted x) h =
       subst (FrameAllowed b (frameOf (x .kind))) (sym (take-at (quietsOf (x .kind)) _ _ refl)) (h x refl)

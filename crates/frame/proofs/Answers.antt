@@ -9,9 +9,6 @@ use Rattle.answer.specs.Checks.{refused, accepted}
 use Rattle.answer.specs.Faults.{Placed}
 use Rattle.answer.specs.declared.Fault.{Fault}
 use Rattle.answer.specs.declared.Verdict.{Verdict}
-use Rattle.beacon.specs.Beacons.{Told}
-use Rattle.beacon.specs.Laid.{laid}
-use Rattle.beacon.specs.declared.Heard.{Heard}
 use Rattle.measurement_body.specs.Lists.{Sort, measurementsIn}
 use Rattle.measurement_body.specs.Surveys.{surveyedAs, surveyed}
 use Rattle.measurement_body.specs.declared.surveying.Surveyed.{Surveyed}
@@ -46,9 +43,3 @@ module _ {A : Type 0} (s : Sort A) (i t : ℕ) (body : List ℕ) where
   pub survey-accepted : (v : Surveyed) → v ≡ surveyed s i t body → v .verdict ≡ Verdict.Accepted
       → (xs : List A) × (measurementsIn s (drop fixedFields body) ≡ accepted xs) × (v ≡ surveyedAs s i t body (accepted xs))
   survey-accepted = accepted-as (surveyedAs s i t body) (λ v. v .verdict) (λ r. refl) (λ a. refl) (measurementsIn s (drop fixedFields body))
-
-pub heard-refused : (o : Placed Told) (v : Heard) (r : Fault) → v ≡ laid o → v .verdict ≡ Verdict.Refused r → refused r ≡ o
-heard-refused = refused-as laid (λ v. v .verdict) (λ r. refl) (λ a. refl)
-
-pub heard-accepted : (o : Placed Told) (v : Heard) → v ≡ laid o → v .verdict ≡ Verdict.Accepted → (t : Told) × (o ≡ accepted t) × (v ≡ laid (accepted t))
-heard-accepted = accepted-as laid (λ v. v .verdict) (λ r. refl) (λ a. refl)

@@ -15,9 +15,11 @@ use Rattle.answer.specs.Checks.{Outcome, accepted, _⇒_, judged, andThen}
 use Rattle.answer.specs.Faults.{faultAt, faultNowhere, placedAt}
 use Rattle.answer.specs.declared.Fault.{Fault}
 use Rattle.answer.specs.declared.Refusal.{Refusal}
-use Rattle.beacon.specs.Beacons.{Told, fixedLength, intervalField, opening, withoutMargin, elementMeans, adds, takes, says, beaconMeans}
+use Rattle.beacon.specs.Beacons.{Told, fixedLength, intervalField, opening, withoutMargin, elementMeans, adds, takes, says, bodyMeans, beaconMeans}
+use Rattle.beacon.specs.IbssBeacons.{absent, ToldInIbss, tellsInIbss, takesInIbss, ibssBeaconMeans}
 use Rattle.beacon.specs.declared.elements.Element.{Element}
 use Rattle.element.specs.ChannelSwitch.{switchMeans}
+use Rattle.element.specs.IbssDfs.{dfsMeans}
 use Rattle.element.specs.PowerConstraint.{powerMeans}
 use Rattle.element.specs.Quiet.{quietMeans}
 use Rattle.element.specs.TpcReport.{tpcReportMeans}
@@ -52,6 +54,10 @@ fixed-misread n recordIn forbids c = by-check _ _ _ _ (inl refl) (λ h. by-check
 pub switch-misread : (c : List ℕ) → Refuses Misread (switchMeans c)
 unfolding switchMeans
 switch-misread = fixed-misread 3 _ _
+
+dfs-misread : (c : List ℕ) → Refuses Misread (dfsMeans c)
+unfolding dfsMeans
+dfs-misread c = by-check _ _ _ _ (inl refl) (λ h. by-check _ _ _ _ (inr refl) (λ k. by-none _ _ (by-value _ _)))
 
 pub tpc-report-misread : (c : List ℕ) → Refuses Misread (tpcReportMeans c)
 unfolding tpcReportMeans
@@ -296,22 +302,42 @@ module _ (P : Fault → Type 0) (size : ℕ) (f : NoticeFaults P size) (b : ℕ)
     unfolding takes
     takes-by id c t = by-place P n _ (by-then At (elementMeans b id c) (adds t) (element-by id c) (λ e g. adds-by t e))
 
-  says-by : (es : Elements) (n : ℕ) (run : List ℕ) → n + length run ≡ size → elementsIn run ≡ es → (t : Told) → Refuses P (says b n es t)
+    -- element 41 as well
+    takes-in-ibss-by : (id : ℕ) (c : List ℕ) (t : ToldInIbss) → Refuses P (placedAt n (takesInIbss b id c t))
+    unfolding takesInIbss
+    takes-in-ibss-by id c t =
+        by-place P n _
+        (by-either At (eqb id 41) _ _
+        (by-then At (dfsMeans c) _ (λ r e. unread r (dfs-misread c r e)) (λ d e. by-check At _ _ _ (f .repeat n h) (λ k. by-none At _ (by-value At _))))
+        (by-then At (takes b id c (t .told)) _ (of-place P n (takes b id c (t .told)) (takes-by id c (t .told))) (λ next e. by-value At _)))
+
+-- a body by its elements, where every one that is taken refuses so
+module _ {A : Type 0} (P : Fault → Type 0) (step : ℕ → List ℕ → A → Outcome A) (before : A) (b : ℕ) (body : List ℕ) (f : NoticeFaults P (length body))
+    (step-by : (n : ℕ) → n < length body → (id : ℕ) (c : List ℕ) (t : A) → Refuses P (placedAt n (step id c t))) where
+  says-by : (es : Elements) (n : ℕ) (run : List ℕ) → n + length run ≡ length body → elementsIn run ≡ es → (t : A) → Refuses P (says step n es t)
   unfolding says
   says-by Raw.end n run s e t = by-value P t
   says-by (Raw.cutHeader o) n run s e t = by-refusal P (f .cut n (omega (arith, s, cut-has run e)))
   says-by (Raw.cutContents id) n run s e t = by-refusal P (f .cut n (omega (arith, s, contents-cut-has run e)))
   says-by (Raw.more id c es) n run s e t =
       let y = split run id c es e in
-      by-then P (placedAt n (takes b id c t)) _ (takes-by n (omega (arith, s, whole-has run e)) id c t)
-      (λ next g. says-by es (pastElement n c) (y .rest) (rest-long n size run id c (y .rest) s (y .octets)) (y .after) next)
+      by-then P (placedAt n (step id c t)) _ (step-by n (omega (arith, s, whole-has run e)) id c t)
+      (λ next g. says-by es (pastElement n c) (y .rest) (rest-long n (length body) run id c (y .rest) s (y .octets)) (y .after) next)
 
-pub notice-faults : (P : Fault → Type 0) (b : ℕ) (body : List ℕ) → NoticeFaults P (length body) → Refuses P (beaconMeans b body)
-unfolding beaconMeans
-notice-faults P b body f =
-    by-check P _ _ _ (f .short)
-    (λ long.
-    let size : fixedLength ≤ length body = ltb-false (length body) fixedLength long in
-    by-check P _ _ _ (f .interval size)
-    (λ same. by-none P _
-    (says-by P (length body) f b (elementsIn (drop fixedLength body)) fixedLength (drop fixedLength body) (omega (arith, size, length-drop fixedLength body)) refl (opening body))))
+  body-by : Refuses P (bodyMeans step before b body)
+  body-by =
+      by-check P _ _ _ (f .short)
+      (λ long.
+      let size : fixedLength ≤ length body = ltb-false (length body) fixedLength long in
+      by-check P _ _ _ (f .interval size)
+      (λ same. by-none P _
+      (says-by (elementsIn (drop fixedLength body)) fixedLength (drop fixedLength body) (omega (arith, size, length-drop fixedLength body)) refl before)))
+
+module _ (P : Fault → Type 0) (b : ℕ) (body : List ℕ) (f : NoticeFaults P (length body)) where
+  pub notice-faults : Refuses P (beaconMeans b body)
+  unfolding beaconMeans
+  notice-faults = body-by P (takes b) (opening body) b body f (takes-by P (length body) f b)
+
+  pub ibss-notice-faults : Refuses P (ibssBeaconMeans b body)
+  unfolding ibssBeaconMeans
+  ibss-notice-faults = body-by P (takesInIbss b) (tellsInIbss (opening body) absent) b body f (takes-in-ibss-by P (length body) f b)

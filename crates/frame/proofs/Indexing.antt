@@ -10,6 +10,7 @@ use Rattle.answer.specs.Faults.{Placed, nowhere, withoutPlace, placedPast}
 use Rattle.answer.specs.declared.Fault.{Fault}
 use Rattle.beacon.specs.Beacons.{Told, beaconMeans}
 use Rattle.header.specs.Headers.{headerLength, bodyOf, Head, headerMeans}
+use Rattle.header.specs.declared.address.Cell.{Cell}
 use Rattle.header.specs.declared.management.Subtype.{Subtype}
 use Rattle.measurement_body.proofs.PlacesRead.{Reads, place-reads}
 use Rattle.measurement_body.specs.Kinds.{Measurement, sortOf}
@@ -187,13 +188,13 @@ module _ (own ap' : List ℕ) (b : ℕ) (f : List ℕ) where
   kindIn h = placedPast headerLength (kindOf b (h .subtype) (bodyOf f))
 
   -- the kind of a frame, by its header
-  pub by-header : (o : Outcome Head) → o ≡ headerMeans own ap' f → andThen (nowhere o) kindIn ≡ kindMeans own ap' b f
+  pub by-header : (o : Outcome Head) → o ≡ headerMeans Cell.Ap own ap' f → andThen (nowhere o) kindIn ≡ kindMeans own ap' b f
   unfolding kindMeans
   by-header o e = ap (λ (x : Outcome Head). andThen (nowhere x) kindIn) e
 
   in-frame : (i : ℕ) → There (bodyOf f) i (locatedIn i (bodyOf f) (kindMeans own ap' b f)) (elementOf requestIn i (frameMeans own ap' b f)) (elementOf reportIn i (frameMeans own ap' b f))
   unfolding kindMeans frameMeans elementOf
-  in-frame i = by (headerMeans own ap' f)
+  in-frame i = by (headerMeans Cell.Ap own ap' f)
     where
       by : (o : Outcome Head)
           → There (bodyOf f) i (locatedIn i (bodyOf f) (andThen (nowhere o) kindIn))

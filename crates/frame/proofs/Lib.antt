@@ -3,9 +3,12 @@ pub mod ActionTrip
 pub mod Allowing
 pub mod Answers
 pub mod BodyFaults
+pub mod FromAp
+pub mod IbssNames
 pub mod Indexing
 pub mod Openings
 pub mod ReadFrames
+pub mod ReadInIbss
 pub mod SingleTrip
 pub mod Within
 pub mod Witness

@@ -9,57 +9,33 @@ use Rattle.answer.specs.Faults.{Placed, nowhere, faultPast, placedPast}
 use Rattle.answer.specs.declared.Fault.{Fault}
 use Rattle.answer.proofs.Judged.{never}
 use Rattle.beacon.specs.Beacons.{Told, beaconMeans}
+use Rattle.beacon.specs.IbssBeacons.{absent, besides, toldWhere}
 use Rattle.beacon.specs.Laid.{laid}
 use Rattle.beacon.specs.declared.Heard.{Heard}
 use Rattle.header.specs.Headers.{headerLength, bodyOf, Head, headerMeans}
+use Rattle.header.specs.declared.address.Cell.{Cell}
 use Rattle.frame.specs.Actions.{Body}
-use Rattle.frame.specs.Frames.{Kind, beacon, probeResponse, action, kindOf, sent, frameMeans}
+use Rattle.frame.specs.Frames.{beacon, probeResponse, action, kindOf, sent, frameMeans}
 use Rattle.frame.specs.CodeTerms.Located.{readingPast}
+use Rattle.frame.specs.CodeTerms.Notices.{noticeFrame}
 use Rattle.frame.specs.Laid.{actionFrame, frameTold, bodyFrame, received, frameLaid, noticeSubtype}
 use Rattle.frame.specs.declared.Frame.{Frame}
 use Rattle.frame.specs.declared.Reading.{Reading}
-use Rattle.frame.specs.declared.Received.{Received}
 
 -- ---- beacons and probe responses
 
-notice-kind : Bool → Told → Kind
-notice-kind true t = probeResponse t
-notice-kind false t = beacon t
-
-of-notice : (probe : Bool) (b : ℕ) (body : List ℕ) → kindOf b (noticeSubtype probe) body ≡ andThen (beaconMeans b body) (λ t. accepted (notice-kind probe t))
-unfolding notice-kind
-of-notice true b body = refl
-of-notice false b body = refl
-
-module _ (probe : Bool) (b : ℕ) (body : List ℕ) (toAll : Bool) where
-  abbrev inFrame : Placed Kind → Received
-  inFrame o = frameLaid (sent toAll (placedPast headerLength o))
-
-  laid-notice : (o : Placed Told) → o ≡ beaconMeans b body → inFrame (andThen o (λ t. accepted (notice-kind probe t))) ≡ inFrame (kindOf b (noticeSubtype probe) body)
-  laid-notice o e = ap (λ (x : Placed Told). inFrame (andThen x (λ t. accepted (notice-kind probe t)))) e ∙ ap inFrame (sym (of-notice probe b body))
-
-  pub notice-refused : (x : Fault) → refused x ≡ beaconMeans b body
-      → received (Reading.Refused (faultPast headerLength x)) false [] ≡ inFrame (kindOf b (noticeSubtype probe) body)
-  notice-refused x e = laid-notice (refused x) e
-
-  abbrev handed : Frame → Heard → Received
-  handed f v = record { reading = Reading.Is f; broadcast = toAll; quiets = v .quiets; count = v .count }
-
-  pub probe-heard : probe ≡ true → (v : Heard) (t : Told) → beaconMeans b body ≡ accepted t → v ≡ laid (accepted t)
-      → handed (Frame.ProbeResponse (v .notice)) v ≡ inFrame (kindOf b (noticeSubtype probe) body)
-  unfolding notice-kind
-  probe-heard p v t e l =
-      ap (λ (x : Heard). handed (Frame.ProbeResponse (x .notice)) x) l
-      ∙ ap (λ (q : Bool). inFrame (accepted (notice-kind q t))) (sym p)
-      ∙ laid-notice (accepted t) (sym e)
-
-  pub beacon-heard : probe ≡ false → (v : Heard) (t : Told) → beaconMeans b body ≡ accepted t → v ≡ laid (accepted t)
-      → handed (Frame.Beacon (v .notice)) v ≡ inFrame (kindOf b (noticeSubtype probe) body)
-  unfolding notice-kind
-  beacon-heard p v t e l =
-      ap (λ (x : Heard). handed (Frame.Beacon (x .notice)) x) l
-      ∙ ap (λ (q : Bool). inFrame (accepted (notice-kind q t))) (sym p)
-      ∙ laid-notice (accepted t) (sym e)
+pub notice-read : (probe : Bool) (b : ℕ) (body : List ℕ) (toAll : Bool) {v : Heard} → v ≡ laid 0 (toldWhere false b body)
+    → noticeFrame probe toAll v ≡ frameLaid (sent toAll (placedPast headerLength (kindOf b (noticeSubtype probe) body)))
+notice-read true b body toAll e = ap (noticeFrame true toAll) e ∙ by (beaconMeans b body)
+  where
+    by : (o : Placed Told) → noticeFrame true toAll (laid 0 (besides absent o)) ≡ frameLaid (sent toAll (placedPast headerLength (andThen o (λ t. accepted (probeResponse t)))))
+    by (refused x) = refl
+    by (accepted t) = refl
+notice-read false b body toAll e = ap (noticeFrame false toAll) e ∙ by (beaconMeans b body)
+  where
+    by : (o : Placed Told) → noticeFrame false toAll (laid 0 (besides absent o)) ≡ frameLaid (sent toAll (placedPast headerLength (andThen o (λ t. accepted (beacon t)))))
+    by (refused x) = refl
+    by (accepted t) = refl
 
 -- ---- action frames
 
@@ -85,7 +61,7 @@ module _ (toAll : Bool) where
 -- ---- after the header
 
 module _ (own ap' : List ℕ) (b : ℕ) (f : List ℕ) where
-  pub framed : (o : Outcome Head) → o ≡ headerMeans own ap' f
+  pub framed : (o : Outcome Head) → o ≡ headerMeans Cell.Ap own ap' f
       → andThen (nowhere o) (λ h. sent (h .toAll) (placedPast headerLength (kindOf b (h .subtype) (bodyOf f)))) ≡ frameMeans own ap' b f
   unfolding frameMeans
   framed o e = ap (λ (x : Outcome Head). andThen (nowhere x) (λ h. sent (h .toAll) (placedPast headerLength (kindOf b (h .subtype) (bodyOf f))))) e

@@ -8,14 +8,16 @@ use lib.ListN.{replicate}
 use Rattle.action.specs.Openings.{opensWith}
 use Rattle.single_body.specs.Singles.{single}
 use Rattle.answer.specs.Checks.{refused, accepted, checked}
-use Rattle.answer.specs.Faults.{faultAt, Placed}
+use Rattle.answer.specs.Faults.{faultAt, faultNowhere, Placed}
 use Rattle.answer.specs.declared.Refusal.{Refusal}
 use Rattle.beacon.specs.Beacons.{tells, elementMeans, takes, says, beaconMeans}
+use Rattle.beacon.specs.IbssBeacons.{absent, is, takesInIbss, ibssBeaconMeans}
 use Rattle.beacon.specs.Notices.{elementless}
 use Rattle.element.specs.ChannelSwitch.{switchMeans}
 use Rattle.octets.specs.Elements.{fixed}
 use Rattle.measurement_element.specs.MeasurementReport.{reportMeans, noDensities}
 use Rattle.measurement_element.specs.MeasurementRequest.{requestMeans}
+use Rattle.element.specs.IbssDfs.{dfsMeans}
 use Rattle.element.specs.Quiet.{quietMeans}
 use Rattle.element.specs.TpcReport.{tpcReportMeans}
 use Rattle.element.specs.TpcRequest.{tpcRequestMeans}
@@ -33,6 +35,7 @@ use Rattle.walk.specs.Handed.{passing, handing}
 use Rattle.walk.specs.Required.{required, nothingLeft}
 use Rattle.frame.specs.Actions.{requests, reports, tpcRequest, tpcReport, switch, actionMeans}
 use Rattle.frame.specs.Frames.{Kind, beacon, probeResponse, action, Sent, frameMeans, requestIn, reportIn, elementOf}
+use Rattle.frame.specs.IbssFrames.{SentInIbss, ibssFrameMeans}
 
 abbrev own : List ℕ
 own = 2 ∷ 0 ∷ 0 ∷ 0 ∷ 0 ∷ 1 ∷ []
@@ -172,3 +175,47 @@ two-quiets = refl
 pub to-all : heard (frame 208 (replicate 6 255) (0 ∷ 2 ∷ 7 ∷ 34 ∷ 0 ∷ [])) ≡ accepted (record { toAll = true; kind = action (tpcRequest 7) })
 unfolding frameMeans headerMeans managementMeans addressMeans foreignHeader foreignAddress toAll checked actionMeans opensWith single required nothingLeft passing handing elementsIn elementsAfter tpcRequestMeans fixed
 to-all = refl
+
+-- ---- in an IBSS: frames from a member, by octet 0, SA and elements
+
+abbrev member : List ℕ
+member = 2 ∷ 0 ∷ 0 ∷ 0 ∷ 0 ∷ 7 ∷ []
+
+abbrev sentBy : List ℕ → ℕ → List ℕ → List ℕ
+sentBy from first elements = (first ∷ 0 ∷ 0 ∷ 0 ∷ []) ++ own ++ from ++ master ++ (0 ∷ 0 ∷ (replicate 8 0 ++ (100 ∷ 0 ∷ 1 ∷ 0 ∷ elements)))
+
+abbrev heardInIbss : List ℕ → Placed SentInIbss
+heardInIbss f = ibssFrameMeans own master 100 f
+
+-- element 41, of which interval 0 is forbidden
+abbrev naming : ℕ → List ℕ
+naming recovery = 41 ∷ 7 ∷ 2 ∷ 0 ∷ 0 ∷ 0 ∷ 0 ∷ 9 ∷ recovery ∷ []
+
+pub names-owner : heardInIbss (sentBy member 128 (naming 3))
+    ≡ accepted
+    (record {
+      sender = member;
+      sent = record { toAll = false; kind = beacon (tells (elementless 0 1) []) };
+      dfs = is (record { owner = master; recovery = 3; pairs = [] });
+    })
+unfolding ibssFrameMeans headerMeans managementMeans addressMeans foreignHeader foreignAddress toAll checked ibssBeaconMeans says takesInIbss elementsIn elementsAfter dfsMeans
+names-owner = refl
+
+pub no-interval : heardInIbss (sentBy member 128 (naming 0)) ≡ refused (faultAt 36 Refusal.ForbiddenValue)
+unfolding ibssFrameMeans headerMeans managementMeans addressMeans foreignHeader foreignAddress toAll checked ibssBeaconMeans says takesInIbss elementsIn elementsAfter dfsMeans
+no-interval = refl
+
+-- in a probe response it is skipped
+pub probe-skips : heardInIbss (sentBy member 80 (naming 0))
+    ≡ accepted (record { sender = member; sent = record { toAll = false; kind = probeResponse (tells (elementless 0 1) []) }; dfs = absent })
+unfolding ibssFrameMeans headerMeans managementMeans addressMeans foreignHeader foreignAddress toAll checked beaconMeans says takes elementMeans elementsIn elementsAfter
+probe-skips = refl
+
+-- a group sends nothing, and 01 hears no member but the AP
+pub from-group : heardInIbss (sentBy (3 ∷ 0 ∷ 0 ∷ 0 ∷ 0 ∷ 7 ∷ []) 128 []) ≡ refused (faultNowhere Refusal.ForeignAddress)
+unfolding ibssFrameMeans headerMeans managementMeans addressMeans foreignHeader foreignAddress toAll checked
+from-group = refl
+
+pub from-member : heard (sentBy member 128 []) ≡ refused (faultNowhere Refusal.ForeignAddress)
+unfolding frameMeans headerMeans managementMeans addressMeans foreignHeader foreignAddress toAll checked
+from-member = refl

@@ -11,6 +11,7 @@ use Rattle.beacon.specs.Beacons.{Told, beaconMeans}
 use Rattle.measurement_element.specs.declared.measurement_report.Report.{Report}
 use Rattle.measurement_element.specs.declared.measurement_request.Request.{Request}
 use Rattle.header.specs.Headers.{headerLength, bodyOf, headerMeans}
+use Rattle.header.specs.declared.address.Cell.{Cell}
 use Rattle.header.specs.declared.management.Subtype.{Subtype}
 use Rattle.measurement_body.specs.Lists.{nth}
 use Rattle.frame.specs.Actions.{Body, requests, reports, tpcRequest, tpcReport, switch, actionMeans}
@@ -37,7 +38,7 @@ sent toAll o = andThen o (λ k. accepted (record { toAll = toAll; kind = k }))
 -- what the body means, with the header before it
 unfoldable pub frameMeans : List ℕ → List ℕ → ℕ → List ℕ → Placed Sent
 frameMeans own ap b f =
-    andThen (nowhere (headerMeans own ap f))
+    andThen (nowhere (headerMeans Cell.Ap own ap f))
     (λ h. sent (h .toAll) (placedPast headerLength (kindOf b (h .subtype) (bodyOf f))))
 
 -- ---- a measurement element by its index from 0; past the last, or on another kind: 16

@@ -19,6 +19,7 @@ use crate::bodies::Located;
 use crate::places;
 use answer::Fault;
 use answer::Refusal;
+use header::Cell;
 use header::Header;
 use header::Subtype;
 use measurement_body::Place;
@@ -105,7 +106,7 @@ fn locate_action(body: &[u8], index: usize) -> Located
 fn locate(frame: &[u8], own: [u8; 6], ap: [u8; 6], interval: u16, index: usize) -> Located
     ensures { λ r. ⌜ r ≡ locatedIn index (bodyOf (now (frame .entry))) (kindMeans own ap interval (now (frame .entry))) ⌝ }
 {
-    match header::read(frame, own, ap) {
+    match header::read(frame, Cell::Ap, own, ap) {
         Header::Refused(refusal) => bodies::unplaced(Reading::Refused(Fault::nowhere(refusal))),
         Header::Is { subtype, to_all: _ } => {
             let body = header::body(frame);

@@ -1,9 +1,13 @@
 // Frames (document 01, "A frame that is read is one of seven kinds"): any octets at all come out as one of them, or as one refusal.
 mod bodies;
+mod ibss;
 mod index;
 mod places;
 
 pub use bodies::read_body;
+pub use ibss::ReceivedInIbss;
+pub use ibss::dfs_pair_at;
+pub use ibss::read_in_ibss;
 pub use index::Asked;
 pub use index::read_request;
 pub use index::report_at;
@@ -15,6 +19,7 @@ ghost use Prim.Native.Nat.{_≤_};
 ghost use lib.ListN.{length};
 ghost use Rattle.answer.specs.Faults.{placedPast};
 ghost use Rattle.frame.specs.CodeTerms.BodyKinds.{kindSubtype};
+ghost use Rattle.frame.specs.CodeTerms.Notices.{VerdictWithin, noticeFrame};
 ghost use Rattle.frame.specs.Frames.{kindOf, sent, frameMeans};
 ghost use Rattle.frame.specs.Laid.{received, frameLaid, noticeSubtype};
 ghost use Rattle.header.specs.Headers.{headerLength};
@@ -22,12 +27,14 @@ ghost use Rattle.header.specs.declared.management.Subtype.{Subtype};
 ghost use Rattle.measurement_body.specs.Bodies.{longestBody};
 use answer::Fault;
 use answer::Verdict;
+use beacon::Heard;
 use beacon::NO_QUIET;
 use beacon::Notice;
 use beacon::QUIETS;
 use element::channel_switch::ChannelSwitch;
 use element::quiet::Quiet;
 use element::tpc_report::TpcReport;
+use header::Cell;
 use header::Header;
 use header::Subtype;
 
@@ -69,12 +76,11 @@ fn alone(reading: Reading, broadcast: bool) -> Received
     }
 }
 
-// A beacon, where `probe` is false, or a probe response: their bodies are the same.
-fn read_notice(body: &[u8], interval: u16, probe: bool, broadcast: bool) -> Received
-    requires { ⌜ length (now body) ≤ longestBody ⌝ }
-    ensures { λ r. ⌜ r ≡ frameLaid (sent broadcast (placedPast headerLength (kindOf interval (noticeSubtype probe) (now (body .entry))))) ⌝ }
+// A body that was heard, as the frame that it makes.
+fn notice_frame(heard: Heard, probe: bool, broadcast: bool) -> Received
+    requires { ⌜ VerdictWithin longestBody (heard .verdict) ⌝ }
+    ensures { λ r. ⌜ r ≡ noticeFrame probe broadcast heard ⌝ }
 {
-    let heard = beacon::read(body, interval);
     let verdict = heard.verdict;
     let notice = heard.notice;
     let quiets = heard.quiets;
@@ -94,6 +100,15 @@ fn read_notice(body: &[u8], interval: u16, probe: bool, broadcast: bool) -> Rece
             }
         }
     }
+}
+
+// A beacon, where `probe` is false, or a probe response: their bodies are the same.
+fn read_notice(body: &[u8], interval: u16, probe: bool, broadcast: bool) -> Received
+    requires { ⌜ length (now body) ≤ longestBody ⌝ }
+    ensures { λ r. ⌜ r ≡ frameLaid (sent broadcast (placedPast headerLength (kindOf interval (noticeSubtype probe) (now (body .entry))))) ⌝ }
+{
+    let heard = beacon::read(body, interval, false, 0);
+    notice_frame(heard, probe, broadcast)
 }
 
 // An action frame.
@@ -128,7 +143,7 @@ fn body_kind(subtype: Subtype) -> BodyKind
 pub fn read(frame: &[u8], own: [u8; 6], ap: [u8; 6], interval: u16) -> Received
     ensures { λ r. ⌜ r ≡ frameLaid (frameMeans own ap interval (now (frame .entry))) ⌝ }
 {
-    match header::read(frame, own, ap) {
+    match header::read(frame, Cell::Ap, own, ap) {
         Header::Refused(refusal) => alone(Reading::Refused(Fault::nowhere(refusal)), false),
         Header::Is {
             subtype,

@@ -1,5 +1,5 @@
 -- Comparing addresses, three octets at a time, and with all ones two at a time. Assumes nothing.
-use mathlib.Core.Path.{_≡_, sym, ap, _∙_}
+use mathlib.Core.Path.{_≡_, refl, sym, ap, ap₂, _∙_}
 use mathlib.Core.Bool.{Bool, true, false, _&&_, and-true, and-assoc}
 use mathlib.Core.List.{List, [], _∷_}
 use mathlib.Core.Logic.{⊎-elim}
@@ -11,8 +11,19 @@ use lib.Dec.{eqb}
 use lib.ListN.{length}
 use Rattle.octets.specs.Numbers.{octet, octetsFrom}
 use Rattle.octets.proofs.JoinSplit.{all-from}
-use Rattle.answer.proofs.Booleans.{either, and-go, and-stop}
+use Rattle.answer.proofs.Booleans.{clash, either, both, and-go, and-stop}
 use Rattle.header.specs.Headers.{same, toAll}
+
+-- addresses compare as the same exactly if they are
+pub same-self : (xs : List ℕ) → same xs xs ≡ true
+same-self [] = refl
+same-self (x ∷ xs) = and-go (eqb x x) (eq-eqb x x refl) ∙ same-self xs
+
+pub same-is : (xs ys : List ℕ) → same xs ys ≡ true → xs ≡ ys
+same-is [] [] e = refl
+same-is [] (y ∷ ys) e = clash (sym e)
+same-is (x ∷ xs) [] e = clash (sym e)
+same-is (x ∷ xs) (y ∷ ys) e = let w = both (eqb x y) (same xs ys) e in ap₂ (λ z zs. z ∷ zs) (eqb-true x y (w .0)) (same-is xs ys (w .1))
 
 pub three : (f : List ℕ) (at x y z : ℕ)
     → same (octetsFrom 3 at f) (x ∷ y ∷ z ∷ []) ≡ (eqb (octet at f) x && (eqb (octet (at + 1) f) y && eqb (octet (at + 2) f) z))

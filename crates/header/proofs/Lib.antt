@@ -1,2 +1,3 @@
 pub mod Addresses
 pub mod Heard
+pub mod SentBy

@@ -1,15 +1,16 @@
 -- The header (01, "Octets": octet 0 is version in bits 0-1, type in 2-3, subtype in 4-7; then flags, duration (2), DA, SA, BSSID,
--- sequence control (2)) and what is refused of it, in 01's order: 1, 2, 3, 4.
+-- sequence control (2)) and what is refused of it, in 01's order: 1, 2, 3, 4. `own` is the station's address, `bss` the BSSID of its cell.
 use mathlib.Core.Bool.{Bool, true, false, not, _&&_, _||_}
-use mathlib.Core.List.{List, [], _∷_}
+use mathlib.Core.List.{List, [], _∷_, _++_}
 use Prim.Native.Nat.{ℕ, _/_, _%_}
 use lib.Dec.{ltb, eqb}
-use lib.ListN.{length, drop, replicate}
+use lib.ListN.{length, take, drop, replicate}
 use Rattle.answer.specs.Checks.{Outcome, refused, accepted, pick, _⇒_, judged, andThen}
 use Rattle.answer.specs.declared.Refusal.{Refusal}
 use Rattle.octets.specs.Numbers.{octet, octetsFrom, bit}
 use Rattle.header.specs.declared.Header.{Header}
 use Rattle.header.specs.declared.address.Addressed.{Addressed}
+use Rattle.header.specs.declared.address.Cell.{Cell}
 use Rattle.header.specs.declared.management.Management.{Management}
 use Rattle.header.specs.declared.management.Subtype.{Subtype}
 
@@ -77,9 +78,14 @@ foreignHeader f =
 unfoldable pub toAll : List ℕ → Bool
 toAll f = same (da f) (replicate 6 255)
 
--- SA or BSSID is not the AP, or DA is neither the station nor all ones
-unfoldable pub foreignAddress : List ℕ → List ℕ → List ℕ → Bool
-foreignAddress own ap f = not (same (sa f) ap) || (not (same (bssid f) ap) || not (same (da f) own || toAll f))
+-- whose frames are not taken: all but the AP's, whose address is the BSSID (01); in an IBSS a group's, since "any individual address" may send (02, Five)
+abbrev pub foreignSender : Cell → List ℕ → List ℕ → Bool
+foreignSender Cell.Ap bss f = not (same (sa f) bss)
+foreignSender Cell.Ibss bss f = bit 0 (octet 0 (sa f))
+
+-- SA is none whose frames are taken, BSSID is not the cell's, or DA is neither the station nor all ones
+unfoldable pub foreignAddress : Cell → List ℕ → List ℕ → List ℕ → Bool
+foreignAddress cell own bss f = foreignSender cell bss f || (not (same (bssid f) bss) || not (same (da f) own || toAll f))
 
 -- what every management frame must be (1, 2, 3), and which of those that are read it is
 unfoldable pub managementMeans : List ℕ → Outcome Subtype
@@ -92,17 +98,21 @@ managementMeans f =
     (subtypeOf (subtype f))
 
 -- whose it must be (4), and whether it was sent to all ones
-unfoldable pub addressMeans : List ℕ → List ℕ → List ℕ → Outcome Bool
-addressMeans own ap f = judged (foreignAddress own ap f ⇒ Refusal.ForeignAddress ∷ []) (toAll f)
+unfoldable pub addressMeans : Cell → List ℕ → List ℕ → List ℕ → Outcome Bool
+addressMeans cell own bss f = judged (foreignAddress cell own bss f ⇒ Refusal.ForeignAddress ∷ []) (toAll f)
 
--- what the header of a frame from the AP says
+-- what the header of a frame that is taken says
 pub record Head : Type 0 where
   pub subtype : Subtype
   pub toAll : Bool
 
-unfoldable pub headerMeans : List ℕ → List ℕ → List ℕ → Outcome Head
-headerMeans own ap f =
-    andThen (managementMeans f) (λ s. andThen (addressMeans own ap f) (λ a. accepted (record { subtype = s; toAll = a })))
+unfoldable pub headerMeans : Cell → List ℕ → List ℕ → List ℕ → Outcome Head
+headerMeans cell own bss f =
+    andThen (managementMeans f) (λ s. andThen (addressMeans cell own bss f) (λ a. accepted (record { subtype = s; toAll = a })))
+
+-- the frame as an AP at this address would have sent it: SA replaced
+unfoldable pub fromAp : List ℕ → List ℕ → List ℕ
+fromAp a f = take 10 f ++ (a ++ drop 16 f)
 
 -- ---- the outcome that each case of an answer stands for
 

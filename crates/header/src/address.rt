@@ -1,10 +1,16 @@
-// Whose a frame must be (document 01, "Answer numbers", 4).
+// Whose a frame must be (document 01, "Answer numbers", 4; 02, Five).
 ghost use mathlib.Core.Path.{_≡_};
 ghost use mathlib.Core.List.{[], _∷_};
 ghost use Prim.Native.Nat.{_≤_};
 ghost use Rattle.octets.specs.Numbers.{octetsFrom};
-ghost use Rattle.header.specs.Headers.{same, toAll, foreignAddress, addressTold, addressMeans};
+ghost use Rattle.header.specs.Headers.{same, sa, toAll, foreignSender, foreignAddress, addressTold, addressMeans};
 use answer::Refusal;
+
+// Whose frames a station takes: its AP's, whose address is the BSSID (document 01), or those of any member of its IBSS (document 02, Five).
+pub enum Cell {
+    Ap,
+    Ibss,
+}
 
 // To whom an accepted frame was sent: to the station alone, or to all ones.
 pub enum Addressed {
@@ -67,14 +73,38 @@ fn is_to_all(frame: &[u8]) -> bool
     are_ones(frame, DA + 4)
 }
 
-// SA or BSSID is not the AP, or DA is neither the station nor all ones.
-fn is_elsewhere(frame: &[u8], own: [u8; 6], ap: [u8; 6]) -> bool
-    ensures { λ r. ⌜ r ≡ foreignAddress own ap (now (frame .entry)) ⌝ }
+// Who has sent the frame.
+pub fn sender(frame: &[u8]) -> [u8; 6]
+    ensures { λ r. ⌜ r ≡ sa (now (frame .entry)) ⌝ }
 {
-    if !is_address(frame, SA, ap) {
+    [
+        octets::octet_at(frame, SA),
+        octets::octet_at(frame, SA + 1),
+        octets::octet_at(frame, SA + 2),
+        octets::octet_at(frame, SA + 3),
+        octets::octet_at(frame, SA + 4),
+        octets::octet_at(frame, SA + 5),
+    ]
+}
+
+// SA is not the AP, or, in an IBSS, has its group bit set.
+fn is_foreign_sender(frame: &[u8], cell: Cell, bssid: [u8; 6]) -> bool
+    ensures { λ r. ⌜ r ≡ foreignSender cell bssid (now (frame .entry)) ⌝ }
+{
+    match cell {
+        Cell::Ap => !is_address(frame, SA, bssid),
+        Cell::Ibss => octets::octet_at(frame, SA) % 2 == 1,
+    }
+}
+
+// SA is none whose frames are taken, BSSID is not the cell's, or DA is neither the station nor all ones.
+fn is_elsewhere(frame: &[u8], cell: Cell, own: [u8; 6], bssid: [u8; 6]) -> bool
+    ensures { λ r. ⌜ r ≡ foreignAddress cell own bssid (now (frame .entry)) ⌝ }
+{
+    if is_foreign_sender(frame, cell, bssid) {
         return true;
     }
-    if !is_address(frame, BSSID, ap) {
+    if !is_address(frame, BSSID, bssid) {
         return true;
     }
     if is_address(frame, DA, own) {
@@ -83,11 +113,11 @@ fn is_elsewhere(frame: &[u8], own: [u8; 6], ap: [u8; 6]) -> bool
     !is_to_all(frame)
 }
 
-// To whom the AP has sent a frame that this station hears.
-pub fn read_address(frame: &[u8], own: [u8; 6], ap: [u8; 6]) -> Addressed
-    ensures { λ r. ⌜ addressTold r ≡ addressMeans own ap (now (frame .entry)) ⌝ }
+// To whom a frame was sent that this station takes.
+pub fn read_address(frame: &[u8], cell: Cell, own: [u8; 6], bssid: [u8; 6]) -> Addressed
+    ensures { λ r. ⌜ addressTold r ≡ addressMeans cell own bssid (now (frame .entry)) ⌝ }
 {
-    if is_elsewhere(frame, own, ap) {
+    if is_elsewhere(frame, cell, own, bssid) {
         return Addressed::Refused(Refusal::ForeignAddress);
     }
     if is_to_all(frame) {

@@ -4,7 +4,9 @@ mod management;
 mod parts;
 
 pub use address::Addressed;
+pub use address::Cell;
 pub use address::read_address;
+pub use address::sender;
 pub use management::LENGTH;
 pub use management::LONGEST_FRAME;
 pub use management::Management;
@@ -15,19 +17,19 @@ ghost use mathlib.Core.Path.{_≡_};
 ghost use Rattle.header.specs.Headers.{headerTold, headerMeans};
 use answer::Refusal;
 
-// What the header of a frame from the AP says: which frame it is, and whether it was sent to all ones.
+// What the header of a frame that is taken says: which frame it is, and whether it was sent to all ones.
 pub enum Header {
     Refused(Refusal),
     Is { subtype: Subtype, to_all: bool },
 }
 
-// The header of a frame that a station hears from its AP.
-pub fn read(frame: &[u8], own: [u8; 6], ap: [u8; 6]) -> Header
-    ensures { λ r. ⌜ headerTold r ≡ headerMeans own ap (now (frame .entry)) ⌝ }
+// The header of a frame that a station hears in its cell: from its AP, or from a member of its IBSS.
+pub fn read(frame: &[u8], cell: Cell, own: [u8; 6], bssid: [u8; 6]) -> Header
+    ensures { λ r. ⌜ headerTold r ≡ headerMeans cell own bssid (now (frame .entry)) ⌝ }
 {
     match read_management(frame) {
         Management::Refused(refusal) => Header::Refused(refusal),
-        Management::Is(subtype) => match read_address(frame, own, ap) {
+        Management::Is(subtype) => match read_address(frame, cell, own, bssid) {
             Addressed::Refused(refusal) => Header::Refused(refusal),
             Addressed::ToStation => Header::Is {
                 subtype,

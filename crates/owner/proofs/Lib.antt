@@ -1,3 +1,4 @@
+pub mod CountingUnits
 pub mod KeptFit
 pub mod SameAddresses
 pub mod TbttByTbtt

@@ -1,2 +1,3 @@
 pub mod CodeTerms
 pub mod Owners
+pub mod Tbtts

@@ -21,7 +21,7 @@ use Rattle.octets.specs.declared.writing.Wrote.{Wrote}
 use Rattle.octets.proofs.Storing.{not-answer, left-not}
 use Rattle.reply.specs.CodeTerms.Asked.{requestReading, requestDue, dueOf}
 use Rattle.reply.specs.Due.{Owed, asks, breaks}
-use Rattle.reply.specs.Replies.{owed, tpcAnswer, measurementAnswer, leftBy, Replied}
+use Rattle.reply.specs.Replies.{owedTo, tpcAnswerTo, measurementAnswerTo, leftBy, Replied}
 use Rattle.reply.specs.declared.due.Due.{Due}
 use Rattle.measured_report.specs.declared.Readings.{Readings}
 
@@ -79,8 +79,8 @@ same-refusal : {q r : Refusal} → Due.Refused q ≡ Due.Refused r → q ≡ r
 same-refusal e = cc
 
 -- where nothing is due, both replies say so
-module _ (own ap' : List ℕ) (q : Refusal) where
-  pub no-tpc : (report : TpcReport) (o : Outcome Owed) → Due.Refused q ≡ dueOf 0 o → refused q ≡ andThen o (owed own ap' (tpcAnswer own ap' report))
+module _ (own to bss : List ℕ) (q : Refusal) where
+  pub no-tpc : (report : TpcReport) (o : Outcome Owed) → Due.Refused q ≡ dueOf 0 o → refused q ≡ andThen o (owedTo own to bss (tpcAnswerTo own to bss report))
   no-tpc report (refused r) e = ap refused (same-refusal e)
   no-tpc report (accepted (asks (requests t rs))) e = apart cc
   no-tpc report (accepted (asks (reports t rs))) e = ap refused (same-refusal e)
@@ -90,7 +90,7 @@ module _ (own ap' : List ℕ) (q : Refusal) where
   no-tpc report (accepted (breaks b)) e = apart cc
 
   pub no-measurement : (clock index : ℕ) (readings : Readings) (o : Outcome Owed) → Due.Refused q ≡ dueOf index o
-      → refused q ≡ andThen o (owed own ap' (measurementAnswer own ap' clock index readings))
+      → refused q ≡ andThen o (owedTo own to bss (measurementAnswerTo own to bss clock index readings))
   no-measurement clock index readings (refused r) e = ap refused (same-refusal e)
   no-measurement clock index readings (accepted (asks (requests t rs))) e = apart cc
   no-measurement clock index readings (accepted (asks (reports t rs))) e = ap refused (same-refusal e)

@@ -10,15 +10,15 @@ use Rattle.octets.specs.Numbers.{octet}
 use Rattle.octets.specs.Writing.{left}
 use Rattle.octets.proofs.JoinSplit.{all-from}
 use Rattle.octets.proofs.Storing.{front-left}
-use Rattle.reply.specs.Frames.{replyHead}
+use Rattle.reply.specs.Frames.{headTo}
 
 -- ---- an address is its six octets
 
 pub six : (xs : List ℕ) → length xs ≡ 6 → octet 0 xs ∷ octet 1 xs ∷ octet 2 xs ∷ octet 3 xs ∷ octet 4 xs ∷ octet 5 xs ∷ [] ≡ xs
 six xs h = all-from 6 xs h
 
-pub head-length : (own ap' : List ℕ) → length own ≡ 6 → length ap' ≡ 6 → length (replyHead own ap') ≡ headerLength
-head-length own ap' o a = simp (length-append, o, a)
+pub head-length : (own to bss : List ℕ) → length own ≡ 6 → length to ≡ 6 → length bss ≡ 6 → length (headTo own to bss) ≡ headerLength
+head-length own to bss o t a = simp (length-append, o, t, a)
 
 -- ---- a body that is built in a buffer of its own
 

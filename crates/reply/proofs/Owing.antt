@@ -24,11 +24,12 @@ use Rattle.measurement_element.specs.declared.measurement_request.Reading.{Read
 use Rattle.measurement_element.specs.declared.measurement_request.Request.{Request}
 use Rattle.header.specs.Headers.{bodyOf, headerLength, Head, headerMeans}
 use Rattle.header.proofs.Heard.{not-too-long}
+use Rattle.header.specs.declared.address.Cell.{Cell}
 use Rattle.header.specs.declared.management.Subtype.{Subtype}
 use Rattle.reply.specs.CodeTerms.Asked.{requestReading, requestDue, dueOf}
-use Rattle.reply.specs.Due.{Owed, asks, breaks, isReturned, hasCategory, orReturn, bySubtype, afterHeader, dueMeans}
-use Rattle.reply.specs.Frames.{replyFrame, errorReturn}
-use Rattle.reply.specs.Replies.{owed}
+use Rattle.reply.specs.Due.{Owed, asks, breaks, isReturned, hasCategory, orReturn, bySubtype, afterHeader, dueIn}
+use Rattle.reply.specs.Frames.{frameTo, errorReturn}
+use Rattle.reply.specs.Replies.{owedTo}
 use Rattle.reply.specs.declared.due.Due.{Due}
 
 -- ---- a broken body
@@ -106,41 +107,41 @@ module _ (i : ℕ) (x : Reading) where
 
 -- ---- after the header
 
-module _ (i : ℕ) (own ap' f : List ℕ) where
-  pub header-refused : (r : Refusal) → refused r ≡ headerMeans own ap' f → Due.Refused r ≡ dueOf i (dueMeans own ap' f)
-  unfolding dueMeans
+module _ (i : ℕ) (cell : Cell) (own bss f : List ℕ) where
+  pub header-refused : (r : Refusal) → refused r ≡ headerMeans cell own bss f → Due.Refused r ≡ dueOf i (dueIn cell own bss f)
+  unfolding dueIn
   header-refused r e = ap (λ (o : Outcome Head). dueOf i (andThen o (afterHeader f))) e
 
-  module _ (s : Subtype) (toAll : Bool) (e : accepted (record { subtype = s; toAll = toAll }) ≡ headerMeans own ap' f) where
-    after : dueOf i (afterHeader f (record { subtype = s; toAll = toAll })) ≡ dueOf i (dueMeans own ap' f)
-    unfolding dueMeans
+  module _ (s : Subtype) (toAll : Bool) (e : accepted (record { subtype = s; toAll = toAll }) ≡ headerMeans cell own bss f) where
+    after : dueOf i (afterHeader f (record { subtype = s; toAll = toAll })) ≡ dueOf i (dueIn cell own bss f)
+    unfolding dueIn
     after = ap (λ (o : Outcome Head). dueOf i (andThen o (afterHeader f))) e
 
-    pub to-all : toAll ≡ true → Due.Refused Refusal.NoReplyDue ≡ dueOf i (dueMeans own ap' f)
+    pub to-all : toAll ≡ true → Due.Refused Refusal.NoReplyDue ≡ dueOf i (dueIn cell own bss f)
     to-all t = sym (ap (λ (x : Bool). dueOf i (afterHeader f (record { subtype = s; toAll = x }))) t) ∙ after
 
-    pub by-kind : toAll ≡ false → dueOf i (bySubtype s (bodyOf f)) ≡ dueOf i (dueMeans own ap' f)
+    pub by-kind : toAll ≡ false → dueOf i (bySubtype s (bodyOf f)) ≡ dueOf i (dueIn cell own bss f)
     by-kind t = sym (ap (λ (x : Bool). dueOf i (afterHeader f (record { subtype = s; toAll = x }))) t) ∙ after
 
 -- ---- a body that is owed back is the frame's own
 
 -- the frame is an action frame to the station, and its body is broken; it has a category under 128, and is no longer than a body may be
-pub record Returned (own ap f body : List ℕ) : Type 0 where
-  pub head : headerMeans own ap f ≡ accepted (record { subtype = Subtype.Action; toAll = false })
+pub record Returned (cell : Cell) (own bss f body : List ℕ) : Type 0 where
+  pub head : headerMeans cell own bss f ≡ accepted (record { subtype = Subtype.Action; toAll = false })
   pub fault : Fault
   pub breaks-it : actionMeans (bodyOf f) ≡ refused fault
   pub free : hasCategory (bodyOf f) ≡ true
   pub own-body : body ≡ bodyOf f
   pub short : length (bodyOf f) ≤ longestBody
 
-module _ (own ap' f : List ℕ) where
+module _ (cell : Cell) (own bss f : List ℕ) where
   module _ (body : List ℕ) where
     by-test : (t : Bool) → pick t (accepted (breaks (bodyOf f))) (refused Refusal.NoReplyDue) ≡ accepted (breaks body) → (t ≡ true) × (body ≡ bodyOf f)
     by-test true e = (refl, (let k : breaks (bodyOf f) ≡ breaks body = cc in let g : body ≡ bodyOf f = cc in g))
     by-test false e = absurd (never e)
 
-    by-outcome : headerMeans own ap' f ≡ accepted (record { subtype = Subtype.Action; toAll = false }) → (o : Placed Body) → actionMeans (bodyOf f) ≡ o
-        → orReturn (bodyOf f) o ≡ accepted (breaks body) → Returned own ap' f body
+    by-outcome : headerMeans cell own bss f ≡ accepted (record { subtype = Subtype.Action; toAll = false }) → (o : Placed Body) → actionMeans (bodyOf f) ≡ o
+        → orReturn (bodyOf f) o ≡ accepted (breaks body) → Returned cell own bss f body
     by-outcome h (refused x) a e =
         let p = by-test (isReturned (numberOf (x .refusal)) && hasCategory (bodyOf f)) e in
         record {
@@ -149,29 +150,29 @@ module _ (own ap' f : List ℕ) where
           breaks-it = a;
           free = both (isReturned (numberOf (x .refusal))) (hasCategory (bodyOf f)) (p .0) .1;
           own-body = p .1;
-          short = omega (arith, length-drop headerLength f, not-too-long own ap' f _ h);
+          short = omega (arith, length-drop headerLength f, not-too-long cell own bss f _ h);
         }
     by-outcome h (accepted b) a e = absurd (let k : asks b ≡ breaks body = cc in let z : _≡_ {A = ℕ} 0 1 = cc in omega arith)
 
-    by-head : (s : Subtype) (t : Bool) → headerMeans own ap' f ≡ accepted (record { subtype = s; toAll = t })
-        → pick t (refused Refusal.NoReplyDue) (bySubtype s (bodyOf f)) ≡ accepted (breaks body) → Returned own ap' f body
+    by-head : (s : Subtype) (t : Bool) → headerMeans cell own bss f ≡ accepted (record { subtype = s; toAll = t })
+        → pick t (refused Refusal.NoReplyDue) (bySubtype s (bodyOf f)) ≡ accepted (breaks body) → Returned cell own bss f body
     by-head s true h e = absurd (never e)
     by-head Subtype.Beacon false h e = absurd (never e)
     by-head Subtype.ProbeResponse false h e = absurd (never e)
     by-head Subtype.Action false h e = by-outcome h (actionMeans (bodyOf f)) refl e
 
-  module _ {body : List ℕ} (e : dueMeans own ap' f ≡ accepted (breaks body)) where
-    pub returned : Returned own ap' f body
-    unfolding dueMeans
+  module _ {body : List ℕ} (e : dueIn cell own bss f ≡ accepted (breaks body)) where
+    pub returned : Returned cell own bss f body
+    unfolding dueIn
     returned =
-        let p = followed (headerMeans own ap' f) (afterHeader f) (breaks body) e in
+        let p = followed (headerMeans cell own bss f) (afterHeader f) (breaks body) e in
         by-head body (p .0 .subtype) (p .0 .toAll) (p .1) (p .2)
 
     -- the body as it is lent, and what is answered with it
     pub may-return : {lent : List ℕ} → lent ≡ bodyOf f → (length lent ≤ longestBody) × (hasCategory lent ≡ true)
     may-return k = (subst (λ (x : List ℕ). length x ≤ longestBody) (sym k) (returned .short), subst (λ (x : List ℕ). hasCategory x ≡ true) (sym k) (returned .free))
 
-    pub answered-back : (answers : Body → Outcome (List ℕ)) {lent : List ℕ} → lent ≡ bodyOf f
-        → accepted (replyFrame own ap' (errorReturn lent)) ≡ andThen (dueMeans own ap' f) (owed own ap' answers)
-    answered-back answers k =
-        ap (λ (x : List ℕ). accepted (replyFrame own ap' (errorReturn x))) (k ∙ sym (returned .own-body)) ∙ ap (λ (o : Outcome Owed). andThen o (owed own ap' answers)) (sym e)
+    pub answered-back : (to : List ℕ) (answers : Body → Outcome (List ℕ)) {lent : List ℕ} → lent ≡ bodyOf f
+        → accepted (frameTo own to bss (errorReturn lent)) ≡ andThen (dueIn cell own bss f) (owedTo own to bss answers)
+    answered-back to answers k =
+        ap (λ (x : List ℕ). accepted (frameTo own to bss (errorReturn x))) (k ∙ sym (returned .own-body)) ∙ ap (λ (o : Outcome Owed). andThen o (owedTo own to bss answers)) (sym e)

@@ -12,6 +12,7 @@ use Rattle.answer.specs.Numbers.{numberOf}
 use Rattle.answer.specs.declared.Refusal.{Refusal}
 use Rattle.frame.specs.Actions.{Body, actionMeans}
 use Rattle.header.specs.Headers.{bodyOf, Head, headerMeans}
+use Rattle.header.specs.declared.address.Cell.{Cell}
 use Rattle.header.specs.declared.management.Subtype.{Subtype}
 use Rattle.octets.specs.Numbers.{octet}
 
@@ -42,5 +43,9 @@ bySubtype Subtype.Action body = orReturn body (actionMeans body)
 abbrev pub afterHeader : List ℕ → Head → Outcome Owed
 afterHeader f h = pick (h .toAll) (refused Refusal.NoReplyDue) (bySubtype (h .subtype) (bodyOf f))
 
-unfoldable pub dueMeans : List ℕ → List ℕ → List ℕ → Outcome Owed
-dueMeans own ap f = andThen (headerMeans own ap f) (afterHeader f)
+-- in a cell of either kind, by its BSSID (02, Five)
+unfoldable pub dueIn : Cell → List ℕ → List ℕ → List ℕ → Outcome Owed
+dueIn cell own bss f = andThen (headerMeans cell own bss f) (afterHeader f)
+
+abbrev pub dueMeans : List ℕ → List ℕ → List ℕ → Outcome Owed
+dueMeans own ap f = dueIn Cell.Ap own ap f

@@ -2,11 +2,12 @@
 ghost use mathlib.Core.Path.{_≡_};
 ghost use Rattle.frame.specs.Actions.{actionMeans};
 ghost use Rattle.reply.specs.CodeTerms.Asked.{dueOf};
-ghost use Rattle.reply.specs.Due.{hasCategory, orReturn, dueMeans};
+ghost use Rattle.reply.specs.Due.{hasCategory, orReturn, dueIn};
 use action::CATEGORY;
 use answer::Refusal;
 use frame::Frame;
 use frame::Reading;
+use header::Cell;
 use header::Header;
 use header::Subtype;
 use measurement_element::measurement_request;
@@ -66,10 +67,10 @@ fn owed_to(body: &[u8], index: usize) -> Due
 }
 
 // What a frame to the station itself is owed.
-pub fn due_to(frame: &[u8], own: [u8; 6], ap: [u8; 6], index: usize) -> Due
-    ensures { λ r. ⌜ r ≡ dueOf index (dueMeans own ap (now (frame .entry))) ⌝ }
+pub fn due_to(frame: &[u8], cell: Cell, own: [u8; 6], bssid: [u8; 6], index: usize) -> Due
+    ensures { λ r. ⌜ r ≡ dueOf index (dueIn cell own bssid (now (frame .entry))) ⌝ }
 {
-    match header::read(frame, own, ap) {
+    match header::read(frame, cell, own, bssid) {
         Header::Refused(refusal) => Due::Refused(refusal),
         Header::Is { subtype, to_all } => {
             let none = Due::Refused(Refusal::NoReplyDue);

@@ -1,28 +1,18 @@
 // The calls that may change a station, each with its answer's number on the line, and the station after them.
 ghost use Rattle.station.specs.Validity.{Valid};
 use answer::Answer;
+use scene::answers;
 use scene::line;
 use scene::say;
 use station::Station;
 use station::Stepped;
-
-// Of a call that only makes the scene ready nothing is told unless it is refused.
-fn tell(answer: Answer, always: bool) {
-    let number = answer.number();
-    if let Answer::Accepted = answer {
-        if !always {
-            return;
-        }
-    }
-    say::number(number as u64);
-}
 
 pub fn told(stepped: Stepped, always: bool) -> Station
     requires { ⌜ Valid (stepped .station) ⌝ }
     ensures { λ r. ⌜ Valid r ⌝ }
 {
     let answer = stepped.answer;
-    tell(answer, always);
+    answers::tell(answer, always);
     stepped.station
 }
 
@@ -55,7 +45,7 @@ pub fn start(station: Station, interval: u32, octets: [u8; line::ROOM], always: 
     let ap = [octets[3], 0, 0, 0, 0, 9];
     let started = Station::start(own, ap, (interval % 65536) as u16, octets[4]);
     let answer = started.answer;
-    tell(answer, always);
+    answers::tell(answer, always);
     match answer {
         Answer::Accepted => started.station,
         Answer::Refused(_) => station,

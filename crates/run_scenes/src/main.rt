@@ -27,9 +27,7 @@
 // Of a start, an advance and `at` nothing is expected where they only make a scene ready, and nothing told unless the station refuses them. What cannot be run
 // is told in words: a moment that is gone, a verb or an element that is unknown, a call with more than 127 numbers. Frames are read with the addresses and the
 // interval of a scene's first station. A scene more needs no proof.
-mod after;
 mod calls;
-mod faults;
 mod frames;
 mod received;
 mod replies;
@@ -64,12 +62,15 @@ fn scenes(stage: Stage, fresh: Station, text: &[u8]) -> Stage
 {
     let mut station = stage.station;
     let mut line = stage.line;
-    let mut i = 0;
-    while i < text.len() {
-        let c = text[i];
-        i += 1;
-        station = run::step(station, fresh, line, c);
-        line = line.take(c);
+    let mut at = 0;
+    while at < text.len() {
+        let read = line.read(text, at);
+        at = read.at;
+        line = read.line;
+        if read.calls {
+            station = run::run(station, fresh, line, read.expected);
+            line = line.after_call(read.expected);
+        }
     }
     Stage { station, line }
 }

@@ -3,11 +3,11 @@
 ghost use Prim.Native.Nat.{_≤_};
 use crate::AP;
 use crate::OWN;
-use crate::after;
 use element::tpc_report::TpcReport;
 use measured_report::Finding;
 use measured_report::Readings;
 use octets::Wrote;
+use scene::after;
 use scene::line;
 use scene::say;
 

@@ -1,31 +1,38 @@
 // A call by its verb.
 ghost use Rattle.station.specs.Validity.{Valid};
-use crate::after;
+use crate::AP;
 use crate::calls;
 use crate::frames;
-use crate::frames::ACTION;
-use crate::frames::BEACON;
-use crate::frames::BODY;
-use crate::frames::INTERVAL;
-use crate::frames::PROBE;
 use crate::replies;
 use crate::show;
+use scene::after;
 use scene::line;
 use scene::line::Line;
+use scene::made;
+use scene::made::ACTION;
+use scene::made::BEACON;
+use scene::made::BODY;
+use scene::made::INTERVAL;
+use scene::made::PROBE;
 use scene::numbers;
 use scene::reads;
 use scene::verb::Verb;
 use scene::writes;
 use station::Station;
 
+// A frame of the AP, with the call's octets in it.
+fn headed(front: usize, first: u8, octets: [u8; line::ROOM]) -> [u8; made::LONGEST] {
+    made::headed(front, first, AP[5], &octets[1..])
+}
+
 // A call that asks no station.
 fn alone(verb: Verb, numbers: [u64; 16], octets: [u8; line::ROOM], count: usize) {
     let end = after::end(count, 1);
     match verb {
-        Verb::ReadFrame => frames::read(frames::whole(octets), (numbers[1] % 2401) as usize),
-        Verb::ReadAction => frames::read(frames::headed(BODY, ACTION, octets), 23 + end),
-        Verb::ReadBeacon => frames::read(frames::headed(INTERVAL, BEACON, octets), 31 + end),
-        Verb::ReadProbe => frames::read(frames::headed(INTERVAL, PROBE, octets), 31 + end),
+        Verb::ReadFrame => frames::read(made::whole(octets), (numbers[1] % 2401) as usize),
+        Verb::ReadAction => frames::read(headed(BODY, ACTION, octets), 23 + end),
+        Verb::ReadBeacon => frames::read(headed(INTERVAL, BEACON, octets), 31 + end),
+        Verb::ReadProbe => frames::read(headed(INTERVAL, PROBE, octets), 31 + end),
         Verb::Contents => {
             let interval = (numbers[2] % 65536) as u16;
             reads::show(octets[1], interval, &octets[3..after::end(count, 3)]);
@@ -51,7 +58,7 @@ fn asked(station: Station, verb: Verb, units: u32)
 
 // The station after a call. Place 0 is counted too, so that with the 24 octets of a header there are 23 and the count. Where an answer is expected it
 // is told, and of a call that only makes the scene ready nothing is unless it is refused.
-fn run(station: Station, fresh: Station, line: Line, expected: bool) -> Station
+pub fn run(station: Station, fresh: Station, line: Line, expected: bool) -> Station
     requires { ⌜ Valid station ⌝ }
     requires { ⌜ Valid fresh ⌝ }
     ensures { λ r. ⌜ Valid r ⌝ }
@@ -66,14 +73,10 @@ fn run(station: Station, fresh: Station, line: Line, expected: bool) -> Station
         Verb::At => calls::at(station, value),
         Verb::Start => calls::start(station, value, octets, expected),
         Verb::Advance => calls::told(station.advance(value), expected),
-        Verb::Frame => frames::take(station, frames::whole(octets), (value % 2401) as usize),
-        Verb::Action => frames::take(station, frames::headed(BODY, ACTION, octets), 23 + count),
-        Verb::Beacon => frames::take(
-            station,
-            frames::headed(INTERVAL, BEACON, octets),
-            31 + count,
-        ),
-        Verb::Probe => frames::take(station, frames::headed(INTERVAL, PROBE, octets), 31 + count),
+        Verb::Frame => frames::take(station, made::whole(octets), (value % 2401) as usize),
+        Verb::Action => frames::take(station, headed(BODY, ACTION, octets), 23 + count),
+        Verb::Beacon => frames::take(station, headed(INTERVAL, BEACON, octets), 31 + count),
+        Verb::Probe => frames::take(station, headed(INTERVAL, PROBE, octets), 31 + count),
         Verb::Ask | Verb::Channel | Verb::Clock | Verb::Constraint => {
             asked(station, verb, value);
             station
@@ -83,17 +86,4 @@ fn run(station: Station, fresh: Station, line: Line, expected: bool) -> Station
             station
         }
     }
-}
-
-// A call is run at its =, or at the end of a line that has none.
-pub fn step(station: Station, fresh: Station, line: Line, c: u8) -> Station
-    requires { ⌜ Valid station ⌝ }
-    requires { ⌜ Valid fresh ⌝ }
-    ensures { λ r. ⌜ Valid r ⌝ }
-{
-    line.repeat(c);
-    if line.ends_at(c) {
-        return run(station, fresh, line, c == b'=');
-    }
-    station
 }

@@ -1,6 +1,6 @@
 // What a station answers when it is asked, and what it keeps.
 ghost use Rattle.station.specs.Validity.{Valid};
-use beacon::MaybePower;
+use scene::fields;
 use scene::say;
 use station::Station;
 
@@ -21,8 +21,5 @@ pub fn clock(station: Station) {
 
 pub fn constraint(station: Station) {
     let power = station.power;
-    match power {
-        MaybePower::Absent => say::text(b" none"),
-        MaybePower::Is(constraint) => say::octet(constraint.decibels),
-    }
+    fields::kept(power);
 }

@@ -5,6 +5,7 @@ use beacon::MaybeReport;
 use beacon::MaybeSwitch;
 use beacon::Notice;
 use element::channel_switch::ChannelSwitch;
+use element::ibss_dfs::IbssDfs;
 use element::power_constraint::PowerConstraint;
 use element::quiet::Quiet;
 use element::tpc_report::TpcReport;
@@ -17,6 +18,14 @@ use measurement_element::measurement_request;
 pub fn power(p: PowerConstraint) {
     say::text(b" constraint");
     say::octet(p.decibels);
+}
+
+// The constraint that a station keeps.
+pub fn kept(power: MaybePower) {
+    match power {
+        MaybePower::Absent => say::text(b" none"),
+        MaybePower::Is(constraint) => say::octet(constraint.decibels),
+    }
 }
 
 // The signed numbers as the octets that hold them.
@@ -41,6 +50,15 @@ pub fn quiet(q: Quiet) {
     say::octet(q.period);
     say::number(q.duration as u64);
     say::number(q.offset as u64);
+}
+
+// Of the pairs how many there are.
+pub fn dfs(d: IbssDfs) {
+    say::text(b" dfs");
+    let owner = d.owner;
+    say::octets(&owner);
+    say::octet(d.recovery);
+    say::number(d.pairs as u64);
 }
 
 // As many as the count says, at most.

@@ -1,9 +1,12 @@
-// The part of the scenes' program that asks neither a frame nor a station: a line of the scenes, numbers, and elements
+// The part of the scenes' programs that asks neither for a frame that is read nor for a station: a line of the scenes, the octets of a frame, numbers, and elements
 // as they are read and written.
-// Only `run_scenes` uses it, which says how a scene is written. It promises no more than to run: what it prints is compared with what
+// `run_scenes` and `run_ibss_scenes` use it, which say how a scene is written. It promises no more than to run: what it prints is compared with what
 // the scene must give.
+pub mod after;
+pub mod answers;
 pub mod fields;
 pub mod line;
+pub mod made;
 pub mod numbers;
 pub mod reads;
 pub mod say;

@@ -1,4 +1,7 @@
 // A line as it is read, character by character.
+ghost use mathlib.Core.Path.{_≡_};
+ghost use Prim.Native.Nat.{_<_, _≤_};
+ghost use lib.ListN.{length};
 use crate::say;
 use crate::verb;
 use crate::verb::Verb;
@@ -30,6 +33,17 @@ pub struct Line {
     // The place of the number that the next digit belongs to, and what its digits make so far.
     at: u8,
     number: u64,
+    // Whether a number found no place.
+    spilled: bool,
+}
+
+// How far a text was read: to its end, or past the = or the end of the line with which a call ends. The call is what the line then holds, and in front of an =
+// an answer is expected.
+pub struct Read {
+    pub at: usize,
+    pub calls: bool,
+    pub expected: bool,
+    pub line: Line,
 }
 
 pub fn begun() -> Line {
@@ -42,6 +56,7 @@ pub fn begun() -> Line {
         numbers: [0; 16],
         at: 1,
         number: 0,
+        spilled: false,
     }
 }
 
@@ -60,7 +75,7 @@ impl Line {
     }
 
     // Whether a call stands here that this character ends.
-    pub fn ends_at(self, c: u8) -> bool {
+    fn ends_at(self, c: u8) -> bool {
         if self.letters == 0 {
             return false;
         }
@@ -72,15 +87,18 @@ impl Line {
         }
     }
 
-    // What is written of a character that is read. The end of the line follows the answer.
-    pub fn repeat(self, c: u8) {
+    // From where on the text is to be written after this character, which stands before `at`. What is expected is passed over, up to the end of its line.
+    fn unwritten(self, c: u8, from: usize, at: usize) -> usize
+        requires { ⌜ from ≤ at ⌝ }
+        ensures { λ r. ⌜ r ≤ at ⌝ }
+    {
         if c == b'\n' {
-            return;
+            return from;
         }
         let part = self.part;
         match part {
-            Part::Expected => {}
-            _ => say::text(&[c]),
+            Part::Expected => at,
+            _ => from,
         }
     }
 
@@ -95,13 +113,13 @@ impl Line {
         self
     }
 
-    // A number keeps its last digits where it has too many. One that finds no place must not go by unseen.
+    // A number keeps its last digits where it has too many.
     fn digit(mut self, d: u8) -> Line {
         let at = self.at;
         let place = at as usize;
         let number = self.number % 1000000000000000000 * 10 + (d as u64);
         if ROOM <= place {
-            say::text(b" too long");
+            self.spilled = true;
             return self;
         }
         self.octets[place] = (number % 256) as u8;
@@ -139,13 +157,9 @@ impl Line {
         self.letter(c)
     }
 
-    pub fn take(self, c: u8) -> Line {
+    fn take(self, c: u8) -> Line {
         if c == b'\n' {
-            say::text(b"\n");
             return begun();
-        }
-        if self.ends_at(c) {
-            return self.in_part(Part::Expected);
         }
         let part = self.part;
         match part {
@@ -153,5 +167,59 @@ impl Line {
             Part::Numbers => self.among_numbers(c),
             _ => self,
         }
+    }
+
+    // A call, read to this place. A number that found none must not go by unseen.
+    fn call(self, at: usize, expected: bool) -> Read
+        ensures { λ r. ⌜ r .at ≡ at ⌝ }
+    {
+        if expected {
+            say::text(b"=");
+        }
+        if self.spilled {
+            say::text(b" too long");
+        }
+        Read {
+            at,
+            calls: true,
+            expected,
+            line: self,
+        }
+    }
+
+    // Reads on from a place in the text, and writes again what it reads, but for what is expected.
+    pub fn read(self, text: &[u8], from: usize) -> Read
+        requires { ⌜ from < length (now text) ⌝ }
+        ensures { λ r. ⌜ (from < r .at) × (r .at ≤ length (now (text .entry))) ⌝ }
+    {
+        let mut line = self;
+        let mut written = from;
+        let mut at = from;
+        while at < text.len() {
+            let c = text[at];
+            if line.ends_at(c) {
+                say::text(&text[written..at]);
+                return line.call(at + 1, c == b'=');
+            }
+            at += 1;
+            written = line.unwritten(c, written, at);
+            line = line.take(c);
+        }
+        say::text(&text[written..at]);
+        Read {
+            at,
+            calls: false,
+            expected: false,
+            line,
+        }
+    }
+
+    // The line after its call: what is expected is passed over, and the end of a line follows what was told.
+    pub fn after_call(self, expected: bool) -> Line {
+        if expected {
+            return self.in_part(Part::Expected);
+        }
+        say::text(b"\n");
+        begun()
     }
 }

@@ -10,6 +10,8 @@ pub enum Verb {
     Channel,
     Clock,
     Constraint,
+    Pending,
+    Owner,
     Frame,
     Action,
     Beacon,
@@ -18,6 +20,7 @@ pub enum Verb {
     ReadAction,
     ReadBeacon,
     ReadProbe,
+    Pair,
     ReplyTpc,
     ReplyMeasurement,
     Contents,
@@ -72,6 +75,12 @@ fn asking(word: &[u8]) -> Verb {
     if same(word, b"constraint") {
         return Verb::Constraint;
     }
+    if same(word, b"pending") {
+        return Verb::Pending;
+    }
+    if same(word, b"owner") {
+        return Verb::Owner;
+    }
     framing(word)
 }
 
@@ -88,6 +97,9 @@ fn framing(word: &[u8]) -> Verb {
     }
     if same(word, b"read-probe") {
         return Verb::ReadProbe;
+    }
+    if same(word, b"pair") {
+        return Verb::Pair;
     }
     if same(word, b"reply-tpc") {
         return Verb::ReplyTpc;

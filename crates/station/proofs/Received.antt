@@ -52,12 +52,13 @@ module _ (s : Station) where
   unfolding heardMeans
   valid-heard valid v allowed = still-valid valid (v .reading) (take (v .count) (v .quiets)) allowed
 
-  by-outcome : (o : Placed Sent) → heardMeans s (frameLaid o) ≡ andThen o (λ sent. accepted (heard s (sent .kind)))
+  -- what a reader hands out of an outcome
+  pub laid-means : (o : Placed Sent) → heardMeans s (frameLaid o) ≡ andThen o (λ sent. accepted (heard s (sent .kind)))
   unfolding heardMeans
-  by-outcome (refused r) = refl
-  by-outcome (accepted x) = ap (λ (qs : List Quiet). accepted (changedBy s (frameOf (x .kind)) qs)) (take-at (quietsOf (x .kind)) _ _ refl)
+  laid-means (refused r) = refl
+  laid-means (accepted x) = ap (λ (qs : List Quiet). accepted (changedBy s (frameOf (x .kind)) qs)) (take-at (quietsOf (x .kind)) _ _ refl)
 
   -- what was read is what the frame means
   pub read-means : (f : List ℕ) (v : Received) → v ≡ frameLaid (frameMeans (s .own) (s .ap) (s .interval) f) → heardMeans s v ≡ takeMeans s f
   unfolding takeMeans
-  read-means f v e = ap (heardMeans s) e ∙ by-outcome (frameMeans (s .own) (s .ap) (s .interval) f)
+  read-means f v e = ap (heardMeans s) e ∙ laid-means (frameMeans (s .own) (s .ap) (s .interval) f)

@@ -75,6 +75,15 @@ impl Stage {
             interval: self.interval,
         }
     }
+
+    /// As a station of an IBSS; `ap` is the BSSID there.
+    pub fn in_ibss(&self) -> oneiralth::IbssSettings {
+        oneiralth::IbssSettings {
+            own: self.own,
+            bssid: self.ap,
+            interval: self.interval,
+        }
+    }
 }
 
 pub fn address(rng: &mut Rng) -> Address {

@@ -39,6 +39,20 @@ pub enum Call {
     AskLine,
     RecordLine,
     BlockLine,
+    ReadIbss,
+    IbssOffset,
+    IbssQuiet,
+    DfsPair,
+    WriteDfs,
+}
+
+/// What broke at a place: a frame to document 01's reader, a frame of an IBSS,
+/// or the element 41 of a beacon of an IBSS.
+#[derive(Clone, Copy)]
+pub enum Reader {
+    Ap,
+    Ibss,
+    Dfs,
 }
 
 /// A call's name in the table, and the numbers that it can give.
@@ -48,7 +62,7 @@ struct Can(&'static str, &'static [u8]);
 /// somewhere. 14, 15, 17, 19 and 20 do in the lines of lists alone, since no
 /// other call has a clock to advance, a station to start or a block to read;
 /// 18 in replies alone; 1 to 12, 21 and 22 where frames are read.
-const CAN: [Can; 19] = [
+const CAN: [Can; 24] = [
     // Not 13: the safe call lends a buffer of its own, which is long enough.
     // Not 16: no index is asked for.
     Can("read", &[0, 1, 2, 3, 4, 5, 6, 7, 8, 9, 10, 11, 12, 21, 22]),
@@ -94,6 +108,15 @@ const CAN: [Can; 19] = [
     // These two words stand for one refusal each.
     Can("record", &[20]),
     Can("block", &[17]),
+    // Frames of an IBSS, in the same way; 13 in buffers that are short. Not 16:
+    // no index is asked for. Not 23: whether an announcement is the owner's is
+    // for a station to say, and no reader knows the owner.
+    Can("ibss", &[0, 1, 2, 3, 4, 5, 6, 7, 8, 9, 10, 11, 12, 13, 21, 22]),
+    Can("i-place", &[0, 1, 2, 3, 4, 16]),
+    Can("i-quiet", &[0, 1, 2, 3, 4, 5, 6, 7, 8, 9, 10, 11, 12, 13, 16, 21, 22]),
+    Can("pair", &[0, 1, 2, 3, 4, 5, 6, 7, 8, 9, 10, 11, 12, 13, 16, 21, 22]),
+    // Not 9, as with the other elements.
+    Can("dfs", &[0, 13, 16]),
 ];
 
 /// A number that comes with a place, and the first and the last place that it
@@ -125,6 +148,23 @@ const PLACED: [Placed; 10] = [
     Placed(22, HEADER + 5, LONGEST - 1),
 ];
 
+/// The places of a frame of an IBSS are the same: element 41 is longer than what
+/// breaks first or last. Those of element 41 itself, which begins where the
+/// elements of a beacon do.
+const DFS_PLACED: [Placed; 4] = [
+    // Half its header.
+    Placed(6, NOTICE, LONGEST - 1),
+    // Without contents.
+    Placed(8, NOTICE, LONGEST - 2),
+    // The shortest has nine octets.
+    Placed(9, NOTICE, LONGEST - 9),
+    // A second one right after the shortest, and at the end.
+    Placed(10, NOTICE + 9, LONGEST - 9),
+];
+
+/// In the order of `Reader`: what breaks, and its places.
+const READERS: [(&str, &[Placed]); 3] = [("frame", &PLACED), ("ibss", &PLACED), ("dfs", &DFS_PLACED)];
+
 /// What a subject has compared so far.
 struct Subject {
     name: &'static str,
@@ -137,8 +177,8 @@ struct Subject {
 pub struct Count {
     subjects: Vec<Subject>,
     answers: [[u64; NUMBERS]; CAN.len()],
-    /// How often each number came with each place.
-    places: Vec<[u64; NUMBERS]>,
+    /// How often each number came with each place, by the reader.
+    places: [Vec<[u64; NUMBERS]>; READERS.len()],
     asks: [u64; ASKS],
 }
 
@@ -147,7 +187,7 @@ impl Count {
         Count {
             subjects: Vec::new(),
             answers: [[0; NUMBERS]; CAN.len()],
-            places: vec![[0; NUMBERS]; LONGEST + 1],
+            places: std::array::from_fn(|_| vec![[0; NUMBERS]; LONGEST + 1]),
             asks: [0; ASKS],
         }
     }
@@ -174,8 +214,8 @@ impl Count {
     /// Notes that a frame was refused with this number at this place. A place
     /// past the longest frame is none of the twin, so it is told as a
     /// difference.
-    pub fn note_place(&mut self, number: u8, place: usize) {
-        let numbers = self.places.get_mut(place);
+    pub fn note_place(&mut self, reader: Reader, number: u8, place: usize) {
+        let numbers = self.places[reader as usize].get_mut(place);
         if let Some(times) = numbers.and_then(|numbers| numbers.get_mut(usize::from(number))) {
             *times += 1;
         }
@@ -338,8 +378,8 @@ impl Count {
     }
 
     /// The places at which frames were refused with this number, in order.
-    fn places_of(&self, number: usize) -> Vec<usize> {
-        let places = self.places.iter().enumerate();
+    fn places_of(&self, reader: usize, number: usize) -> Vec<usize> {
+        let places = self.places[reader].iter().enumerate();
         let seen = places.filter(|(_, numbers)| numbers[number] != 0);
         seen.map(|(place, _)| place).collect()
     }
@@ -347,13 +387,15 @@ impl Count {
     /// A line for each number that came with a place: how often, at how many
     /// different places, and the first and the last of them.
     fn print_places(&self) {
-        println!("\n place     all  places   first    last");
-        for number in 0..NUMBERS {
-            let all: u64 = self.places.iter().map(|numbers| numbers[number]).sum();
-            let places = self.places_of(number);
-            if let (Some(first), Some(last)) = (places.first(), places.last()) {
-                let many = places.len();
-                println!("{number:>6}{all:>8}{many:>8}{first:>8}{last:>8}");
+        for (reader, (name, _)) in READERS.iter().enumerate() {
+            println!("\n{name:>6}     all  places   first    last");
+            for number in 0..NUMBERS {
+                let all: u64 = self.places[reader].iter().map(|numbers| numbers[number]).sum();
+                let places = self.places_of(reader, number);
+                if let (Some(first), Some(last)) = (places.first(), places.last()) {
+                    let many = places.len();
+                    println!("{number:>6}{all:>8}{many:>8}{first:>8}{last:>8}");
+                }
             }
         }
     }
@@ -362,16 +404,18 @@ impl Count {
     /// the last place is not the one that it must be.
     fn misplaced(&self) -> Vec<String> {
         let mut faults = Vec::new();
-        for number in 0..NUMBERS {
-            let places = self.places_of(number);
-            let seen = places.first().copied().zip(places.last().copied());
-            let placed = PLACED.iter().find(|placed| usize::from(placed.0) == number);
-            let expected = placed.map(|&Placed(_, first, last)| (first, last));
-            if seen != expected {
-                faults.push(format!(
-                    "first and last place of {}: {:?}, not {:?}",
-                    number, seen, expected
-                ));
+        for (reader, (name, placed)) in READERS.iter().enumerate() {
+            for number in 0..NUMBERS {
+                let places = self.places_of(reader, number);
+                let seen = places.first().copied().zip(places.last().copied());
+                let placed = placed.iter().find(|placed| usize::from(placed.0) == number);
+                let expected = placed.map(|&Placed(_, first, last)| (first, last));
+                if seen != expected {
+                    faults.push(format!(
+                        "first and last place of {} for '{}': {:?}, not {:?}",
+                        number, name, seen, expected
+                    ));
+                }
             }
         }
         faults

@@ -6,7 +6,7 @@ use crate::builder::{
     Builder, Stage, ACTION, ALL_ONES, BEACON, HEADER, LONGEST, LONGEST_BODY, NOTICE,
     PROBE_RESPONSE, VENDOR,
 };
-use crate::count::{Call, Count};
+use crate::count::{Call, Count, Reader};
 use crate::lend::hex;
 use crate::pairs;
 use crate::raw;
@@ -111,7 +111,7 @@ fn place(
         format!("place in {}", input(stage, frame))
     });
     if let (Some(refusal), Ok(place)) = (refusal, library) {
-        count.note_place(refusal, place);
+        count.note_place(Reader::Ap, refusal, place);
     }
     // The safe call gives the number and the place together.
     let library = oneiralth::fault(frame, stage.settings());
@@ -157,7 +157,7 @@ fn report_at(count: &mut Count, stage: &Stage, frame: &[u8], twin: Reading<'_>, 
 /// The indices that are asked for of so many elements: each of a few, of many
 /// the first, the last and some between, always one past the last, and for
 /// frames with elements the greatest number that there is.
-fn indices(elements: usize) -> Vec<usize> {
+pub fn indices(elements: usize) -> Vec<usize> {
     let mut indices: Vec<usize> = (0..=elements)
         .filter(|&index| index < 12 || index + 6 > elements || index % 16 == 0)
         .collect();

@@ -14,6 +14,7 @@ mod captures;
 mod count;
 mod elements;
 mod frames;
+mod ibss;
 mod lend;
 mod numbers;
 mod pairs;
@@ -32,6 +33,7 @@ fn main() {
     replies::run(&mut count);
     numbers::run(&mut count);
     captures::run(&mut count);
+    ibss::run(&mut count);
     if !count.conclude() {
         std::process::exit(1);
     }

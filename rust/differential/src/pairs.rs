@@ -136,6 +136,30 @@ pub fn received(given: &twin::Received) -> library::Received {
     }
 }
 
+pub fn pair(given: twin::ChannelMap) -> library::ChannelMap {
+    library::ChannelMap {
+        channel: given.channel,
+        map: given.map,
+    }
+}
+
+/// The library counts the pairs of element 41, too.
+pub fn ibss_received(given: &twin::IbssReceived) -> library::IbssReceived {
+    let received = twin::Received {
+        broadcast: given.broadcast,
+        frame: given.frame.clone(),
+    };
+    library::IbssReceived {
+        received: self::received(&received),
+        sender: given.sender,
+        dfs: given.dfs.as_ref().map(|dfs| library::IbssDfs {
+            owner: dfs.owner,
+            recovery: dfs.recovery,
+            pairs: dfs.pairs.len(),
+        }),
+    }
+}
+
 /// The number and the place of a refused frame.
 pub fn fault(given: &twin::Refusal) -> library::Fault {
     library::Fault {

@@ -8,7 +8,8 @@ pub const TOO_SHORT: Refusal = 1;
 pub const TOO_LONG: Refusal = 2;
 /// Version, type, subtype, a flag or the fragment number is none that is read.
 pub const FOREIGN_HEADER: Refusal = 3;
-/// SA or BSSID is not the AP, or DA is neither the station nor all ones.
+/// SA or BSSID is not the AP, or DA is neither the station nor all ones; in an
+/// IBSS SA may be any individual address.
 pub const FOREIGN_ADDRESS: Refusal = 4;
 /// Category not 0, or action over 4.
 pub const FOREIGN_ACTION: Refusal = 5;
@@ -20,7 +21,8 @@ pub const ELEMENT_ABSENT: Refusal = 7;
 pub const WRONG_LENGTH: Refusal = 8;
 /// A value that the rules forbid.
 pub const FORBIDDEN_VALUE: Refusal = 9;
-/// A second 32, 35 or 37, or a measurement token used twice.
+/// A second 32, 35 or 37, in a beacon of an IBSS 41, or a measurement token used
+/// twice.
 pub const REPEATED: Refusal = 10;
 /// A ninth Quiet element.
 pub const TOO_MANY_QUIETS: Refusal = 11;
@@ -46,3 +48,5 @@ pub const RECORD_MALFORMED: Refusal = 20;
 pub const OTHER_ELEMENT: Refusal = 21;
 /// Octets are left over after the one element of an action frame.
 pub const LEFT_OVER: Refusal = 22;
+/// In an IBSS, an announcement by any but a known DFS owner. No call gives it yet.
+pub const FOREIGN_ANNOUNCEMENT: Refusal = 23;

@@ -1,6 +1,7 @@
 //! Records, as the library puts their fields (`places`).
 
 use crate::places::*;
+use crate::Address;
 
 /// A TPC Report: power in dBm, margin in dB.
 #[derive(Clone, Copy, Debug, PartialEq, Eq)]
@@ -56,6 +57,33 @@ pub enum Frame {
 pub struct Received {
     pub broadcast: bool,
     pub frame: Frame,
+}
+
+/// What an element 41 says; its pairs are read by their index.
+#[derive(Clone, Copy, Debug, PartialEq, Eq)]
+pub struct IbssDfs {
+    pub owner: Address,
+    /// The recovery interval, in beacon intervals.
+    pub recovery: u8,
+    /// How many pairs it has.
+    pub pairs: usize,
+}
+
+/// A pair of element 41.
+#[derive(Clone, Copy, Debug, PartialEq, Eq)]
+pub struct ChannelMap {
+    pub channel: u8,
+    pub map: u8,
+}
+
+/// A frame as a station of an IBSS reads it.
+#[derive(Clone, Debug, PartialEq, Eq)]
+pub struct IbssReceived {
+    pub received: Received,
+    /// Who sent it.
+    pub sender: Address,
+    /// The element 41 of a beacon, if it has one.
+    pub dfs: Option<IbssDfs>,
 }
 
 /// A Measurement Request element.
@@ -134,7 +162,13 @@ fn u64_at(octets: &[u8], at: usize) -> u64 {
     u64::from_le_bytes(number)
 }
 
-fn notice(out: &[u8; FRAME_LENGTH]) -> Notice {
+fn address_at(octets: &[u8], at: usize) -> Address {
+    let mut address = [0; 6];
+    address.copy_from_slice(&octets[at..at + 6]);
+    address
+}
+
+fn notice(out: &[u8]) -> Notice {
     Notice {
         timestamp: u64_at(out, TIMESTAMP),
         capability: u16_at(out, CAPABILITY),
@@ -145,15 +179,16 @@ fn notice(out: &[u8; FRAME_LENGTH]) -> Notice {
     }
 }
 
-fn tpc_report(out: &[u8; FRAME_LENGTH]) -> TpcReport {
+fn tpc_report(out: &[u8]) -> TpcReport {
     TpcReport { power: out[REPORT + 1] as i8, margin: out[REPORT + 2] as i8 }
 }
 
-fn switch(out: &[u8; FRAME_LENGTH]) -> Switch {
+fn switch(out: &[u8]) -> Switch {
     Switch { mode: out[SWITCH + 1], channel: out[SWITCH + 2], count: out[SWITCH + 3] }
 }
 
-pub fn received(out: &[u8; FRAME_LENGTH]) -> Received {
+/// Of the octets of a frame of either reader, which begin alike.
+pub fn received(out: &[u8]) -> Received {
     let token = out[TOKEN];
     let count = u64_at(out, ELEMENTS) as usize;
     let frame = match out[KIND] {
@@ -166,6 +201,23 @@ pub fn received(out: &[u8; FRAME_LENGTH]) -> Received {
         _ => Frame::ChannelSwitch(switch(out)),
     };
     Received { broadcast: out[TO_ALL] == 1, frame }
+}
+
+pub fn ibss_received(out: &[u8; IBSS_FRAME_LENGTH]) -> IbssReceived {
+    let dfs = IbssDfs {
+        owner: address_at(out, OWNER),
+        recovery: out[RECOVERY],
+        pairs: u64_at(out, PAIRS) as usize,
+    };
+    IbssReceived {
+        received: received(out),
+        sender: address_at(out, SENDER),
+        dfs: (out[DFS] == 1).then_some(dfs),
+    }
+}
+
+pub fn pair(out: &[u8; PAIR_LENGTH]) -> ChannelMap {
+    ChannelMap { channel: out[PAIR_CHANNEL], map: out[PAIR_MAP] }
 }
 
 pub fn quiet(out: &[u8; QUIET_LENGTH]) -> Quiet {

@@ -11,12 +11,14 @@ mod fields;
 pub mod places;
 mod raw;
 
-pub use fields::{Asks, Frame, Notice, Quiet, Received, Report, Request, Says, Switch, TpcReport};
+pub use fields::{
+    Asks, ChannelMap, Frame, IbssDfs, IbssReceived, Notice, Quiet, Received, Report, Request, Says, Switch, TpcReport,
+};
 
 /// A MAC address, in the order of its octets on the air.
 pub type Address = [u8; 6];
 
-/// A refusal's number, from 1 to 22 (`answers`, docs/ANSWERS.md).
+/// A refusal's number, from 1 to 23 (`answers`, docs/ANSWERS.md).
 pub type Refusal = u8;
 
 /// How many octets were written, or why none was.
@@ -38,6 +40,17 @@ pub struct Settings {
     pub own: Address,
     /// Its AP's address.
     pub ap: Address,
+    /// Its beacon interval, in TU.
+    pub interval: u16,
+}
+
+/// The station of an IBSS that reads a frame.
+#[derive(Clone, Copy, Debug, PartialEq, Eq)]
+pub struct IbssSettings {
+    /// The station's own address.
+    pub own: Address,
+    /// The BSSID of its IBSS.
+    pub bssid: Address,
     /// Its beacon interval, in TU.
     pub interval: u16,
 }
@@ -132,6 +145,49 @@ pub fn read_report(frame: &[u8], settings: Settings, index: usize) -> Result<Rep
     written(code).map(|_| fields::report(&out))
 }
 
+/// Reads a frame as a station of an IBSS does: one of seven kinds from any
+/// individual address, with the element 41 of a beacon, or its refusal.
+pub fn read_ibss_frame(frame: &[u8], settings: IbssSettings) -> Result<IbssReceived, Refusal> {
+    let mut out = [0; places::IBSS_FRAME_LENGTH];
+    let (own, bssid) = (address(settings.own), address(settings.bssid));
+    let code = unsafe {
+        raw::oneiralth_read_ibss_frame(frame.as_ptr(), frame.len(), own, bssid, settings.interval, out.as_mut_ptr(), out.len())
+    };
+    written(code).map(|_| fields::ibss_received(&out))
+}
+
+/// Why a frame of an IBSS is refused and where it broke; `None` for one that is
+/// accepted.
+pub fn ibss_fault(frame: &[u8], settings: IbssSettings) -> Option<Fault> {
+    let refusal = read_ibss_frame(frame, settings).err()?;
+    let (own, bssid) = (address(settings.own), address(settings.bssid));
+    let code = unsafe { raw::oneiralth_ibss_fault_offset(frame.as_ptr(), frame.len(), own, bssid, settings.interval) };
+    let offset = number(code).ok().map(|offset| offset as usize);
+    Some(Fault { refusal, offset })
+}
+
+/// The Quiet element at an index of a beacon or a probe response of an IBSS: the
+/// frame's refusal, or 16 where there is none.
+pub fn read_ibss_quiet(frame: &[u8], settings: IbssSettings, index: usize) -> Result<Quiet, Refusal> {
+    let mut out = [0; places::QUIET_LENGTH];
+    let (own, bssid) = (address(settings.own), address(settings.bssid));
+    let code = unsafe {
+        raw::oneiralth_read_ibss_quiet(frame.as_ptr(), frame.len(), own, bssid, settings.interval, index, out.as_mut_ptr(), out.len())
+    };
+    written(code).map(|_| fields::quiet(&out))
+}
+
+/// The pair at an index of the element 41 of a beacon: the frame's refusal, or 16
+/// where there is none.
+pub fn read_dfs_pair(frame: &[u8], settings: IbssSettings, index: usize) -> Result<ChannelMap, Refusal> {
+    let mut out = [0; places::PAIR_LENGTH];
+    let (own, bssid) = (address(settings.own), address(settings.bssid));
+    let code = unsafe {
+        raw::oneiralth_read_dfs_pair(frame.as_ptr(), frame.len(), own, bssid, settings.interval, index, out.as_mut_ptr(), out.len())
+    };
+    written(code).map(|_| fields::pair(&out))
+}
+
 /// Element 32, Power Constraint.
 pub fn write_power_constraint(decibels: u8, out: &mut [u8]) -> Written {
     written(unsafe { raw::oneiralth_write_power_constraint(decibels, out.as_mut_ptr(), out.len()) })
@@ -159,6 +215,13 @@ pub fn write_quiet(quiet: Quiet, interval: u16, out: &mut [u8]) -> Written {
     let Quiet { count, period, duration, offset } = quiet;
     written(unsafe {
         raw::oneiralth_write_quiet(count, period, duration, offset, interval, out.as_mut_ptr(), out.len())
+    })
+}
+
+/// Element 41, IBSS DFS. The pairs are their octets, channel and map in turn.
+pub fn write_ibss_dfs(owner: Address, recovery: u8, pairs: &[u8], out: &mut [u8]) -> Written {
+    written(unsafe {
+        raw::oneiralth_write_ibss_dfs(address(owner), recovery, pairs.as_ptr(), pairs.len(), out.as_mut_ptr(), out.len())
     })
 }
 

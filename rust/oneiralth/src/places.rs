@@ -20,6 +20,21 @@ pub const REPORT: usize = 31;
 pub const SWITCH: usize = 34;
 pub const FRAME_LENGTH: usize = 38;
 
+/// The fields of a frame of an IBSS: those above, then the sender (6 octets), 1 if
+/// there is an element 41, its owner (6), its recovery interval and how many
+/// pairs it has (8).
+pub const SENDER: usize = 38;
+pub const DFS: usize = 44;
+pub const OWNER: usize = 45;
+pub const RECOVERY: usize = 51;
+pub const PAIRS: usize = 52;
+pub const IBSS_FRAME_LENGTH: usize = 60;
+
+/// A pair of element 41: channel, map.
+pub const PAIR_CHANNEL: usize = 0;
+pub const PAIR_MAP: usize = 1;
+pub const PAIR_LENGTH: usize = 2;
+
 /// The fields of a Quiet element: count, period, duration (2), offset (2).
 pub const QUIET_COUNT: usize = 0;
 pub const QUIET_PERIOD: usize = 1;

@@ -48,6 +48,42 @@ extern "C" {
         out: *mut u8,
         out_length: usize,
     ) -> u64;
+    pub fn oneiralth_read_ibss_frame(
+        frame: *const u8,
+        frame_length: usize,
+        own: u64,
+        bssid: u64,
+        interval: u16,
+        out: *mut u8,
+        out_length: usize,
+    ) -> u64;
+    pub fn oneiralth_ibss_fault_offset(
+        frame: *const u8,
+        frame_length: usize,
+        own: u64,
+        bssid: u64,
+        interval: u16,
+    ) -> u64;
+    pub fn oneiralth_read_ibss_quiet(
+        frame: *const u8,
+        frame_length: usize,
+        own: u64,
+        bssid: u64,
+        interval: u16,
+        index: usize,
+        out: *mut u8,
+        out_length: usize,
+    ) -> u64;
+    pub fn oneiralth_read_dfs_pair(
+        frame: *const u8,
+        frame_length: usize,
+        own: u64,
+        bssid: u64,
+        interval: u16,
+        index: usize,
+        out: *mut u8,
+        out_length: usize,
+    ) -> u64;
     pub fn oneiralth_write_power_constraint(decibels: u8, out: *mut u8, out_length: usize) -> u64;
     pub fn oneiralth_write_tpc_request(out: *mut u8, out_length: usize) -> u64;
     pub fn oneiralth_write_tpc_report(power: u8, margin: u8, out: *mut u8, out_length: usize) -> u64;
@@ -64,6 +100,14 @@ extern "C" {
         duration: u16,
         offset: u16,
         interval: u16,
+        out: *mut u8,
+        out_length: usize,
+    ) -> u64;
+    pub fn oneiralth_write_ibss_dfs(
+        owner: u64,
+        recovery: u8,
+        pairs: *const u8,
+        pairs_length: usize,
         out: *mut u8,
         out_length: usize,
     ) -> u64;

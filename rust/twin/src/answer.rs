@@ -1,5 +1,5 @@
-//! The numbers of the section "Answer numbers" and of request One in document
-//! 02, and the answers to an ask from the section "The station".
+//! The numbers of the section "Answer numbers" and of requests One and Five in
+//! document 02, and the answers to an ask from the section "The station".
 
 /// The refusal of a frame, with the place where the frame broke (02, One).
 #[derive(Clone, Copy, Debug, PartialEq, Eq)]
@@ -8,12 +8,12 @@ pub struct Refusal {
     pub number: u8,
     /// "The offset in the frame of the octet at fault", the header's first
     /// octet being 0: given for 5 to 12, 21 and 22. Of 7 it is the frame's
-    /// length. The numbers 1 to 4 have none.
+    /// length. The numbers 1 to 4 and 23 have none.
     pub offset: Option<usize>,
 }
 
 impl Refusal {
-    /// A refusal with no octet at fault: 1 to 4.
+    /// A refusal with no octet at fault: 1 to 4 and 23.
     pub(crate) fn nowhere(number: u8) -> Refusal {
         Refusal {
             number,
@@ -38,7 +38,8 @@ pub const FRAME_SHORT: u8 = 1;
 pub const FRAME_LONG: u8 = 2;
 /// Version, type, subtype, flags or fragment number not of the kinds read here.
 pub const FRAME_CONTROL: u8 = 3;
-/// SA or BSSID is not the AP, or DA is neither the station nor all ones.
+/// SA or BSSID is not the AP, or DA is neither the station nor all ones. In an
+/// IBSS: the BSSID is not its own, SA is no individual address, or DA as before.
 pub const ADDRESSES: u8 = 4;
 /// Category not 0, or action over 4.
 pub const ACTION: u8 = 5;
@@ -50,7 +51,8 @@ pub const ELEMENT_ABSENT: u8 = 7;
 pub const ELEMENT_LENGTH: u8 = 8;
 /// A value that the rules forbid.
 pub const VALUE: u8 = 9;
-/// A second 32, 35 or 37, or a measurement token used twice in one request frame.
+/// A second 32, 35 or 37, or a measurement token used twice in one request
+/// frame; in a beacon of an IBSS a second 41 too.
 pub const REPEATED: u8 = 10;
 /// A ninth Quiet element.
 pub const NINTH_QUIET: u8 = 11;
@@ -78,6 +80,9 @@ pub const ANOTHER_ELEMENT: u8 = 21;
 /// In an action frame of one element: octets left over after it and the
 /// vendors' elements after it.
 pub const LEFT_OVER: u8 = 22;
+
+/// In an IBSS: an announcement by any but a known owner.
+pub const NOT_THE_OWNER: u8 = 23;
 
 /// Ask: granted.
 pub const ASK_GRANTED: u8 = 0;

@@ -10,11 +10,12 @@ use crate::answer::{
     Refusal, ACTION, BUFFER_SHORT, FRAME_SHORT, IMPOSSIBLE, INTERVAL, LEFT_OVER, NINTH_QUIET,
     REPEATED, VALUE,
 };
+use crate::dfs::{read_ibss_dfs, IbssDfs};
 use crate::element::{
     channel_switch_octets, cut_any, cut_required, read_channel_switch, read_power_constraint,
     read_quiet, read_tpc_report, read_tpc_request, skip_vendors, tpc_report_octets,
-    tpc_request_octets, Cut, Switch, CHANNEL_SWITCH, MEASUREMENT_REPORT, MEASUREMENT_REQUEST,
-    POWER_CONSTRAINT, QUIET, TPC_REPORT, TPC_REQUEST,
+    tpc_request_octets, Cut, Switch, CHANNEL_SWITCH, IBSS_DFS, MEASUREMENT_REPORT,
+    MEASUREMENT_REQUEST, POWER_CONSTRAINT, QUIET, TPC_REPORT, TPC_REQUEST,
 };
 use crate::frame::{Frame, Notice};
 use crate::header::{FRAME_LIMIT, HEADER};
@@ -46,6 +47,30 @@ const BODY_LIMIT: usize = FRAME_LIMIT - HEADER;
 
 /// Reads the body of a beacon or probe response under beacon interval B.
 pub(crate) fn read_notice(frame: &[u8], interval: u16) -> Result<Notice, Refusal> {
+    read_elements(frame, interval, |_| Ok(()))
+}
+
+/// Reads the body of a beacon as a station of an IBSS does: with its element
+/// 41, if there is one (02, Five).
+pub(crate) fn read_ibss_beacon(
+    frame: &[u8],
+    interval: u16,
+) -> Result<(Notice, Option<IbssDfs>), Refusal> {
+    let mut dfs = None;
+    let notice = read_elements(frame, interval, |cut| match cut.id {
+        IBSS_DFS => set_once(&mut dfs, read_ibss_dfs(cut.contents)?),
+        _ => Ok(()),
+    })?;
+    Ok((notice, dfs))
+}
+
+/// Reads the body of a beacon or probe response, and has `note_more` look at
+/// each element too, for those that no notice has a place for.
+fn read_elements(
+    frame: &[u8],
+    interval: u16,
+    mut note_more: impl FnMut(&Cut<'_>) -> Result<(), u8>,
+) -> Result<Notice, Refusal> {
     if frame.len() < ELEMENTS_AT {
         return Err(Refusal::nowhere(FRAME_SHORT));
     }
@@ -63,7 +88,9 @@ pub(crate) fn read_notice(frame: &[u8], interval: u16) -> Result<Notice, Refusal
     let mut at = ELEMENTS_AT;
     while at < frame.len() {
         let cut = cut_any(frame, at)?;
-        note(&mut notice, &cut, interval).map_err(|number| cut.refused(number))?;
+        note(&mut notice, &cut, interval)
+            .and_then(|()| note_more(&cut))
+            .map_err(|number| cut.refused(number))?;
         at = cut.end;
     }
     Ok(notice)

@@ -1,6 +1,6 @@
 //! The elements 32, 34, 35, 37 and 40 (802.11h 7.3.2.15 to 7.3.2.23), and how
 //! an element is cut from the octets before it is read. The two measurement
-//! elements are in `measurement`.
+//! elements are in `measurement`, the IBSS DFS element is in `dfs`.
 
 use crate::answer::{
     Refusal, ANOTHER_ELEMENT, ELEMENT_ABSENT, ELEMENT_CUT, ELEMENT_LENGTH, IMPOSSIBLE, VALUE,
@@ -22,6 +22,8 @@ pub const MEASUREMENT_REQUEST: u8 = 38;
 pub const MEASUREMENT_REPORT: u8 = 39;
 /// Quiet (802.11h 7.3.2.23).
 pub const QUIET: u8 = 40;
+/// IBSS DFS (802.11h 7.3.2.24).
+pub const IBSS_DFS: u8 = 41;
 /// A vendor's own element (02, Four); 802.11h has its ID reserved.
 const VENDOR: u8 = 221;
 
@@ -121,7 +123,7 @@ pub(crate) fn skip_vendors(octets: &[u8], at: usize) -> Result<usize, Refusal> {
     Ok(end)
 }
 
-/// An element in octets. No element written here has over 22 contents octets.
+/// An element in octets. No element written here has over 255 contents octets.
 pub(crate) fn element_octets(id: u8, contents: &[u8]) -> Vec<u8> {
     let mut octets = Vec::with_capacity(HEAD + contents.len());
     octets.push(id);

@@ -2,9 +2,10 @@
 //! own fields".
 
 use crate::answer::{Refusal, IMPOSSIBLE};
-use crate::body::{read_action_body, read_notice};
+use crate::body::{read_action_body, read_ibss_beacon, read_notice};
+use crate::dfs::{ChannelMap, IbssDfs};
 use crate::element::{Quiet, Switch};
-use crate::header::{read_header, Subtype, HEADER};
+use crate::header::{read_header, Network, Subtype, HEADER};
 use crate::measurement::{Report, Request};
 use crate::Address;
 
@@ -15,6 +16,31 @@ pub struct Received {
     pub broadcast: bool,
     /// What the frame was.
     pub frame: Frame,
+}
+
+/// A frame accepted as a station of an IBSS reads it (02, Five); whether it
+/// may announce is judged by the station, which knows the owner.
+#[derive(Clone, Debug, PartialEq, Eq)]
+pub struct IbssReceived {
+    /// SA: any individual address.
+    pub sender: Address,
+    /// DA was all ones.
+    pub broadcast: bool,
+    /// What the frame was, as document 01's reader says it.
+    pub frame: Frame,
+    /// Element 41, if there is one; only ever in a beacon.
+    pub dfs: Option<IbssDfs>,
+}
+
+impl IbssReceived {
+    /// The pair of this index in the frame's element 41; 16 past the last or
+    /// without that element.
+    pub fn pair(&self, index: usize) -> Result<ChannelMap, u8> {
+        match &self.dfs {
+            Some(dfs) => dfs.pair(index),
+            None => Err(IMPOSSIBLE),
+        }
+    }
 }
 
 /// The seven kinds of frame.
@@ -117,7 +143,8 @@ pub fn read_frame(
     ap: Address,
     interval: u16,
 ) -> Result<Received, Refusal> {
-    let header = read_header(frame, own, ap).map_err(Refusal::nowhere)?;
+    let network = Network::Infrastructure { ap };
+    let header = read_header(frame, own, network).map_err(Refusal::nowhere)?;
     let frame = match header.subtype {
         Subtype::Beacon => Frame::Beacon(read_notice(frame, interval)?),
         Subtype::ProbeResponse => Frame::ProbeResponse(read_notice(frame, interval)?),
@@ -129,11 +156,41 @@ pub fn read_frame(
     })
 }
 
+/// Reads a frame as the station `own` of the IBSS `bssid` does, under beacon
+/// interval `interval`: document 01's frames "of its BSSID from any individual
+/// address", with element 41 in beacons; "in probe responses 41 is skipped"
+/// (02, Five).
+pub fn read_ibss_frame(
+    frame: &[u8],
+    own: Address,
+    bssid: Address,
+    interval: u16,
+) -> Result<IbssReceived, Refusal> {
+    let network = Network::Ibss { bssid };
+    let header = read_header(frame, own, network).map_err(Refusal::nowhere)?;
+    let (frame, dfs) = match header.subtype {
+        Subtype::Beacon => {
+            let (notice, dfs) = read_ibss_beacon(frame, interval)?;
+            (Frame::Beacon(notice), dfs)
+        }
+        Subtype::ProbeResponse => (Frame::ProbeResponse(read_notice(frame, interval)?), None),
+        Subtype::Action => (read_action_body(frame, HEADER)?, None),
+    };
+    Ok(IbssReceived {
+        sender: header.sender,
+        broadcast: header.broadcast,
+        frame,
+        dfs,
+    })
+}
+
 #[cfg(test)]
 mod tests {
     use super::*;
     use crate::measurement::{Asks, Says};
-    use crate::sample::{action, measure, notice, quiet, vendor, Dice, ALL, AP, OWN};
+    use crate::sample::{
+        action, dfs, measure, notice, quiet, sent_by, vendor, Dice, ALL, AP, CELL, OTHER, OWN, PEER,
+    };
 
     fn read(frame: &[u8]) -> Result<Received, Refusal> {
         read_frame(frame, OWN, AP, 100)
@@ -1474,5 +1531,144 @@ mod tests {
                 }
             }
         }
+    }
+
+    fn read_ibss(frame: &[u8]) -> Result<IbssReceived, Refusal> {
+        read_ibss_frame(frame, OWN, CELL, 100)
+    }
+
+    /// The fault of these elements in a beacon of an IBSS.
+    fn ibss_fault(elements: &[u8]) -> (u8, Option<usize>) {
+        match read_ibss(&sent_by(PEER, &notice(8, ALL, 100, elements))) {
+            Ok(_) => (0, None),
+            Err(refusal) => (refusal.number, refusal.offset),
+        }
+    }
+
+    /// The same in a probe response of an IBSS, and in both to document 01's
+    /// station: those skip element 41.
+    fn skipping_fault(elements: &[u8]) -> (u8, Option<usize>) {
+        let of_beacon = fault(&notice(8, ALL, 100, elements));
+        assert_eq!(of_beacon, fault(&notice(5, ALL, 100, elements)));
+        let of_response = match read_ibss(&sent_by(PEER, &notice(5, ALL, 100, elements))) {
+            Ok(received) => {
+                assert_eq!(received.dfs, None);
+                (0, None)
+            }
+            Err(refusal) => (refusal.number, refusal.offset),
+        };
+        assert_eq!(of_beacon, of_response);
+        of_response
+    }
+
+    #[test]
+    fn a_beacon_of_an_ibss() {
+        let elements = [
+            vec![32, 1, 3],
+            dfs(OTHER, 9, &[36, 1, 201, 0xFF]),
+            quiet(1, 2, 3, 4),
+            vec![37, 3, 1, 44, 2],
+        ]
+        .concat();
+        let received = read_ibss(&sent_by(PEER, &notice(8, ALL, 100, &elements))).unwrap();
+        assert_eq!((received.sender, received.broadcast), (PEER, true));
+        // The frame is what document 01's reader says of the same octets.
+        let frame = read(&notice(8, ALL, 100, &elements)).unwrap().frame;
+        assert_eq!(received.frame, frame);
+        let element = received.dfs.clone().unwrap();
+        assert_eq!((element.owner, element.recovery), (OTHER, 9));
+        assert_eq!(element.pairs.len(), 2);
+        let pair = |channel, map| Ok(ChannelMap { channel, map });
+        assert_eq!(received.pair(0), pair(36, 1));
+        assert_eq!(received.pair(1), pair(201, 255));
+        assert_eq!(received.pair(2), Err(16));
+        assert_eq!(received.pair(usize::MAX), Err(16));
+        // Whoever announces: the reader knows no owner.
+        assert_eq!(received.frame.quiet(0).map(|quiet| quiet.count), Ok(1));
+    }
+
+    #[test]
+    fn frames_of_an_ibss_without_element_41() {
+        let elements = dfs(OTHER, 9, &[36, 1]);
+        for frame in [
+            notice(8, OWN, 100, &[]),
+            notice(5, OWN, 100, &elements),
+            action(OWN, &[0, 4, 37, 3, 0, 44, 1]),
+            action(ALL, &[&[0, 0, 9][..], &measure(1, 0, 36, 0, 5)].concat()),
+        ] {
+            let received = read_ibss(&sent_by(OTHER, &frame)).unwrap();
+            let same = read(&frame).unwrap();
+            assert_eq!(received.sender, OTHER);
+            assert_eq!(received.broadcast, same.broadcast);
+            assert_eq!(received.frame, same.frame);
+            assert_eq!(received.dfs, None);
+            assert_eq!(received.pair(0), Err(16));
+        }
+    }
+
+    #[test]
+    fn faults_of_element_41() {
+        let good = dfs(PEER, 1, &[]);
+        let after = |more: &[u8]| [&good[..], more].concat();
+        let group = [5, 0, 0, 0, 0, 0];
+        // Each run of elements with its fault in a beacon, and where 41 is
+        // skipped.
+        let cases = [
+            (good.clone(), ACCEPTED, ACCEPTED),
+            (dfs(OTHER, 255, &[255; 248]), ACCEPTED, ACCEPTED),
+            (vec![41], at(6, 36), at(6, 36)),
+            (vec![41, 7, 2, 0, 0, 0, 0, 0], at(6, 36), at(6, 36)),
+            (vec![41, 0], at(8, 36), ACCEPTED),
+            (vec![41, 6, 2, 0, 0, 0, 0, 0], at(8, 36), ACCEPTED),
+            (vec![41, 8, 2, 0, 0, 0, 0, 0, 1, 1], at(8, 36), ACCEPTED),
+            (dfs(PEER, 0, &[]), at(9, 36), ACCEPTED),
+            (dfs(group, 1, &[]), at(9, 36), ACCEPTED),
+            // The length is judged before the values.
+            (dfs(group, 0, &[1]), at(8, 36), ACCEPTED),
+            (after(&good), at(10, 45), ACCEPTED),
+            // And both before the repeat, as is what is cut.
+            (after(&[41]), at(6, 45), at(6, 45)),
+            (after(&[41, 0]), at(8, 45), ACCEPTED),
+            (after(&dfs(PEER, 0, &[])), at(9, 45), ACCEPTED),
+            // From left to right, whatever the number.
+            (
+                after(&[&good[..], &[32, 0]].concat()),
+                at(10, 45),
+                at(8, 54),
+            ),
+            (after(&[32, 0, 41, 0]), at(8, 45), at(8, 45)),
+            (vec![32, 1, 3, 32, 1, 3, 41, 0], at(10, 39), at(10, 39)),
+            (vec![41, 0, 32, 1, 3, 32, 1, 3], at(8, 36), at(10, 41)),
+            (
+                after(&quiet(1, 0, 1, 0).repeat(9)),
+                at(11, 109),
+                at(11, 109),
+            ),
+        ];
+        for (elements, in_beacon, skipped) in cases {
+            assert_eq!(ibss_fault(&elements), in_beacon, "{:?}", elements);
+            assert_eq!(skipping_fault(&elements), skipped, "{:?}", elements);
+        }
+    }
+
+    #[test]
+    fn faults_before_the_elements_of_an_ibss_beacon() {
+        let element = [41, 0];
+        let whole = sent_by(PEER, &notice(8, OWN, 99, &element));
+        assert_eq!(read_ibss(&whole), Err(Refusal::at(12, 32)));
+        for length in 0..36 {
+            assert_eq!(read_ibss(&whole[..length]), Err(Refusal::nowhere(1)));
+        }
+        for (at, octet, number) in [(10, 1, 4), (16, 0, 4), (4, 0, 4), (1, 1, 3), (0, 0, 3)] {
+            let mut other = whole.clone();
+            other[at] = octet;
+            assert_eq!(read_ibss(&other), Err(Refusal::nowhere(number)));
+        }
+        let long = [&whole[..], &[0; 2336]].concat();
+        assert_eq!(read_ibss(&long), Err(Refusal::nowhere(2)));
+        // Action frames have the places that they have elsewhere.
+        let body = [0, 4, 41, 3, 0, 36, 0];
+        let other = sent_by(PEER, &action(OWN, &body));
+        assert_eq!(read_ibss(&other), Err(Refusal::at(21, 26)));
     }
 }

@@ -23,6 +23,43 @@ const ACTION_CONTROL: u8 = 13 << 4;
 
 const ALL_ONES: Address = [0xFF; 6];
 
+/// The group bit of an address, in its first octet.
+const GROUP: u8 = 1;
+
+/// Whether an address has its group bit set; otherwise it is an individual
+/// one.
+pub(crate) fn is_group(address: Address) -> bool {
+    address[0] & GROUP != 0
+}
+
+/// Whose frames are read, which is what check 4 asks of SA and BSSID.
+#[derive(Clone, Copy, Debug, PartialEq, Eq)]
+pub(crate) enum Network {
+    /// An infrastructure BSS: "SA or BSSID is not the AP" is 4.
+    Infrastructure { ap: Address },
+    /// An IBSS: frames "of its BSSID from any individual address" (02, Five),
+    /// the station's own among them.
+    Ibss { bssid: Address },
+}
+
+impl Network {
+    /// The BSSID of its frames: in an infrastructure BSS the AP.
+    pub(crate) fn bssid(self) -> Address {
+        match self {
+            Network::Infrastructure { ap } => ap,
+            Network::Ibss { bssid } => bssid,
+        }
+    }
+
+    /// Whether frames of this SA are read.
+    fn hears(self, sender: Address) -> bool {
+        match self {
+            Network::Infrastructure { ap } => sender == ap,
+            Network::Ibss { .. } => !is_group(sender),
+        }
+    }
+}
+
 /// The three subtypes of management frames that are read.
 #[derive(Clone, Copy, Debug, PartialEq, Eq)]
 pub(crate) enum Subtype {
@@ -35,13 +72,15 @@ pub(crate) enum Subtype {
 #[derive(Clone, Copy, Debug, PartialEq, Eq)]
 pub(crate) struct Header {
     pub(crate) subtype: Subtype,
+    /// SA.
+    pub(crate) sender: Address,
     /// DA is all ones.
     pub(crate) broadcast: bool,
 }
 
 /// The checks 1 to 4, in this order. The body of a frame that passes them
 /// begins at `HEADER`.
-pub(crate) fn read_header(frame: &[u8], own: Address, ap: Address) -> Result<Header, u8> {
+pub(crate) fn read_header(frame: &[u8], own: Address, network: Network) -> Result<Header, u8> {
     if frame.len() < HEADER {
         return Err(FRAME_SHORT);
     }
@@ -49,8 +88,12 @@ pub(crate) fn read_header(frame: &[u8], own: Address, ap: Address) -> Result<Hea
         return Err(FRAME_LONG);
     }
     let subtype = read_control(frame)?;
-    let broadcast = read_addresses(frame, own, ap)?;
-    Ok(Header { subtype, broadcast })
+    let broadcast = read_addresses(frame, own, network)?;
+    Ok(Header {
+        subtype,
+        sender: address_at(frame, SA),
+        broadcast,
+    })
 }
 
 /// Check 3, on a frame of at least `HEADER` octets.
@@ -69,9 +112,9 @@ fn read_control(frame: &[u8]) -> Result<Subtype, u8> {
 }
 
 /// Check 4, on a frame of at least `HEADER` octets; answers whether DA is all ones.
-fn read_addresses(frame: &[u8], own: Address, ap: Address) -> Result<bool, u8> {
+fn read_addresses(frame: &[u8], own: Address, network: Network) -> Result<bool, u8> {
     let da = address_at(frame, DA);
-    if address_at(frame, SA) != ap || address_at(frame, BSSID) != ap {
+    if !network.hears(address_at(frame, SA)) || address_at(frame, BSSID) != network.bssid() {
         return Err(ADDRESSES);
     }
     if da != own && da != ALL_ONES {
@@ -86,24 +129,32 @@ fn address_at(frame: &[u8], at: usize) -> Address {
     address
 }
 
-/// The header of a reply from the station to its AP: flags, duration and
-/// sequence control are 0.
-pub(crate) fn reply_header(own: Address, ap: Address) -> [u8; HEADER] {
+/// The header of a reply from the station to the sender of the frame: flags,
+/// duration and sequence control are 0.
+pub(crate) fn reply_header(own: Address, sender: Address, bssid: Address) -> [u8; HEADER] {
     let mut header = [0; HEADER];
     header[0] = ACTION_CONTROL;
-    header[DA..DA + 6].copy_from_slice(&ap);
+    header[DA..DA + 6].copy_from_slice(&sender);
     header[SA..SA + 6].copy_from_slice(&own);
-    header[BSSID..BSSID + 6].copy_from_slice(&ap);
+    header[BSSID..BSSID + 6].copy_from_slice(&bssid);
     header
 }
 
 #[cfg(test)]
 mod tests {
     use super::*;
-    use crate::sample::{header, AP, OWN};
+    use crate::sample::{header, sent_by, AP, CELL, OWN, PEER};
+
+    const BSS: Network = Network::Infrastructure { ap: AP };
+    const IBSS: Network = Network::Ibss { bssid: CELL };
 
     fn refusal(frame: &[u8]) -> u8 {
-        read_header(frame, OWN, AP).err().unwrap_or(0)
+        read_header(frame, OWN, BSS).err().unwrap_or(0)
+    }
+
+    /// The refusal of a frame by a station of an IBSS.
+    fn ibss_refusal(frame: &[u8]) -> u8 {
+        read_header(frame, OWN, IBSS).err().unwrap_or(0)
     }
 
     #[test]
@@ -172,7 +223,48 @@ mod tests {
         almost[0] = 0xFE;
         assert_eq!(refusal(&header(8, almost)), 4);
         let to_all = header(8, [0xFF; 6]);
-        assert!(read_header(&to_all, OWN, AP).unwrap().broadcast);
-        assert!(!read_header(&header(8, OWN), OWN, AP).unwrap().broadcast);
+        assert!(read_header(&to_all, OWN, BSS).unwrap().broadcast);
+        assert!(!read_header(&header(8, OWN), OWN, BSS).unwrap().broadcast);
+        assert_eq!(read_header(&to_all, OWN, BSS).unwrap().sender, AP);
+    }
+
+    #[test]
+    fn any_individual_sender_in_an_ibss() {
+        // Every first octet of SA: only the group bit matters.
+        for first in 0..=255u8 {
+            let mut sender = PEER;
+            sender[0] = first;
+            let frame = sent_by(sender, &header(8, OWN));
+            let expected = if first & 1 == 0 { 0 } else { 4 };
+            assert_eq!(ibss_refusal(&frame), expected);
+        }
+        for sender in [PEER, OWN, CELL, AP, [0; 6]] {
+            let frame = sent_by(sender, &header(8, OWN));
+            assert_eq!(read_header(&frame, OWN, IBSS).unwrap().sender, sender);
+        }
+        assert_eq!(ibss_refusal(&sent_by([0xFF; 6], &header(8, OWN))), 4);
+    }
+
+    #[test]
+    fn bssid_and_da_in_an_ibss() {
+        for at in (4..10usize).chain(16..22) {
+            let mut frame = sent_by(PEER, &header(13, OWN));
+            frame[at] ^= 0x80;
+            assert_eq!(ibss_refusal(&frame), 4);
+            // 3 comes before 4.
+            frame[1] = 1;
+            assert_eq!(ibss_refusal(&frame), 3);
+        }
+        let to_all = sent_by(PEER, &header(13, [0xFF; 6]));
+        assert!(read_header(&to_all, OWN, IBSS).unwrap().broadcast);
+        let to_own = sent_by(PEER, &header(13, OWN));
+        assert!(!read_header(&to_own, OWN, IBSS).unwrap().broadcast);
+        assert_eq!(ibss_refusal(&to_own[..23]), 1);
+        let long = [&to_own[..], &[0; 2313]].concat();
+        assert_eq!(ibss_refusal(&long[..2336]), 0);
+        assert_eq!(ibss_refusal(&long), 2);
+        // A frame of the AP's own BSS is none of the IBSS's, and the reverse.
+        assert_eq!(ibss_refusal(&header(8, OWN)), 4);
+        assert_eq!(refusal(&to_own), 4);
     }
 }

@@ -8,7 +8,7 @@ use crate::answer::{
 use crate::body::{measurement_report_body_octets, read_action_body, tpc_report_body_octets};
 use crate::fraction::{busy_fraction, rpi_densities, TU};
 use crate::frame::Frame;
-use crate::header::{read_header, reply_header, Subtype, HEADER};
+use crate::header::{read_header, reply_header, Network, Subtype, HEADER};
 use crate::measurement::{Asks, Report, Request, Says, BASIC, CCA, RPI};
 use crate::octets::lay;
 use crate::Address;
@@ -55,13 +55,40 @@ pub fn reply_to_tpc_request(
     margin: i8,
     out: &mut [u8],
 ) -> Result<usize, u8> {
-    match read_due(frame, own, ap)? {
+    let network = Network::Infrastructure { ap };
+    tpc_reply(frame, own, network, power, margin, out)
+}
+
+/// The same in an IBSS: a frame is of the BSSID and from any individual
+/// address, and the reply goes to that address (02, Five).
+pub fn reply_to_tpc_request_in_ibss(
+    frame: &[u8],
+    own: Address,
+    bssid: Address,
+    power: i8,
+    margin: i8,
+    out: &mut [u8],
+) -> Result<usize, u8> {
+    tpc_reply(frame, own, Network::Ibss { bssid }, power, margin, out)
+}
+
+fn tpc_reply(
+    frame: &[u8],
+    own: Address,
+    network: Network,
+    power: i8,
+    margin: i8,
+    out: &mut [u8],
+) -> Result<usize, u8> {
+    let (sender, due) = read_due(frame, own, network)?;
+    let header = reply_header(own, sender, network.bssid());
+    match due {
         Due::Tpc { token } => {
-            lay_reply(own, ap, &tpc_report_body_octets(token, power, margin), out)
+            lay_reply(&header, &tpc_report_body_octets(token, power, margin), out)
         }
         // A reply is due, but not this one.
         Due::Measurement { .. } => Err(IMPOSSIBLE),
-        Due::Broken(returned) => lay_reply(own, ap, &returned, out),
+        Due::Broken(returned) => lay_reply(&header, &returned, out),
     }
 }
 
@@ -80,11 +107,41 @@ pub fn reply_to_measurement_request(
     finding: Finding,
     out: &mut [u8],
 ) -> Result<usize, u8> {
-    let (token, requests) = match read_due(frame, own, ap)? {
+    let network = Network::Infrastructure { ap };
+    measurement_reply(frame, own, network, clock, index, finding, out)
+}
+
+/// The same in an IBSS: a frame is of the BSSID and from any individual
+/// address, and the reply goes to that address (02, Five).
+pub fn reply_to_measurement_request_in_ibss(
+    frame: &[u8],
+    own: Address,
+    bssid: Address,
+    clock: u32,
+    index: usize,
+    finding: Finding,
+    out: &mut [u8],
+) -> Result<usize, u8> {
+    let network = Network::Ibss { bssid };
+    measurement_reply(frame, own, network, clock, index, finding, out)
+}
+
+fn measurement_reply(
+    frame: &[u8],
+    own: Address,
+    network: Network,
+    clock: u32,
+    index: usize,
+    finding: Finding,
+    out: &mut [u8],
+) -> Result<usize, u8> {
+    let (sender, due) = read_due(frame, own, network)?;
+    let header = reply_header(own, sender, network.bssid());
+    let (token, requests) = match due {
         Due::Measurement { token, requests } => (token, requests),
         // A reply is due, but not this one.
         Due::Tpc { .. } => return Err(IMPOSSIBLE),
-        Due::Broken(returned) => return lay_reply(own, ap, &returned, out),
+        Due::Broken(returned) => return lay_reply(&header, &returned, out),
     };
     let request = requests.get(index).copied().ok_or(IMPOSSIBLE)?;
     let report = Report {
@@ -92,33 +149,25 @@ pub fn reply_to_measurement_request(
         kind: request.kind,
         says: answer_to(request, clock, finding)?,
     };
-    lay_reply(
-        own,
-        ap,
-        &measurement_report_body_octets(token, &[report])?,
-        out,
-    )
+    let body = measurement_report_body_octets(token, &[report])?;
+    lay_reply(&header, &body, out)
 }
 
-/// What to reply to. "Due only for accepted Action frames whose DA is the
+/// Whom and what to reply to. "Due only for accepted Action frames whose DA is the
 /// station. Past check 4, all else is 18", but for the error returns of
 /// Action frames to the station (02, One).
-fn read_due(frame: &[u8], own: Address, ap: Address) -> Result<Due, u8> {
-    let header = read_header(frame, own, ap)?;
+fn read_due(frame: &[u8], own: Address, network: Network) -> Result<(Address, Due), u8> {
+    let header = read_header(frame, own, network)?;
     if header.subtype != Subtype::Action || header.broadcast {
         return Err(NO_REPLY);
     }
-    match read_action_body(frame, HEADER) {
-        Ok(Frame::TpcRequest { token }) => Ok(Due::Tpc { token }),
-        Ok(Frame::MeasurementRequest { token, requests }) => {
-            Ok(Due::Measurement { token, requests })
-        }
-        Ok(_) => Err(NO_REPLY),
-        Err(refusal) => {
-            let returned = error_return(&frame[HEADER..], refusal.number)?;
-            Ok(Due::Broken(returned))
-        }
-    }
+    let due = match read_action_body(frame, HEADER) {
+        Ok(Frame::TpcRequest { token }) => Due::Tpc { token },
+        Ok(Frame::MeasurementRequest { token, requests }) => Due::Measurement { token, requests },
+        Ok(_) => return Err(NO_REPLY),
+        Err(refusal) => Due::Broken(error_return(&frame[HEADER..], refusal.number)?),
+    };
+    Ok((header.sender, due))
 }
 
 /// The body of an error return: "refused with 1, 5 to 10, 21 or 22, category
@@ -192,19 +241,18 @@ fn result(kind: u8, channel: u8, start: u64, duration: u16, finding: Finding) ->
     }
 }
 
-/// Lays header and body of a reply. The old SA and BSSID are both the AP,
-/// since check 4 has passed.
-fn lay_reply(own: Address, ap: Address, body: &[u8], out: &mut [u8]) -> Result<usize, u8> {
-    let mut reply = reply_header(own, ap).to_vec();
-    reply.extend_from_slice(body);
-    lay(&reply, out)
+/// Lays header and body of a reply.
+fn lay_reply(header: &[u8; HEADER], body: &[u8], out: &mut [u8]) -> Result<usize, u8> {
+    lay(&[&header[..], body].concat(), out)
 }
 
 #[cfg(test)]
 mod tests {
     use super::*;
     use crate::read_frame;
-    use crate::sample::{action, header, measure, notice, vendor, ALL, AP, OWN};
+    use crate::sample::{
+        action, dfs, header, measure, notice, sent_by, vendor, ALL, AP, CELL, OTHER, OWN, PEER,
+    };
 
     const TPC: [u8; 5] = [0, 2, 7, 34, 0];
 
@@ -803,5 +851,148 @@ mod tests {
         let refused =
             reply_to_measurement_request(&of(0, 1), OWN, AP, 0, 0, Finding::Busy(0), &mut []);
         assert_eq!(refused, Err(16));
+    }
+
+    /// The reply of a station of an IBSS to a TPC Request.
+    fn ibss_tpc(frame: &[u8], out: &mut [u8]) -> Result<usize, u8> {
+        reply_to_tpc_request_in_ibss(frame, OWN, CELL, -3, 20, out)
+    }
+
+    /// The reply of a station of an IBSS to element `index` at `clock`.
+    fn ibss_measured(
+        frame: &[u8],
+        clock: u32,
+        index: usize,
+        finding: Finding,
+        out: &mut [u8],
+    ) -> Result<usize, u8> {
+        reply_to_measurement_request_in_ibss(frame, OWN, CELL, clock, index, finding, out)
+    }
+
+    /// The header of a reply in an IBSS: DA is the old SA, the BSSID is kept.
+    fn ibss_header(sender: Address) -> Vec<u8> {
+        [&[0xD0, 0, 0, 0][..], &sender, &OWN, &CELL, &[0, 0]].concat()
+    }
+
+    #[test]
+    fn replies_in_an_ibss_go_to_the_sender() {
+        // Whoever it is, the station itself and no known owner among them.
+        for sender in [PEER, OTHER, OWN, CELL, [0; 6]] {
+            let mut frame = sent_by(sender, &action(OWN, &TPC));
+            frame[1] = 0b1011_1000;
+            let mut out = [0xEE; 33];
+            assert_eq!(ibss_tpc(&frame, &mut out), Ok(31));
+            let expected = [&ibss_header(sender)[..], &[0, 3, 7, 35, 2, 0xFD, 20]].concat();
+            assert_eq!(out[..31], expected[..]);
+            assert_eq!(out[31..], [0xEE; 2]);
+            let mut short = [0xEE; 30];
+            assert_eq!(ibss_tpc(&frame, &mut short), Err(13));
+            assert_eq!(short, [0xEE; 30]);
+            // An error return goes there too, by either call.
+            let broken = sent_by(sender, &action(OWN, &[0, 2, 7, 34, 0, 9]));
+            let returned = [&ibss_header(sender)[..], &[128, 2, 7, 34, 0, 9]].concat();
+            let mut out = [0xEE; 30];
+            assert_eq!(ibss_tpc(&broken, &mut out), Ok(30));
+            assert_eq!(out[..], returned[..]);
+            let mut out = [0xEE; 30];
+            let done = ibss_measured(&broken, 0, usize::MAX, Finding::Map(0xFF), &mut out);
+            assert_eq!(done, Ok(30));
+            assert_eq!(out[..], returned[..]);
+        }
+    }
+
+    #[test]
+    fn replies_in_an_ibss_are_those_of_document_01() {
+        let elements = [
+            measure(1, 0, 36, 0, 5),
+            measure(2, 1, 36, 1, 5),
+            measure(3, 2, 36, u64::MAX, 1),
+            vec![38, 3, 4, 2, 0],
+            vec![38, 3, 5, 0, 3],
+        ];
+        let times = [129, 129, 129, 129, 129, 129, 125, 125];
+        let findings = [
+            Finding::Refused,
+            Finding::Map(1),
+            Finding::Map(0xFF),
+            Finding::Busy(77),
+            Finding::Times(times),
+        ];
+        let measured = requests(&elements);
+        for frame in [measured, action(OWN, &TPC), action(ALL, &TPC)] {
+            let in_ibss = sent_by(PEER, &frame);
+            for clock in [0, 1, u32::MAX] {
+                for index in 0..7 {
+                    for finding in findings {
+                        let mut out = [0xEE; 60];
+                        let mut beside = [0xEE; 60];
+                        let done = ibss_measured(&in_ibss, clock, index, finding, &mut out);
+                        let expected = reply_to_measurement_request(
+                            &frame,
+                            OWN,
+                            AP,
+                            clock,
+                            index,
+                            finding,
+                            &mut beside,
+                        );
+                        assert_eq!(done, expected);
+                        assert_eq!(out[24..], beside[24..]);
+                        let header = if done.is_ok() {
+                            ibss_header(PEER)
+                        } else {
+                            vec![0xEE; 24]
+                        };
+                        assert_eq!(out[..24], header[..]);
+                    }
+                }
+            }
+            assert_eq!(ibss_tpc(&in_ibss, &mut [0; 60]), tpc(&frame, &mut [0; 60]));
+        }
+    }
+
+    #[test]
+    fn refused_replies_in_an_ibss() {
+        let good = sent_by(PEER, &action(OWN, &TPC));
+        let mut long = good.clone();
+        long.resize(2337, 0);
+        let changed = |at: usize, octet: u8| {
+            let mut frame = good.clone();
+            frame[at] = octet;
+            frame
+        };
+        for (frame, number) in [
+            (good[..23].to_vec(), 1),
+            (long, 2),
+            (changed(0, 0xC0), 3),
+            (changed(1, 1), 3),
+            // A group SA, another BSSID, another DA; the AP's own BSS.
+            (changed(10, 5), 4),
+            (sent_by(ALL, &good), 4),
+            (changed(16, 0), 4),
+            (changed(4, 0), 4),
+            (action(OWN, &TPC), 4),
+            // To all ones; beacons and probe responses, broken ones too.
+            (sent_by(PEER, &action(ALL, &TPC)), 18),
+            (sent_by(PEER, &notice(8, OWN, 100, &dfs(PEER, 3, &[]))), 18),
+            (sent_by(PEER, &notice(8, OWN, 100, &[41, 0])), 18),
+            (sent_by(PEER, &notice(5, OWN, 100, &[])), 18),
+            // An announcement, whoever is the owner, and a category over 127.
+            (sent_by(PEER, &action(OWN, &[0, 4, 37, 3, 0, 44, 1])), 18),
+            (sent_by(PEER, &action(OWN, &[128, 2, 7, 34, 0])), 18),
+            (sent_by(PEER, &action(OWN, &[])), 18),
+        ] {
+            assert_eq!(ibss_tpc(&frame, &mut []), Err(number));
+            let done = ibss_measured(&frame, 0, 0, Finding::Refused, &mut []);
+            assert_eq!(done, Err(number));
+        }
+        let to_all = sent_by(PEER, &action(ALL, &TPC));
+        let done = reply_to_tpc_request_in_ibss(&to_all, ALL, CELL, 0, 0, &mut []);
+        assert_eq!(done, Err(18));
+        // A reply is due, but not this one: 16, before 13.
+        assert_eq!(
+            ibss_measured(&good, 0, 0, Finding::Refused, &mut []),
+            Err(16)
+        );
     }
 }

@@ -6,6 +6,11 @@ use crate::Address;
 pub(crate) const OWN: Address = [0x02, 0x11, 0x22, 0x33, 0x44, 0x55];
 pub(crate) const AP: Address = [0x06, 0x66, 0x77, 0x88, 0x99, 0xAA];
 pub(crate) const ALL: Address = [0xFF; 6];
+/// The BSSID of an IBSS.
+pub(crate) const CELL: Address = [0x0A, 0x31, 0x32, 0x33, 0x34, 0x35];
+/// Stations of that IBSS.
+pub(crate) const PEER: Address = [0x04, 0x41, 0x42, 0x43, 0x44, 0x45];
+pub(crate) const OTHER: Address = [0x08, 0x51, 0x52, 0x53, 0x54, 0x55];
 
 /// A header of this subtype from the AP.
 pub(crate) fn header(subtype: u8, da: Address) -> Vec<u8> {
@@ -32,6 +37,19 @@ pub(crate) fn notice(subtype: u8, da: Address, interval: u16, elements: &[u8]) -
     frame.extend_from_slice(&[0x0C, 0x0D]);
     frame.extend_from_slice(elements);
     frame
+}
+
+/// The same frame, sent by a station of the IBSS.
+pub(crate) fn sent_by(sender: Address, frame: &[u8]) -> Vec<u8> {
+    let mut frame = frame.to_vec();
+    frame[10..16].copy_from_slice(&sender);
+    frame[16..22].copy_from_slice(&CELL);
+    frame
+}
+
+/// An IBSS DFS element; the pairs are their octets.
+pub(crate) fn dfs(owner: Address, recovery: u8, pairs: &[u8]) -> Vec<u8> {
+    element_octets(41, &[&owner[..], &[recovery], pairs].concat())
 }
 
 /// A Quiet element.

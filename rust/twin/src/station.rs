@@ -17,18 +17,17 @@ use crate::answer::{
 };
 use crate::element::{is_channel, Quiet, Switch};
 use crate::frame::{read_frame, Frame};
+use crate::header::is_group;
 use crate::Address;
-
-/// The group bit of an address, in its first octet.
-const GROUP: u8 = 1;
 
 /// A station: its settings, its clock and its history. Two are equal if they
 /// remember the same, which is more than giving the same answers.
 #[derive(Clone, Debug, PartialEq, Eq)]
 pub struct Station {
-    own: Address,
-    ap: Address,
-    interval: u16,
+    pub(crate) own: Address,
+    /// The AP; in an IBSS the BSSID (02, Five).
+    pub(crate) ap: Address,
+    pub(crate) interval: u16,
     /// The channel at start.
     channel: u8,
     clock: u32,
@@ -83,6 +82,18 @@ struct Announcement {
     channel: u8,
 }
 
+/// A switch that lies ahead.
+#[derive(Clone, Copy, Debug, PartialEq, Eq)]
+pub struct PendingSwitch {
+    /// 1 forbids sending until the switch, 0 does not.
+    pub mode: u8,
+    /// The new channel.
+    pub channel: u8,
+    /// When it is to be, in TU since the start; it can lie past the clock's
+    /// limit.
+    pub moment: u64,
+}
+
 /// The runs of one Quiet element: from `start`, `duration` units, and again
 /// after each `period` units if that is not 0.
 #[derive(Clone, Copy, Debug, PartialEq, Eq)]
@@ -108,7 +119,7 @@ impl Station {
     /// Starts a station at clock 0. B of 0, a channel over 200 or a group
     /// address: 15.
     pub fn start(own: Address, ap: Address, interval: u16, channel: u8) -> Result<Station, u8> {
-        let group = (own[0] | ap[0]) & GROUP != 0;
+        let group = is_group(own) || is_group(ap);
         if interval == 0 || !is_channel(channel) || group {
             return Err(START);
         }
@@ -129,9 +140,14 @@ impl Station {
     /// place, and nothing changed.
     pub fn take(&mut self, frame: &[u8]) -> Result<(), Refusal> {
         let received = read_frame(frame, self.own, self.ap, self.interval)?;
-        self.remember(received.frame);
-        self.forget();
+        self.heard(received.frame);
         Ok(())
+    }
+
+    /// Does what an accepted frame says.
+    pub(crate) fn heard(&mut self, frame: Frame) {
+        self.remember(frame);
+        self.forget();
     }
 
     /// Advances the clock by `n` TU. Over 65,535, or past the limit: 14.
@@ -190,7 +206,16 @@ impl Station {
         latest.constraint
     }
 
-    fn now(&self) -> u64 {
+    /// The pending switch, if any.
+    pub fn pending_switch(&self) -> Option<PendingSwitch> {
+        self.pending().map(|announcement| PendingSwitch {
+            mode: announcement.mode,
+            channel: announcement.channel,
+            moment: announcement.moment,
+        })
+    }
+
+    pub(crate) fn now(&self) -> u64 {
         u64::from(self.clock)
     }
 
@@ -1335,6 +1360,31 @@ mod tests {
         assert_eq!(station.constraint(), Some(7));
         go(&mut station, 200);
         assert_eq!(station.constraint(), Some(7));
+    }
+
+    #[test]
+    fn the_pending_switch() {
+        let pending = |mode, channel, moment| {
+            Some(PendingSwitch {
+                mode,
+                channel,
+                moment,
+            })
+        };
+        let mut station = fresh();
+        assert_eq!(station.pending_switch(), None);
+        go(&mut station, 50);
+        assert_eq!(station.take(&announcement(1, 44, 2)), Ok(()));
+        assert_eq!(station.pending_switch(), pending(1, 44, 200));
+        assert_eq!(station.take(&beacon(&[37, 3, 0, 48, 1])), Ok(()));
+        assert_eq!(station.pending_switch(), pending(0, 48, 100));
+        go(&mut station, 99);
+        assert_eq!(station.pending_switch(), pending(0, 48, 100));
+        go(&mut station, 100);
+        assert_eq!(station.pending_switch(), None);
+        assert_eq!(station.take(&announcement(1, 52, 1)), Ok(()));
+        assert_eq!(station.take(&announcement(1, 56, 0)), Ok(()));
+        assert_eq!((station.pending_switch(), station.channel()), (None, 56));
     }
 
     #[test]

@@ -8,7 +8,7 @@ use Rattle.beacon.proofs.refused_at.Statement.{statement}
 use Rattle.beacon.proofs.refused_at.Tie as tie
 
 returns : tie.Need-returns
-returns c = c .refused .ensures ∙ ap (λ (x : Fault). laid (refused x)) (c .before .at .ensures)
+returns c = c .refused .ensures ∙ ap (λ (x : Fault). laid 0 (refused x)) (c .before .at .ensures)
 
 pub refused-at-spec : {M : Type 1} → statement M
 refused-at-spec = tie.close (tie.spec (λ c κs. search needs) (λ c κs. search needs) returns)

@@ -9,6 +9,7 @@ use Rattle.answer.specs.Checks.{accepted}
 use Rattle.answer.specs.Faults.{placedPast}
 use Rattle.answer.specs.declared.Fault.{Fault}
 use Rattle.header.specs.Headers.{headerLength, bodyOf, headerTold, Head, headerMeans}
+use Rattle.header.specs.declared.address.Cell.{Cell}
 use Rattle.header.specs.declared.management.Subtype.{Subtype}
 use Rattle.frame.specs.CodeTerms.BodyKinds.{kindSubtype}
 use Rattle.frame.specs.Frames.{kindOf, sent, frameMeans}
@@ -25,7 +26,7 @@ use Rattle.frame.proofs.read.Tie as tie
 abbrev head : tie.After-known-told2 → Head
 head c = record { subtype = c .before .subtype .given .0 .0; toAll = c .before .subtype .given .0 .1 .0 }
 
-header-read : (c : tie.After-known-told2) → accepted (head c) ≡ headerMeans (c .before .before .before .before .before .args .own) (c .before .before .before .before .before .args .ap) (c .before .before .before .before .before .args .frame .now)
+header-read : (c : tie.After-known-told2) → accepted (head c) ≡ headerMeans Cell.Ap (c .before .before .before .before .before .args .own) (c .before .before .before .before .before .args .ap) (c .before .before .before .before .before .args .frame .now)
 header-read c = ap headerTold (sym (c .before .subtype .given .1)) ∙ c .before .before .before .read .ensures
 
 -- what is made of the body, by the subtype that was found
@@ -42,7 +43,7 @@ of-body c {t} e =
 short : (c : tie.After-body) → length (now (c .body .result)) ≤ longestBody
 short c =
     let a = c .before .before .before .before .before .before .args in
-    body-short (a .own) (a .ap) (a .frame .now) (head (c .before)) (header-read (c .before)) (c .body .ensures)
+    body-short Cell.Ap (a .own) (a .ap) (a .frame .now) (head (c .before)) (header-read (c .before)) (c .body .ensures)
 
 read-notice-requires : tie.Need-read-notice-requires
 read-notice-requires c κs = short (c .before .before .before .before)

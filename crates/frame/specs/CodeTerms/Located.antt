@@ -8,6 +8,7 @@ use Rattle.answer.specs.Faults.{Placed, nowhere, faultPast, placedPast}
 use Rattle.answer.specs.declared.Offset.{Offset}
 use Rattle.answer.specs.declared.Refusal.{Refusal}
 use Rattle.header.specs.Headers.{headerLength, bodyOf, headerMeans}
+use Rattle.header.specs.declared.address.Cell.{Cell}
 use Rattle.measurement_body.specs.Surveys.{placeIn}
 use Rattle.measurement_body.specs.declared.kinds.Kind as Measurements
 use Rattle.measurement_body.specs.declared.surveying.Place.{Place}
@@ -45,7 +46,7 @@ locatedIn i body (accepted (action b)) = located i body (accepted b)
 
 -- of a frame
 unfoldable pub kindMeans : List ℕ → List ℕ → ℕ → List ℕ → Placed Kind
-kindMeans own ap b f = andThen (nowhere (headerMeans own ap f)) (λ h. placedPast headerLength (kindOf b (h .subtype) (bodyOf f)))
+kindMeans own ap b f = andThen (nowhere (headerMeans Cell.Ap own ap f)) (λ h. placedPast headerLength (kindOf b (h .subtype) (bodyOf f)))
 
 -- ---- the place of a fault, in the body and in the frame
 

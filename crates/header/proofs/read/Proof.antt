@@ -7,33 +7,34 @@ use denote.Ref.{now}
 use Rattle.answer.specs.Checks.{Outcome, refused, accepted, andThen}
 use Rattle.answer.specs.declared.Refusal.{Refusal}
 use Rattle.header.specs.Headers.{addressMeans, addressTold, managementMeans, managementTold, headerMeans}
+use Rattle.header.specs.declared.address.Cell.{Cell}
 use Rattle.header.specs.declared.management.Subtype.{Subtype}
 use borrow.Author.Needs.{needs}
 use Rattle.header.proofs.read.Statement.{statement}
 use Rattle.header.proofs.read.Tie as tie
 
 -- what both parts say, put together
-module _ (own ap' f : List ℕ) where
-  no-frame : (r : Refusal) → refused r ≡ managementMeans f → refused r ≡ headerMeans own ap' f
+module _ (cell : Cell) (own bss f : List ℕ) where
+  no-frame : (r : Refusal) → refused r ≡ managementMeans f → refused r ≡ headerMeans cell own bss f
   unfolding headerMeans
   no-frame r e = simp (sym e)
 
-  of-frame : (s : Subtype) (o : Outcome Bool) → accepted s ≡ managementMeans f → o ≡ addressMeans own ap' f
-      → andThen o (λ a. accepted (record { subtype = s; toAll = a })) ≡ headerMeans own ap' f
+  of-frame : (s : Subtype) (o : Outcome Bool) → accepted s ≡ managementMeans f → o ≡ addressMeans cell own bss f
+      → andThen o (λ a. accepted (record { subtype = s; toAll = a })) ≡ headerMeans cell own bss f
   unfolding headerMeans
   of-frame s o e d = simp (sym e, sym d)
 
 returns : tie.Need-returns
 returns c =
-    no-frame _ _ _ _ (ap managementTold (sym (c .before .refusal .given .1)) ∙ c .before .before .before .read-management .ensures)
+    no-frame _ _ _ _ _ (ap managementTold (sym (c .before .refusal .given .1)) ∙ c .before .before .before .read-management .ensures)
 
 -- the frame is one of those that are read, and this is what its addresses say
 addressed : (c : tie.After-known-told2) (o : Outcome Bool)
     → let a = c .before .before .before .before .before .args in
-    o ≡ addressMeans (a .own) (a .ap) (now (a .frame))
-    → andThen o (λ t. accepted (record { subtype = c .before .subtype .given .0 .0; toAll = t })) ≡ headerMeans (a .own) (a .ap) (now (a .frame))
+    o ≡ addressMeans (a .cell) (a .own) (a .bssid) (now (a .frame))
+    → andThen o (λ t. accepted (record { subtype = c .before .subtype .given .0 .0; toAll = t })) ≡ headerMeans (a .cell) (a .own) (a .bssid) (now (a .frame))
 addressed c o e =
-    of-frame _ _ _ _ o (ap managementTold (sym (c .before .subtype .given .1)) ∙ c .before .before .before .read-management .ensures) e
+    of-frame _ _ _ _ _ o (ap managementTold (sym (c .before .subtype .given .1)) ∙ c .before .before .before .read-management .ensures) e
 
 returns-2 : tie.Need-returns-2
 returns-2 c =

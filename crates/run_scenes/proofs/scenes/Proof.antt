@@ -1,4 +1,4 @@
--- `scenes` is safe and ends: the place rises to the length, and each character leaves a valid station.
+-- `scenes` is safe and ends: the place rises to the length, and each call leaves a valid station.
 use Prim.Native.Nat.{_≤_, _-_}
 use lib.ListN.{length}
 use Rattle.station.specs.Validity.{Valid}
@@ -7,10 +7,10 @@ use Rattle.run_scenes.proofs.scenes.Statement.{statement}
 use Rattle.run_scenes.proofs.scenes.Tie as tie
 
 abbrev Inv-loop : tie.InvT-loop
-Inv-loop fresh text station₀ line₀ i₀ station line i = (i ≤ length text) × Valid station
+Inv-loop fresh text station₀ line₀ at₀ station line at = (at ≤ length text) × Valid station
 
 abbrev μ-loop : tie.MeasureT-loop
-μ-loop fresh text station₀ line₀ i₀ station line i = length text - i
+μ-loop fresh text station₀ line₀ at₀ station line at = length text - at
 
 pub scenes-spec : {M : Type 1} → statement M
 scenes-spec =
@@ -19,10 +19,11 @@ scenes-spec =
     Inv-loop
     μ-loop
     (λ c. search needs)
-    (λ c. search needs)
-    (λ c. search needs)
     (λ c κs. search needs)
     (λ c κs. search needs)
+    (λ c κs. search needs)
+    (λ c. search needs)
+    (λ c. search needs)
     (λ c. search needs)
     (λ c. search needs)
     (λ c. search needs))

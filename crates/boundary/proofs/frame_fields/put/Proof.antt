@@ -5,10 +5,10 @@ use Prim.Native.Nat.{ℕ, _≤_}
 use native.Mathlib.Omega.{arith}
 use borrow.Author.Needs.{needs}
 use denote.Ref.{now}
-use lib.ListN.{length, length-append}
+use lib.ListN.{length}
 use Rattle.octets.proofs.Storing.{short-written, all-written, same-room}
 use Rattle.boundary.specs.FrameFields.{fieldOctets}
-use Rattle.boundary.proofs.FieldLengths.{power-length, report-length, switch-length}
+use Rattle.boundary.proofs.FieldLengths.{power-length, report-length, switch-length, fields-length}
 use Rattle.boundary.proofs.PartsBuilt.{Built, none-built, part-built}
 use Rattle.boundary.proofs.frame_fields.put.Statement.{statement}
 use Rattle.boundary.proofs.frame_fields.put.Tie as tie
@@ -17,7 +17,7 @@ abbrev allFields : tie.Start → List ℕ
 allFields s = fieldOctets (s .args .fields) (s .args .broadcast) (s .args .quiets)
 
 to-end : (s : tie.Start) → length (allFields s) ≡ 38
-to-end s = simp (length-append, power-length, report-length, switch-length)
+to-end s = fields-length (s .args .fields) (s .args .broadcast) (s .args .quiets)
 
 returns : tie.Need-returns
 returns c =

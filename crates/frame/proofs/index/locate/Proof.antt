@@ -9,6 +9,7 @@ use Rattle.answer.specs.Checks.{accepted}
 use Rattle.answer.specs.Faults.{placedPast}
 use Rattle.answer.specs.declared.Fault.{Fault}
 use Rattle.header.specs.Headers.{headerLength, bodyOf, headerTold}
+use Rattle.header.specs.declared.address.Cell.{Cell}
 use Rattle.header.specs.declared.management.Subtype.{Subtype}
 use Rattle.measurement_body.specs.Bodies.{longestBody}
 use Rattle.frame.specs.CodeTerms.Located.{unplaced, locatedIn, kindMeans}
@@ -42,7 +43,7 @@ module _ (c : tie.After-body) where
   short =
       let a = c .before .before .before .before .before .before .args in
       let s = c .before .before .subtype .given in
-      body-short (a .own) (a .ap) (a .frame .now) (record { subtype = s .0 .0; toAll = s .0 .1 .0 }) (ap headerTold (sym (s .1)) ∙ c .before .before .before .before .read .ensures) (c .body .ensures)
+      body-short Cell.Ap (a .own) (a .ap) (a .frame .now) (record { subtype = s .0 .0; toAll = s .0 .1 .0 }) (ap headerTold (sym (s .1)) ∙ c .before .before .before .before .read .ensures) (c .body .ensures)
 
 locate-action-requires : tie.Need-locate-action-requires
 locate-action-requires c κs = short (c .before .before)

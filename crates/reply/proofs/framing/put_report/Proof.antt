@@ -9,7 +9,7 @@ use borrow.Author.Needs.{needs}
 use denote.Ref.{now}
 use lib.ListN.{length, take, replicate, length-take}
 use Rattle.measurement_element.specs.MeasurementReport.{reportMay}
-use Rattle.reply.specs.Frames.{replyFrame}
+use Rattle.reply.specs.Frames.{frameTo}
 use Rattle.octets.proofs.Overwriting.{written-as}
 use Rattle.octets.proofs.Storing.{not-written}
 use Rattle.reply.proofs.OneReport.{longestReplyBody, body, short-body, refused-as, unwritten, built}
@@ -55,14 +55,14 @@ returns c =
     let k = c .before .before .before .before in
     let a = entry k .args in
     let w = unwritten (a .token) (a .report) (search needs) (replicate longestReplyBody 0) _ _ refl (k .append .ensures) _ (c .before .refusal .given .1) in
-    refused-as (w .1) (not-written (replyFrame (a .own) (a .ap) (body (a .token) (a .report))) 0 (now (a .buffer)) (w .0))
+    refused-as (w .1) (not-written (frameTo (a .own) (a .to) (a .bssid) (body (a .token) (a .report))) 0 (now (a .buffer)) (w .0))
 
 returns-2 : tie.Need-returns-2
 returns-2 c =
     let k = c .before .before .before .before .before in
     let a = entry (appended k) .args in
     let w = stands k in
-    written-as (sym (w .0)) (ap (replyFrame (a .own) (a .ap)) (w .2)) (c .before .before .put-frame .ensures)
+    written-as (sym (w .0)) (ap (frameTo (a .own) (a .to) (a .bssid)) (w .2)) (c .before .before .put-frame .ensures)
 
 pub put-report-spec : {M : Type 1} → statement M
 put-report-spec =

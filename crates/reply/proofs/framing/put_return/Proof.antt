@@ -23,19 +23,19 @@ slice-write-buffer : tie.Need-slice-write-buffer
 slice-write-buffer c =
     let k = c .before .before .before .before .before .before in
     let a = k .before .before .before .before .args in
-    past-header (a .own) (a .ap) (now (a .body)) (now (a .buffer)) (has k) (search needs) (search needs) (c .before .before .count .given .1) (k .put-frame .ensures)
+    past-header (a .own) (a .to) (a .bssid) (now (a .body)) (now (a .buffer)) (has k) (search needs) (search needs) (search needs) (c .before .before .count .given .1) (k .put-frame .ensures)
 
 returns : tie.Need-returns
 returns c =
     let k = c .before .before .before .before .before in
     let a = k .before .before .before .before .args in
-    not-returned (a .own) (a .ap) (now (a .body)) (now (a .buffer)) (has k) (c .before .refusal .given .1) (k .put-frame .ensures)
+    not-returned (a .own) (a .to) (a .bssid) (now (a .body)) (now (a .buffer)) (has k) (c .before .refusal .given .1) (k .put-frame .ensures)
 
 returns-2 : tie.Need-returns-2
 returns-2 c =
     let k = c .before .before .before .before .before .before in
     let a = k .before .before .before .before .args in
-    returned (a .own) (a .ap) (now (a .body)) (now (a .buffer)) (has k) (search needs) (search needs) (c .before .before .count .given .1) (k .put-frame .ensures)
+    returned (a .own) (a .to) (a .bssid) (now (a .body)) (now (a .buffer)) (has k) (search needs) (search needs) (search needs) (c .before .before .count .given .1) (k .put-frame .ensures)
 
 pub put-return-spec : {M : Type 1} → statement M
 put-return-spec =

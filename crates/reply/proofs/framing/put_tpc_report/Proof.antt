@@ -7,7 +7,7 @@ use lib.ListN.{length, replicate}
 use Rattle.single_body.specs.Singles.{tpcReportBody}
 use Rattle.element.specs.TpcReport.{tpcReportOctets}
 use Rattle.element.specs.declared.tpc_report.TpcReport.{TpcReport}
-use Rattle.reply.specs.Frames.{replyFrame}
+use Rattle.reply.specs.Frames.{frameTo}
 use Rattle.octets.proofs.Overwriting.{written-as}
 use Rattle.reply.proofs.Framed.{exactly}
 use Rattle.reply.proofs.framing.put_tpc_report.Statement.{statement}
@@ -22,7 +22,7 @@ returns c =
     let w = c .before .before .before .before .before .before in
     let a = w .before .before .before .args in
     written-as refl
-    (ap (replyFrame (a .own) (a .ap)) (exactly (tpcReportBody (a .token) (a .report)) (replicate 7 0) _ (seven (a .token) (a .report)) (w .write-tpc-report .ensures .leaves)))
+    (ap (frameTo (a .own) (a .to) (a .bssid)) (exactly (tpcReportBody (a .token) (a .report)) (replicate 7 0) _ (seven (a .token) (a .report)) (w .write-tpc-report .ensures .leaves)))
     (c .before .before .put-frame .ensures)
 
 pub put-tpc-report-spec : {M : Type 1} → statement M

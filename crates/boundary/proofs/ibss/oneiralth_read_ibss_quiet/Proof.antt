@@ -1,0 +1,66 @@
+-- `oneiralth_read_ibss_quiet` meets its contract: minus a refusal's number, or the fields of the element at the index.
+use mathlib.Core.List.{List}
+use mathlib.Core.Path.{_≡_, sym, ap, ap₂, subst, _∙_}
+use Prim.Native.Nat.{ℕ, _≤_}
+use borrow.Author.Needs.{needs}
+use denote.Ref.{now}
+use Rattle.answer.specs.Checks.{Outcome, accepted, andThen}
+use Rattle.answer.specs.Faults.{Placed}
+use Rattle.beacon.specs.Beacons.{quietLimit}
+use Rattle.element.specs.Quiet.{quietContents}
+use Rattle.element.specs.declared.quiet.Quiet.{Quiet}
+use Rattle.frame.specs.Frames.{Sent}
+use Rattle.frame.specs.IbssFrames.{SentInIbss, ibssFrameMeans}
+use Rattle.frame.specs.IbssLaid.{ibssLaid}
+use Rattle.frame.specs.Laid.{frameLaid}
+use Rattle.frame.specs.declared.ibss.ReceivedInIbss.{ReceivedInIbss}
+use Rattle.frame.specs.declared.Received.{Received}
+use Rattle.boundary.specs.CodeTerms.HeldQuiets.{heldQuiet}
+use Rattle.boundary.specs.Codes.{addressOf}
+use Rattle.boundary.specs.IbssFields.{sentIn, quietInIbss}
+use Rattle.boundary.proofs.Coded.{given-from}
+use Rattle.boundary.proofs.QuietsByIndex.{held-quiet, laid-in-ibss, slots-in-ibss}
+use Rattle.boundary.proofs.ibss.oneiralth_read_ibss_quiet.Statement.{statement}
+use Rattle.boundary.proofs.ibss.oneiralth_read_ibss_quiet.Tie as tie
+
+-- what the frame means, of the addresses that the numbers stand for
+abbrev outcome : tie.After-read-in-ibss → Placed SentInIbss
+outcome c = let a = c .before .before .before .before .before .args in ibssFrameMeans (addressOf (a .own)) (addressOf (a .bssid)) (a .interval) (now (a .frame))
+
+means : (c : tie.After-read-in-ibss) → c .read-in-ibss .result .received ≡ frameLaid (sentIn (outcome c))
+means c =
+    let a = c .before .before .before .before .before .args in
+    ap (λ (r : ReceivedInIbss). r .received)
+    (c .read-in-ibss .ensures
+    ∙ ap₂ (λ (own other : List ℕ). ibssLaid (ibssFrameMeans own other (a .interval) (now (a .frame)))) (c .before .before .address .ensures) (c .before .address2 .ensures))
+    ∙ laid-in-ibss (outcome c)
+
+abbrev fields : Outcome Quiet → Outcome (List ℕ)
+fields o = andThen o (λ q. accepted (quietContents q))
+
+put-quiet-requires : tie.Need-put-quiet-requires
+put-quiet-requires c κs =
+    let k = c .before .before in
+    let a = k .before .before .before .before .before .args in
+    subst (λ (r : Received). r .count ≤ quietLimit) (sym (means k)) (slots-in-ibss (addressOf (a .own)) (addressOf (a .bssid)) (a .interval) (now (a .frame)))
+
+returns : tie.Need-returns
+returns c =
+    let put = c .before .before .before in
+    let k = c .before .before .before .before .before .before in
+    let i = k .before .before .before .before .before .args .index in
+    given-from (fields (quietInIbss i (outcome k))) _ _ _ _ _
+    (ap fields (ap (heldQuiet i) (means k) ∙ held-quiet i (sentIn (outcome k))))
+    (put .put-quiet .ensures) (c .wrote .ensures)
+
+pub oneiralth-read-ibss-quiet-spec : {M : Type 1} → statement M
+oneiralth-read-ibss-quiet-spec =
+    tie.close
+    (tie.spec
+    (λ c κs. search needs)
+    (λ c κs. search needs)
+    (λ c κs. search needs)
+    put-quiet-requires
+    (λ c κs. search needs)
+    (λ c. search needs)
+    returns)

@@ -1,0 +1,3 @@
+pub mod CodeTerms
+pub mod Members
+pub mod Validity
