@@ -24,7 +24,7 @@ pub mod Following
 pub mod HistoriesTell
 pub mod IbssReadings
 pub mod IbssReplies
-pub mod KeptThroughout
+pub mod Isolation
 pub mod LatestEnds
 pub mod ListedFiles
 pub mod MeasurementItems
@@ -41,6 +41,7 @@ pub mod OneOutcomeFrames
 pub mod OneOutcomeLeaves
 pub mod OneOutcomeMembers
 pub mod OneOutcomeOwners
+pub mod OneOutcomeTables
 pub mod OneOutcomeWalk
 pub mod OneRecord
 pub mod OneSaying
@@ -71,6 +72,10 @@ pub mod SoundBefore
 pub mod StationFollows
 pub mod StationWitnesses
 pub mod Stations
+pub mod TableDemand3
+pub mod TableMeans
+pub mod TableRows
+pub mod TableStays
 pub mod TakenOut
 pub mod TbttsPassed
 pub mod Witnesses

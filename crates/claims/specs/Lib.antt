@@ -29,5 +29,7 @@ pub mod Reserved
 pub mod Runs
 pub mod SoundBefore
 pub mod Standing
+pub mod TableHistories
+pub mod TableRuns
 pub mod TakenOut
 pub mod Tbtts

@@ -26,7 +26,10 @@ abbrev pub keptBy : Station → KeptThroughout
 keptBy r = (r .own, r .ap, r .interval)
 
 -- these, and the clock: what no frame changes
-abbrev unchanged : Station → List ℕ × List ℕ × ℕ × ℕ
+abbrev pub Unchanged : Type 0
+Unchanged = List ℕ × List ℕ × ℕ × ℕ
+
+abbrev pub unchanged : Station → Unchanged
 unchanged r = (r .own, r .ap, r .interval, r .clock)
 
 announced-unchanged : (r : Station) (w : ChannelSwitch) → unchanged (announced r w) ≡ unchanged r
@@ -51,7 +54,7 @@ informed-unchanged r t =
     let replaced = rescheduled (withUntil r (outlasting r)) (t .quiets) in
     announced-if-unchanged (constrained replaced (t .notice .power)) (t .notice .switch) ∙ constrained-unchanged replaced (t .notice .power)
 
-heard-unchanged : (r : Station) (k : Kind) → unchanged (heard r k) ≡ unchanged r
+pub heard-unchanged : (r : Station) (k : Kind) → unchanged (heard r k) ≡ unchanged r
 heard-unchanged r (beacon t) = informed-unchanged r t
 heard-unchanged r (probeResponse t) = informed-unchanged r t
 heard-unchanged r (action (requests token rs)) = refl
@@ -61,10 +64,10 @@ heard-unchanged r (action (tpcReport token t)) = refl
 heard-unchanged r (action (switch w)) = announced-unchanged r w
 
 pub heard-keeps : (r : Station) (k : Kind) → keptBy (heard r k) ≡ keptBy r
-heard-keeps r k = ap (λ (z : List ℕ × List ℕ × ℕ × ℕ). (z .0, z .1, z .2)) (heard-unchanged r k)
+heard-keeps r k = ap (λ (z : Unchanged). (z .0, z .1, z .2)) (heard-unchanged r k)
 
 pub heard-clock : (r : Station) (k : Kind) → heard r k .clock ≡ r .clock
-heard-clock r k = ap (λ (z : List ℕ × List ℕ × ℕ × ℕ). z .3) (heard-unchanged r k)
+heard-clock r k = ap (λ (z : Unchanged). z .3) (heard-unchanged r k)
 
 pub advance-keeps : (r : Station) (n : ℕ) → keptBy (advanceOf r n .station) ≡ keptBy r
 unfolding advanceMeans

@@ -5,10 +5,10 @@ use Prim.Native.Nat.{_-_, _≤_}
 use native.Mathlib.Omega.{arith}
 use borrow.Author.Needs.{needs}
 use lib.ListN.{length, drop}
 use Rattle.header.specs.Headers.{same}
-use Rattle.owner.proofs.SameAddresses.{differs, agrees, all-agree}
-use Rattle.owner.proofs.are_same.Statement.{statement}
-use Rattle.owner.proofs.are_same.Tie as tie
+use Rattle.header.proofs.SameAddresses.{differs, agrees, all-agree}
+use Rattle.header.proofs.address.are_same.Statement.{statement}
+use Rattle.header.proofs.address.are_same.Tie as tie
 
 abbrev Inv-loop : tie.InvT-loop
 Inv-loop one other i₀ i = (i ≤ 6) × (same one other ≡ same (drop i one) (drop i other))

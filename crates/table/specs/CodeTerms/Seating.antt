@@ -1,0 +1,14 @@
+-- A station that may be joined, but for the rows (02, Six).
+use mathlib.Core.Bool.{not}
+use mathlib.Core.List.{[], _∷_}
+use Rattle.answer.specs.Checks.{Outcome, _⇒_, judged}
+use Rattle.answer.specs.declared.Refusal.{Refusal}
+use Rattle.row.specs.Rows.{seated, isFree}
+use Rattle.station.specs.declared.Station.{Station}
+use Rattle.table.specs.Tables.{withRows, someRow, onFirst, isJoined}
+use Rattle.table.specs.declared.Table.{Table}
+
+unfoldable pub seatMeans : Table → Station → Outcome Table
+seatMeans t s =
+    judged (isJoined t (s .own) ⇒ Refusal.AlreadyJoined ∷ not (someRow isFree (t .rows)) ⇒ Refusal.NoFreeRow ∷ [])
+    (withRows t (onFirst isFree (λ w. seated s) (t .rows)))

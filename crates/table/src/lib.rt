@@ -1,0 +1,66 @@
+// Sixteen stations on one clock (document 02, Six): one AP, one beacon interval, one clock, and a row for each station that is joined.
+mod asking;
+mod clock;
+mod joining;
+mod replying;
+mod starting;
+mod taking;
+
+pub use asking::Asked;
+pub use starting::Started;
+pub use taking::Taken;
+ghost use mathlib.Core.Path.{_≡_};
+ghost use Prim.Native.Nat.{_<_};
+ghost use lib.ListN.{set};
+ghost use Rattle.answer.specs.Checks.{refused, accepted};
+ghost use Rattle.row.specs.Rows.{rowCount};
+ghost use Rattle.table.specs.Tables.{stepped, withRows};
+use answer::Answer;
+use answer::Refusal;
+use row::Row;
+
+// What is kept between calls. Every station that is joined has the table's AP, interval and clock.
+pub struct Table {
+    pub ap: [u8; 6],
+    pub interval: u16,
+    pub clock: u32,
+    pub rows: [Row; row::ROWS],
+}
+
+// The answer, and the table after the call: the same as before where the call was refused.
+pub struct Stepped {
+    pub answer: Answer,
+    pub table: Table,
+}
+
+impl Stepped {
+    fn refused(refusal: Refusal, table: Table) -> Stepped
+        ensures { λ r. ⌜ r ≡ stepped table (refused refusal) ⌝ }
+    {
+        Stepped {
+            answer: Answer::Refused(refusal),
+            table,
+        }
+    }
+
+    fn accepted(table: Table) -> Stepped
+        ensures { λ r. ⌜ r ≡ stepped table (accepted table) ⌝ }
+    {
+        Stepped {
+            answer: Answer::Accepted,
+            table,
+        }
+    }
+}
+
+impl Table {
+    // The same with another row at a place.
+    fn with_row(self, place: usize, row: Row) -> Table
+        requires { ⌜ place < rowCount ⌝ }
+        ensures { λ r. ⌜ r ≡ withRows self (set (self .rows) place row) ⌝ }
+    {
+        let mut rows = self.rows;
+        rows[place] = row;
+        Table { rows, ..self }
+    }
+}
