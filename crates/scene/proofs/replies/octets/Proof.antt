@@ -1,8 +1,8 @@
 -- `octets` ends: the place rises to the buffer's end.
 use Prim.Native.Nat.{_≤_, _-_}
 use borrow.Author.Needs.{needs}
-use Rattle.run_scenes.proofs.replies.octets.Statement.{statement}
-use Rattle.run_scenes.proofs.replies.octets.Tie as tie
+use Rattle.scene.proofs.replies.octets.Statement.{statement}
+use Rattle.scene.proofs.replies.octets.Tie as tie
 
 abbrev Inv-loop : tie.InvT-loop
 Inv-loop buffer count zeros₀ kept₀ i₀ t6 t7 t8 t9 zeros kept i = i ≤ 2400
