@@ -16,26 +16,26 @@ use Rattle.claims.proofs.TableStays.{toldBy, followed}
 module _ (ap' : List ℕ) (b : ℕ) (own : List ℕ) (channel : ℕ) where
   -- two runs with the same start and the same joining; until the joining they need agree on the advances alone
   module _
-    (before before' after after' : List Made)
-    (t t' : Table)
-    (one : Stay ap' b own channel before after t)
-    (other : Stay ap' b own channel before' after' t')
-    (same-advances : advancesOf (callsOf before) ≡ advancesOf (callsOf before'))
-    (same-calls : callsFor own after ≡ callsFor own after')
+      (before before' after after' : List Made)
+      (t t' : Table)
+      (one : Stay ap' b own channel before after t)
+      (other : Stay ap' b own channel before' after' t')
+      (same-advances : advancesOf (callsOf before) ≡ advancesOf (callsOf before'))
+      (same-calls : callsFor own after ≡ callsFor own after')
     where
-    same-moment : joinedAt before ≡ joinedAt before'
-    same-moment = ap clockAfter same-advances
+      same-moment : joinedAt before ≡ joinedAt before'
+      same-moment = ap clockAfter same-advances
 
-    -- each call for it got the same answer, and each reply put the same octets into the same buffer
-    pub same-answers : madeFor own after ≡ madeFor own after'
-    same-answers =
-        followed ap' b own channel before after t one .told
-        ∙ ap₂ (λ (m : ℕ) (cs : List TableCall). toldBy m ap' b own channel cs) same-moment same-calls
-        ∙ sym (followed ap' b own channel before' after' t' other .told)
+      -- each call for it got the same answer, and each reply put the same octets into the same buffer
+      pub same-answers : madeFor own after ≡ madeFor own after'
+      same-answers =
+          followed ap' b own channel before after t one .told
+          ∙ ap₂ (λ (m : ℕ) (cs : List TableCall). toldBy m ap' b own channel cs) same-moment same-calls
+          ∙ sym (followed ap' b own channel before' after' t' other .told)
 
-    -- and its row holds the same
-    pub same-contents : stationOf t own ≡ stationOf t' own
-    same-contents =
-        followed ap' b own channel before after t one .row
-        ∙ ap₂ (λ (m : ℕ) (cs : List TableCall). accepted (recordFrom m (settingsOf ap' b own channel) (historyOf cs))) same-moment same-calls
-        ∙ sym (followed ap' b own channel before' after' t' other .row)
+      -- and its row holds the same
+      pub same-contents : stationOf t own ≡ stationOf t' own
+      same-contents =
+          followed ap' b own channel before after t one .row
+          ∙ ap₂ (λ (m : ℕ) (cs : List TableCall). accepted (recordFrom m (settingsOf ap' b own channel) (historyOf cs))) same-moment same-calls
+          ∙ sym (followed ap' b own channel before' after' t' other .row)

@@ -16,7 +16,7 @@ use Rattle.row.proofs.Row.advance as Row-advance
 use Rattle.row.proofs.Row.free as Free
 use Rattle.row.proofs.Row.hear as Hear
 use Rattle.row.proofs.Row.is_of as Is-of
-use Rattle.row.proofs.Row.seated as Seated
+use Rattle.row.proofs.Row.taken_by as Taken-by
 use Rattle.row.proofs.free_place as Free-place
 use Rattle.row.proofs.hear_all as Hear-all
 use Rattle.row.proofs.place_of as Place-of
@@ -43,8 +43,8 @@ use Rattle.claims.proofs.TableMeans.{askedAs, asked-told}
 pub row-free : OneResult 0 Free.Kinds.ps Free.Kinds.r Free.Reads.Post
 row-free κs a e f x y p q = once p q
 
-pub row-seated : OneResult 0 Seated.Kinds.ps Seated.Kinds.r Seated.Reads.Post
-row-seated κs a e f x y p q = once p q
+pub row-taken-by : OneResult 0 Taken-by.Kinds.ps Taken-by.Kinds.r Taken-by.Reads.Post
+row-taken-by κs a e f x y p q = once p q
 
 pub row-is-of : OneResult 0 Is-of.Kinds.ps Is-of.Kinds.r Is-of.Reads.Post
 row-is-of κs a e f x y p q = once p q

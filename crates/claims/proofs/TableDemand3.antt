@@ -105,45 +105,45 @@ module _ (ap' : List ℕ) (b : ℕ) (own : List ℕ) (channel : ℕ) (before aft
 -- ---- a station that is joined from moment 0 on: the row is document 01's station, and its answers are those of that station's own functions, whoever else is joined
 
 module _
-  (ap' : List ℕ)
-  (b : ℕ)
-  (own : List ℕ)
-  (channel : ℕ)
-  (before after : List Made)
-  (t : Table)
-  (stay : Stay ap' b own channel before after t)
-  (at-start : advancesOf (callsOf before) ≡ [])
-  (r : Station)
-  (ran : Ran (settingsOf ap' b own channel) (historyFor own after) r)
+    (ap' : List ℕ)
+    (b : ℕ)
+    (own : List ℕ)
+    (channel : ℕ)
+    (before after : List Made)
+    (t : Table)
+    (stay : Stay ap' b own channel before after t)
+    (at-start : advancesOf (callsOf before) ≡ [])
+    (r : Station)
+    (ran : Ran (settingsOf ap' b own channel) (historyFor own after) r)
   where
-  pub same-as-one : stationOf t own ≡ accepted r
-  unfolding clockFrom
-  same-as-one =
-      row-arrives ap' b own channel before after t stay
-      ∙ ap (λ (g : History). accepted (recordFrom (clockAfter g) (settingsOf ap' b own channel) (historyFor own after))) at-start
-      ∙ ap accepted (sym (arrives (settingsOf ap' b own channel) (historyFor own after) r ran .0))
+    pub same-as-one : stationOf t own ≡ accepted r
+    unfolding clockFrom
+    same-as-one =
+        row-arrives ap' b own channel before after t stay
+        ∙ ap (λ (g : History). accepted (recordFrom (clockAfter g) (settingsOf ap' b own channel) (historyFor own after))) at-start
+        ∙ ap accepted (sym (arrives (settingsOf ap' b own channel) (historyFor own after) r ran .0))
 
-  pub same-verdict : (f : List ℕ) → (toAll f || same (da f) own) ≡ true → (v w : Verdict) (next : Table) → Does t (take f) (judged v) next → StationJudges r f w → v ≡ w
-  same-verdict f reaches v w next does (κs, a, x, e, promise, (self, octets, told)) =
-      let k = followed ap' b own channel before after t stay in
-      let mine : x ≡ takeOf r f = rw (← self, ← octets) (promise .0) in
-      judged-once (does-means t (take f) (judged v) next (k .valid) does .answers ∙ concerned t (k .valid) own r same-as-one (take f) reaches (λ y. y) .answers)
-      ∙ ap (λ (y : Taken). y .verdict) (sym mine) ∙ told
+    pub same-verdict : (f : List ℕ) → (toAll f || same (da f) own) ≡ true → (v w : Verdict) (next : Table) → Does t (take f) (judged v) next → StationJudges r f w → v ≡ w
+    same-verdict f reaches v w next does (κs, a, x, e, promise, (self, octets, told)) =
+        let k = followed ap' b own channel before after t stay in
+        let mine : x ≡ takeOf r f = rw (← self, ← octets) (promise .0) in
+        judged-once (does-means t (take f) (judged v) next (k .valid) does .answers ∙ concerned t (k .valid) own r same-as-one (take f) reaches (λ y. y) .answers)
+        ∙ ap (λ (y : Taken). y .verdict) (sym mine) ∙ told
 
-  pub same-step : (n : ℕ) (v w : Answer) (next : Table) → Does t (tick n) (answered v) next → StationSteps r n w → v ≡ w
-  same-step n v w next does (κs, a, x, e, promise, (self, units, told)) =
-      let k = followed ap' b own channel before after t stay in
-      let mine : x ≡ advanceOf r n = rw (← self, ← units) (promise .0) in
-      answered-once (does-means t (tick n) (answered v) next (k .valid) does .answers ∙ concerned t (k .valid) own r same-as-one (tick n) refl (λ y. y) .answers)
-      ∙ ap (λ (y : Stepped). y .answer) (sym mine) ∙ told
+    pub same-step : (n : ℕ) (v w : Answer) (next : Table) → Does t (tick n) (answered v) next → StationSteps r n w → v ≡ w
+    same-step n v w next does (κs, a, x, e, promise, (self, units, told)) =
+        let k = followed ap' b own channel before after t stay in
+        let mine : x ≡ advanceOf r n = rw (← self, ← units) (promise .0) in
+        answered-once (does-means t (tick n) (answered v) next (k .valid) does .answers ∙ concerned t (k .valid) own r same-as-one (tick n) refl (λ y. y) .answers)
+        ∙ ap (λ (y : Stepped). y .answer) (sym mine) ∙ told
 
-  pub same-permission : (n : ℕ) (p q : Permission) (next : Table) → Does t (question own n) (asked (Asked.Told p)) next → Asks r n q → p ≡ q
-  same-permission n p q next does (κs, a, x, e, promise, (self, units, told)) =
-      let k = followed ap' b own channel before after t stay in
-      asked-once
-      (does-means t (question own n) (asked (Asked.Told p)) next (k .valid) does .answers
-      ∙ concerned t (k .valid) own r same-as-one (question own n) (same-self own) (λ y. y) .answers)
-      ∙ sym (rw (← self, ← units) promise) ∙ told
+    pub same-permission : (n : ℕ) (p q : Permission) (next : Table) → Does t (question own n) (asked (Asked.Told p)) next → Asks r n q → p ≡ q
+    same-permission n p q next does (κs, a, x, e, promise, (self, units, told)) =
+        let k = followed ap' b own channel before after t stay in
+        asked-once
+        (does-means t (question own n) (asked (Asked.Told p)) next (k .valid) does .answers
+        ∙ concerned t (k .valid) own r same-as-one (question own n) (same-self own) (λ y. y) .answers)
+        ∙ sym (rw (← self, ← units) promise) ∙ told
 
 -- ---- joining, after leaving too: whatever the calls before were, the station is fresh, at the present clock, on the channel named
 

@@ -35,14 +35,13 @@ impl Row {
         }
     }
 
-    // A station has joined.
-    pub fn seated(station: Station) -> Row
+    // A station sits here from now on; nothing is left of what the row held.
+    pub fn taken_by(mut self, station: Station) -> Row
         ensures { λ r. ⌜ r ≡ seated station ⌝ }
     {
-        Row {
-            joined: true,
-            station,
-        }
+        self.joined = true;
+        self.station = station;
+        self
     }
 
     // Whether the station of this address sits here.
@@ -69,7 +68,7 @@ impl Row {
         let station = self.station;
         let stepped = station.advance(units);
         let next = stepped.station;
-        Row::seated(next)
+        self.taken_by(next)
     }
 
     // Its station hears what was read of a frame.
@@ -84,6 +83,6 @@ impl Row {
         let station = self.station;
         let taken = station.heard(received);
         let next = taken.station;
-        Row::seated(next)
+        self.taken_by(next)
     }
 }

@@ -50,12 +50,17 @@ pub fn named(first: u8, last: u8) -> [u8; 6] {
     [first, 0, 0, 0, 0, last]
 }
 
+// The receiver of frames to it.
+fn receiver(first: u8, last: u8) -> [u8; 6] {
+    if first == ALL {
+        return [ALL; 6];
+    }
+    named(first, last)
+}
+
 // The same frame to another receiver, by the first and the last octet of its address.
 pub fn sent_to(first: u8, last: u8, frame: [u8; LONGEST]) -> [u8; LONGEST] {
-    let mut to = named(first, last);
-    if first == ALL {
-        to = [ALL; 6];
-    }
+    let to = receiver(first, last);
     let mut sent = frame;
     octets::put(true, &to, &mut sent, RECEIVER);
     sent

@@ -106,7 +106,6 @@ pub fn size(n: [u64; 16], count: usize, from: usize) -> usize
     octets + ((n[2] % 2337) as usize)
 }
 
-
 // These octets, and zeros.
 pub fn frame(octets: &[u8]) -> [u8; LONGEST] {
     let mut frame = [0u8; LONGEST];

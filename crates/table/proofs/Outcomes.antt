@@ -9,7 +9,7 @@ use lib.Dec.{ltb, eqb}
 use lib.ListN.{length, getD, set, replicate}
 use Rattle.answer.proofs.Booleans.{both, or-go, or-stop}
 use Rattle.answer.proofs.Judged.{never, past, stop, done}
-use Rattle.answer.specs.Checks.{refused, accepted, pick, _⇒_, checked, andThen}
+use Rattle.answer.specs.Checks.{Outcome, refused, accepted, pick, _⇒_, checked, andThen}
 use Rattle.answer.specs.Faults.{Placed}
 use Rattle.answer.specs.declared.Fault.{Fault}
 use Rattle.answer.specs.declared.Refusal.{Refusal}
@@ -33,11 +33,12 @@ use Rattle.station.specs.Stations.{clockLimit, unitLimit}
 use Rattle.station.specs.Taking.{taken as stationTaken, heard}
 use Rattle.station.specs.declared.Station.{Station}
 use Rattle.table.specs.CodeTerms.Hearing.{PlaceWithin, rowsAfter}
-use Rattle.table.specs.CodeTerms.Seating.{seatMeans}
+use Rattle.table.specs.CodeTerms.Seating.{seatAmong, seatMeans}
 use Rattle.table.specs.Tables.{withRows, someRow, onFirst, isJoined, stationOf, stepped, newcomer, joinForbids, joinMeans, joinOf, leaveMeans, leaveOf, tickMeans, tickOf, readerOf, hearing, heardRows, takeMeans, taken, takeOf}
 use Rattle.table.specs.Validity.{Sits, Holds, RowOf, ValidTable}
 use Rattle.table.specs.declared.Stepped.{Stepped}
 use Rattle.table.specs.declared.Table.{Table}
+use Rattle.table.specs.declared.joining.Seat.{Seat}
 use Rattle.table.specs.declared.taking.Taken.{Taken}
 use Rattle.table.proofs.FirstRow.{found-at, none-such}
 use Rattle.table.proofs.Readers.{sent-to-all, to-all-ones, single-alone}
@@ -69,24 +70,54 @@ module _ (t : Table) (v : ValidTable t) (own : List ℕ) (i : ℕ) (e : placeOf 
 -- ---- joining
 
 module _ (t : Table) (s : Station) where
-  pub seat-again : (i : ℕ) → placeOf (isOf (s .own)) (t .rows) ≡ Place.At i → stepped t (refused Refusal.AlreadyJoined) ≡ stepped t (seatMeans t s)
+  abbrev already : Place
+  already = placeOf (isOf (s .own)) (t .rows)
+
+  abbrev vacant : Place
+  vacant = placeOf isFree (t .rows)
+
+  -- the table after the seat is taken
+  abbrev pub taking : Seat → Outcome Table
+  taking (Seat.Refused r) = refused r
+  taking (Seat.At i) = accepted (withRows t (set (t .rows) i (seated s)))
+
+  again : (i : ℕ) → already ≡ Place.At i → refused Refusal.AlreadyJoined ≡ seatMeans t s
   unfolding seatMeans
-  seat-again i e = ap (stepped t) (stop _ _ _ (found-at (isOf (s .own)) (t .rows) i e .there))
+  again i e = stop _ _ _ (found-at (isOf (s .own)) (t .rows) i e .there)
 
-  module _ (new : placeOf (isOf (s .own)) (t .rows) ≡ Place.Nowhere) where
-    pub seat-full : placeOf isFree (t .rows) ≡ Place.Nowhere → stepped t (refused Refusal.NoFreeRow) ≡ stepped t (seatMeans t s)
-    unfolding seatMeans
-    seat-full e =
-        ap (stepped t)
-        (past _ _ _ (none-such (isOf (s .own)) (t .rows) new .0) (stop _ _ _ (ap (λ (b : Bool). not b) (none-such isFree (t .rows) e .0))))
+  full : already ≡ Place.Nowhere → vacant ≡ Place.Nowhere → refused Refusal.NoFreeRow ≡ seatMeans t s
+  unfolding seatMeans
+  full new e = past _ _ _ (none-such (isOf (s .own)) (t .rows) new .0) (stop _ _ _ (ap (λ (b : Bool). not b) (none-such isFree (t .rows) e .0)))
 
-    pub seat-taken : (i : ℕ) → placeOf isFree (t .rows) ≡ Place.At i → stepped t (accepted (withRows t (set (t .rows) i (seated s)))) ≡ stepped t (seatMeans t s)
-    unfolding seatMeans
-    seat-taken i e =
-        let found = found-at isFree (t .rows) i e in
-        ap (stepped t)
-        (past _ _ _ (none-such (isOf (s .own)) (t .rows) new .0) (past _ _ _ (ap (λ (b : Bool). not b) (found .there))
-        (ap (λ (ws : List Row). accepted (withRows t ws)) (sym (found .changed free (λ w. seated s))) ∙ done _)))
+  taken-at : (i : ℕ) → already ≡ Place.Nowhere → vacant ≡ Place.At i → accepted (withRows t (set (t .rows) i (seated s))) ≡ seatMeans t s
+  unfolding seatMeans
+  taken-at i new e =
+      let found = found-at isFree (t .rows) i e in
+      past _ _ _ (none-such (isOf (s .own)) (t .rows) new .0)
+      (past _ _ _ (ap (λ (b : Bool). not b) (found .there)) (ap (λ (ws : List Row). accepted (withRows t ws)) (sym (found .changed free (λ w. seated s))) ∙ done _))
+
+  pub seat-told : stepped t (taking (seatAmong already vacant)) ≡ stepped t (seatMeans t s)
+  seat-told = ap (stepped t) (by already vacant refl refl)
+    where
+      by : (p q : Place) → already ≡ p → vacant ≡ q → taking (seatAmong p q) ≡ seatMeans t s
+      by (Place.At i) q e f = again i e
+      by Place.Nowhere Place.Nowhere e f = full e f
+      by Place.Nowhere (Place.At i) e f = taken-at i e f
+
+  pub seat-within : ValidTable t → (i : ℕ) → seatAmong already vacant ≡ Seat.At i → i < rowCount
+  seat-within v i e = by already vacant refl e
+    where
+      refused-at : {r : Refusal} → Seat.Refused r ≡ Seat.At i → i < rowCount
+      refused-at {r} f = absurd (let z : _≡_ {A = ℕ} 0 1 = cc in omega arith)
+
+      same-seat : {j : ℕ} → Seat.At j ≡ Seat.At i → j ≡ i
+      same-seat {j} f = cc
+
+      by : (p q : Place) → vacant ≡ q → seatAmong p q ≡ Seat.At i → i < rowCount
+      by (Place.At j) q g f = refused-at f
+      by Place.Nowhere Place.Nowhere g f = refused-at f
+      by Place.Nowhere (Place.At j) g f =
+          omega (arith, v .sixteen, found-at isFree (t .rows) i (g ∙ ap Place.At (same-seat f)) .within)
 
 module _ (t : Table) (v : ValidTable t) (own : List ℕ) (channel : ℕ) where
   -- in a valid table 01's start refuses what joining does

@@ -1,6 +1,7 @@
 // Joining and leaving a table (document 02, Six): a row is joined by an address and left by it.
 ghost use mathlib.Core.Path.{_≡_};
-ghost use Rattle.table.specs.CodeTerms.Seating.{seatMeans};
+ghost use Rattle.row.specs.declared.places.Place.{Place};
+ghost use Rattle.table.specs.CodeTerms.Seating.{seatAmong, seatMeans};
 ghost use Rattle.table.specs.Tables.{joinOf, leaveOf, stepped};
 ghost use Rattle.table.specs.Validity.{ValidTable};
 use crate::Stepped;
@@ -11,20 +12,40 @@ use row::Place;
 use row::Row;
 use station::Station;
 
+// The row that a station takes, or why it takes none.
+enum Seat {
+    Refused(Refusal),
+    At(usize),
+}
+
+// 25 where a station of its address sits somewhere, before 24 where no row is free.
+fn seat_among(sitting: Place, vacant: Place) -> Seat
+    ensures { λ r. ⌜ r ≡ seatAmong sitting vacant ⌝ }
+{
+    match sitting {
+        Place::At(_) => Seat::Refused(Refusal::AlreadyJoined),
+        Place::Nowhere => match vacant {
+            Place::Nowhere => Seat::Refused(Refusal::NoFreeRow),
+            Place::At(place) => Seat::At(place),
+        },
+    }
+}
+
 impl Table {
-    // A station takes the first free row: 25 where its address is joined already, before 24 where no row is free.
+    // A station takes the first free row.
     fn seat(self, station: Station) -> Stepped
         requires { ⌜ ValidTable self ⌝ }
         ensures { λ r. ⌜ r ≡ stepped self (seatMeans self station) ⌝ }
     {
         let own = station.own;
         let rows = self.rows;
-        match row::place_of(rows, own) {
-            Place::At(_) => Stepped::refused(Refusal::AlreadyJoined, self),
-            Place::Nowhere => match row::free_place(rows) {
-                Place::Nowhere => Stepped::refused(Refusal::NoFreeRow, self),
-                Place::At(place) => Stepped::accepted(self.with_row(place, Row::seated(station))),
-            },
+        let seat = seat_among(row::place_of(rows, own), row::free_place(rows));
+        match seat {
+            Seat::Refused(refusal) => Stepped::refused(refusal, self),
+            Seat::At(place) => {
+                let row = rows[place];
+                Stepped::accepted(self.with_row(place, row.taken_by(station)))
+            }
         }
     }
 

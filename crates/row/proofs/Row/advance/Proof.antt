@@ -23,9 +23,9 @@ returns-2 c =
     let stepped = c .before .before .advance .ensures in
     let e = c .before .before .before .before in
     let a = e .before .before .args in (
-      c .seated .ensures ∙ ap (λ (x : Stepped). seated (x .station)) (stepped .0)
+      c .taken-by .ensures ∙ ap (λ (x : Stepped). seated (x .station)) (stepped .0)
           ∙ ticked-joined (a .self) (a .units) (not-false (a .self .joined) (e .if1 .left)),
-      subst ValidRow (sym (c .seated .ensures)) (stepped .1),
+      subst ValidRow (sym (c .taken-by .ensures)) (stepped .1),
     )
 
 pub advance-spec : {M : Type 1} → statement M

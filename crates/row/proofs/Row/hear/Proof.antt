@@ -23,9 +23,9 @@ returns-2 c =
     let taken = c .before .before .heard .ensures in
     let e = c .before .before .before .before in
     let a = e .before .before .args in (
-      c .seated .ensures ∙ ap (λ (x : Taken). seated (x .station)) (taken .0)
+      c .taken-by .ensures ∙ ap (λ (x : Taken). seated (x .station)) (taken .0)
           ∙ heard-joined (a .self) (a .received) (not-false (a .self .joined) (e .if1 .left)),
-      λ allowed. subst ValidRow (sym (c .seated .ensures)) (taken .1 allowed),
+      λ allowed. subst ValidRow (sym (c .taken-by .ensures)) (taken .1 allowed),
     )
 
 pub hear-spec : {M : Type 1} → statement M
