@@ -25,6 +25,7 @@ pub mod HistoriesTell
 pub mod IbssReadings
 pub mod IbssReplies
 pub mod Isolation
+pub mod JoinedRows
 pub mod LatestEnds
 pub mod ListedFiles
 pub mod MeasurementItems
@@ -72,10 +73,13 @@ pub mod SoundBefore
 pub mod StationFollows
 pub mod StationWitnesses
 pub mod Stations
+pub mod TableAnswers
 pub mod TableDemand3
 pub mod TableMeans
 pub mod TableRows
 pub mod TableStays
+pub mod TableWitnesses
 pub mod TakenOut
 pub mod TbttsPassed
+pub mod WhoIsJoined
 pub mod Witnesses

@@ -17,6 +17,7 @@ use Rattle.row.proofs.Row.free as Free
 use Rattle.row.proofs.Row.hear as Hear
 use Rattle.row.proofs.Row.is_of as Is-of
 use Rattle.row.proofs.Row.taken_by as Taken-by
+use Rattle.row.proofs.Row.vacated as Vacated
 use Rattle.row.proofs.free_place as Free-place
 use Rattle.row.proofs.hear_all as Hear-all
 use Rattle.row.proofs.place_of as Place-of
@@ -27,7 +28,6 @@ use Rattle.table.proofs.asking.Asked.number as Number
 use Rattle.table.proofs.Table.ask as Ask
 use Rattle.table.proofs.Table.join as Join
 use Rattle.table.proofs.Table.leave as Leave
-use Rattle.table.proofs.Table.reader_of as Reader-of
 use Rattle.table.proofs.Table.reply_to_measurement_request as Measurement
 use Rattle.table.proofs.Table.reply_to_tpc_request as Tpc
 use Rattle.table.proofs.Table.start as Start
@@ -45,6 +45,9 @@ row-free κs a e f x y p q = once p q
 
 pub row-taken-by : OneResult 0 Taken-by.Kinds.ps Taken-by.Kinds.r Taken-by.Reads.Post
 row-taken-by κs a e f x y p q = once p q
+
+pub row-vacated : OneResult 0 Vacated.Kinds.ps Vacated.Kinds.r Vacated.Reads.Post
+row-vacated κs a e f x y p q = once p q
 
 pub row-is-of : OneResult 0 Is-of.Kinds.ps Is-of.Kinds.r Is-of.Reads.Post
 row-is-of κs a e f x y p q = once p q
@@ -90,9 +93,6 @@ table-tick κs a e f x y p q = once (p .0) (q .0)
 
 pub table-take : OneResult 1 Take.Kinds.ps Take.Kinds.r Take.Reads.Post
 table-take κs a e f x y p q = once (p .0) (q .0)
-
-pub table-reader-of : OneResult 1 Reader-of.Kinds.ps Reader-of.Kinds.r Reader-of.Reads.Post
-table-reader-of κs a e f x y p q = once p q
 
 pub table-ask : OneResult 0 Ask.Kinds.ps Ask.Kinds.r Ask.Reads.Post
 table-ask κs a e f x y p q = told-once askedTold askedAs asked-told p q

@@ -1,52 +1,53 @@
 -- Demand 3 for each station of a table, "from its joining" (02, Six): whatever calls were made of the table, its row is the record that the history of its own calls speaks of,
 -- which begins at the clock of its joining, and each question is answered as that history says. Assumes nothing.
-use mathlib.Core.Bool.{true, _||_}
+use mathlib.Core.Bool.{Bool, true, false, _||_}
 use mathlib.Core.List.{List, [], _∷_}
-use mathlib.Core.Logic.{_↔_}
-use mathlib.Core.Path.{_≡_, refl, sym, ap, _∙_, subst}
+use mathlib.Core.Logic.{_↔_, ⊎-elim}
+use mathlib.Core.Path.{_≡_, refl, sym, ap, ap₂, _∙_, subst}
 use Prim.Native.Nat.{ℕ, _≤_}
-use Rattle.answer.specs.Checks.{accepted}
+use Rattle.answer.proofs.Booleans.{clash, either, neither}
+use Rattle.answer.specs.Checks.{refused, accepted, pick, andThen}
+use Rattle.answer.specs.Faults.{Placed}
 use Rattle.answer.specs.declared.Answer.{Answer}
 use Rattle.answer.specs.declared.Verdict.{Verdict}
+use Rattle.frame.specs.Frames.{Sent, frameMeans}
 use Rattle.header.proofs.Addresses.{same-self}
 use Rattle.header.specs.Headers.{same, da, toAll}
 use Rattle.station.specs.Asking.{permissionNumber, permissionOf}
 use Rattle.station.specs.Clock.{advanceOf}
 use Rattle.station.specs.Stations.{fresh, withClock}
-use Rattle.station.specs.Taking.{takeOf}
+use Rattle.station.specs.Taking.{heard, taken, takeMeans, takeOf}
 use Rattle.station.specs.Validity.{Valid}
 use Rattle.station.specs.declared.Station.{Station}
 use Rattle.station.specs.declared.asking.Permission.{Permission}
 use Rattle.station.specs.declared.clock.Stepped.{Stepped}
 use Rattle.station.specs.declared.taking.Taken.{Taken}
+use Rattle.table.proofs.Readers.{reached}
 use Rattle.table.specs.Tables.{stationOf}
 use Rattle.table.specs.declared.Table.{Table}
 use Rattle.table.specs.declared.asking.Asked.{Asked}
 use Rattle.capture_record.specs.declared.entry.Settings.{Settings}
-use Rattle.claims.specs.Histories.{History, clockFrom, clockAfter, listenerFrom}
+use Rattle.claims.specs.Histories.{History, listenerFrom}
 use Rattle.claims.specs.OneAddress.{StationJudges, StationSteps}
 use Rattle.claims.specs.OpenUnits.{AllOpen, Applies}
-use Rattle.claims.specs.Records.{recordFrom, recordAfter, AgreesFrom}
+use Rattle.claims.specs.Records.{recordFrom, AgreesFrom}
 use Rattle.claims.specs.Runs.{Ran, Asks}
-use Rattle.claims.specs.TableHistories.{madeFor, callsOf, advancesOf, historyOf, historyFor, NeverLeaves, Stay, joinedAt, settingsOf}
-use Rattle.claims.specs.TableRuns.{join, tick, take, question, TableAnswer, answered, judged, asked, Made, Does, GoesOn, TableRan}
+use Rattle.claims.specs.TableHistories.{concerns, madeFor, callsOf, historyOf, historyFor, NeverLeaves, Stay, joinedAt, settingsOf}
+use Rattle.claims.specs.TableRuns.{TableCall, join, leave, tick, take, question, tpc, measurement, TableAnswer, answered, judged, asked, Made, Does, GoesOn, TableRan}
 use Rattle.claims.proofs.Agreement.{agrees-from}
 use Rattle.claims.proofs.Asked.{answered-from, granted-from}
 use Rattle.claims.proofs.Demand3.{arrives}
 use Rattle.claims.proofs.OneRecord.{one-record-from}
 use Rattle.claims.proofs.Same.{accepted-once}
-use Rattle.claims.proofs.TableMeans.{does-means}
-use Rattle.claims.proofs.TableRows.{rowAnswers, sits, concerned}
-use Rattle.claims.proofs.TableStays.{reaches, run-kept, followed}
+use Rattle.claims.proofs.TableMeans.{answered-once, does-means}
+use Rattle.claims.proofs.TableRows.{rowAfter, sits, concerned}
+use Rattle.claims.proofs.TableStays.{reaches, one-more, followed}
 
 asked-once : {p q : Permission} → asked (Asked.Told p) ≡ asked (Asked.Told q) → p ≡ q
 asked-once {p} {q} e = cc
 
 judged-once : {v w : Verdict} → judged v ≡ judged w → v ≡ w
 judged-once {v} {w} e = cc
-
-answered-once : {x y : Answer} → answered x ≡ answered y → x ≡ y
-answered-once {x} {y} e = cc
 
 module _ (ap' : List ℕ) (b : ℕ) (own : List ℕ) (channel : ℕ) (before after : List Made) (t : Table) (stay : Stay ap' b own channel before after t) where
   abbrev s : Settings
@@ -102,7 +103,51 @@ module _ (ap' : List ℕ) (b : ℕ) (own : List ℕ) (channel : ℕ) (before aft
         let same = ap permissionNumber answer-is in
         (λ e. w .0 (sym same ∙ e), λ o. same ∙ w .1 o)
 
--- ---- a station that is joined from moment 0 on: the row is document 01's station, and its answers are those of that station's own functions, whoever else is joined
+-- ---- what document 01's station makes of the calls for others: frames that do not reach it are refused
+
+not-reached : (r : Station) (own f : List ℕ) → r .own ≡ own → (toAll f || same (da f) own) ≡ false → takeOf r f .station ≡ r
+unfolding takeMeans
+not-reached r own f is n = by (frameMeans (r .own) (r .ap) (r .interval) f) refl
+  where
+    off : (toAll f ≡ false) × (same (da f) own ≡ false)
+    off = neither (toAll f) (same (da f) own) n
+
+    by : (o : Placed Sent) → frameMeans (r .own) (r .ap) (r .interval) f ≡ o → taken r (andThen o (λ x. accepted (heard r (x .kind)))) .station ≡ r
+    by (refused x) e = refl
+    by (accepted x) e =
+        clash
+        (sym (reached (r .own) (r .ap) (r .interval) f x e) ∙ ap (λ (a : List ℕ). same (da f) a || toAll f) is ∙ ap₂ (λ (y z : Bool). y || z) (off .1) (off .0))
+
+module _ (ap' : List ℕ) (b : ℕ) (pos : 1 ≤ b) (own : List ℕ) (channel m : ℕ) where
+  abbrev recordOf : List Made → Station
+  recordOf ms = recordFrom m (settingsOf ap' b own channel) (historyOf (callsOf ms))
+
+  unconcerned-call : (c : TableCall) (h : History) → concerns own c ≡ false → rowAfter (recordFrom m (settingsOf ap' b own channel) h) c ≡ recordFrom m (settingsOf ap' b own channel) h
+  unconcerned-call (join a n) h e = refl
+  unconcerned-call (leave a) h e = refl
+  unconcerned-call (tick n) h e = clash e
+  unconcerned-call (take f) h e = not-reached _ own f (agrees-from m (settingsOf ap' b own channel) pos h .same-own) e
+  unconcerned-call (question a n) h e = refl
+  unconcerned-call (tpc f report buffer) h e = refl
+  unconcerned-call (measurement f index readings buffer) h e = refl
+
+  -- so it has the same record after all the calls of the table
+  pub others-nothing : (ms : List Made) → recordOf ms ≡ recordOf (madeFor own ms)
+  unfolding madeFor
+  others-nothing [] = refl
+  others-nothing (x ∷ ms) =
+      sym (one-more m ap' b own channel (x .call) (callsOf ms))
+      ∙ ⊎-elim
+      (λ (y : concerns own (x .call) ≡ true).
+      ap (λ (r : Station). rowAfter r (x .call)) (others-nothing ms) ∙ one-more m ap' b own channel (x .call) (callsOf (madeFor own ms))
+      ∙ ap (λ (c : Bool). recordOf (pick c (x ∷ madeFor own ms) (madeFor own ms))) (sym y))
+      (λ (n : concerns own (x .call) ≡ false).
+      unconcerned-call (x .call) (historyOf (callsOf ms)) n ∙ others-nothing ms
+      ∙ ap (λ (c : Bool). recordOf (pick c (x ∷ madeFor own ms) (madeFor own ms))) (sym n))
+      (either (concerns own (x .call)))
+
+-- ---- a station that is joined from moment 0 on, whoever else is joined: its row is document 01's station after the same calls, and its answers are those of that station's own
+-- functions
 
 module _
     (ap' : List ℕ)
@@ -112,16 +157,16 @@ module _
     (before after : List Made)
     (t : Table)
     (stay : Stay ap' b own channel before after t)
-    (at-start : advancesOf (callsOf before) ≡ [])
+    (at-start : joinedAt before ≡ 0)
     (r : Station)
-    (ran : Ran (settingsOf ap' b own channel) (historyFor own after) r)
+    (ran : Ran (settingsOf ap' b own channel) (historyOf (callsOf after)) r)
   where
     pub same-as-one : stationOf t own ≡ accepted r
-    unfolding clockFrom
     same-as-one =
         row-arrives ap' b own channel before after t stay
-        ∙ ap (λ (g : History). accepted (recordFrom (clockAfter g) (settingsOf ap' b own channel) (historyFor own after))) at-start
-        ∙ ap accepted (sym (arrives (settingsOf ap' b own channel) (historyFor own after) r ran .0))
+        ∙ ap (λ (m : ℕ). accepted (recordFrom m (settingsOf ap' b own channel) (historyFor own after))) at-start
+        ∙ ap accepted (sym (others-nothing ap' b (interval-positive ap' b own channel before after t stay) own channel 0 after))
+        ∙ ap accepted (sym (arrives (settingsOf ap' b own channel) (historyOf (callsOf after)) r ran .0))
 
     pub same-verdict : (f : List ℕ) → (toAll f || same (da f) own) ≡ true → (v w : Verdict) (next : Table) → Does t (take f) (judged v) next → StationJudges r f w → v ≡ w
     same-verdict f reaches v w next does (κs, a, x, e, promise, (self, octets, told)) =

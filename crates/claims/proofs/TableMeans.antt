@@ -18,7 +18,7 @@ use Rattle.row.specs.Rows.{ticked}
 use Rattle.station.specs.Stations.{unitLimit, clockLimit}
 use Rattle.station.specs.declared.asking.Permission.{Permission}
 use Rattle.table.specs.Replies.{tpcReplyOf, measurementReplyOf}
-use Rattle.table.specs.Tables.{withRows, heardRows, stepped, empty, started, startForbids, startMeans, joinMeans, joinOf, leaveMeans, leaveOf, tickMeans, tickOf, readerOf, takeMeans, taken, takeOf, askMeans, askedTold}
+use Rattle.table.specs.Tables.{withRows, heardRows, stepped, empty, started, startForbids, startMeans, joinMeans, joinOf, leaveMeans, leaveOf, tickedTable, tickMeans, tickOf, readerOf, takeMeans, taken, takeOf, askMeans, askedTold}
 use Rattle.table.specs.Validity.{ValidTable}
 use Rattle.table.specs.declared.Stepped.{Stepped}
 use Rattle.table.specs.declared.Table.{Table}
@@ -29,6 +29,9 @@ use Rattle.claims.specs.Histories.{History, tooFar, clockFrom}
 use Rattle.claims.specs.TableHistories.{advanceIn}
 use Rattle.claims.specs.TableRuns.{TableCall, join, leave, tick, take, question, tpc, measurement, TableAnswer, answered, judged, asked, replied, TableStarts, Does}
 use Rattle.claims.proofs.Same.{answer, answer-told}
+
+pub answered-once : {x y : Answer} → answered x ≡ answered y → x ≡ y
+answered-once {x} {y} e = cc
 
 -- the answer to a question, by what it stands for
 abbrev pub askedAs : Outcome Permission → Asked
@@ -157,7 +160,7 @@ unfolding tickMeans checked
 tick-clock t n = by (far t n)
   where
     by : (b : Bool) → stepped t (pick b (refused Refusal.PastClock)
-        (accepted (record { ap = t .ap; interval = t .interval; clock = t .clock + n; rows = ticked n (t .rows) }))) .table .clock ≡ pick b (t .clock) (t .clock + n)
+        (accepted (tickedTable t n))) .table .clock ≡ pick b (t .clock) (t .clock + n)
     by true = refl
     by false = refl
 

@@ -32,7 +32,7 @@ use Rattle.table.proofs.Neighbours.{stepFound, every-steps, own-steps, other-le
 use Rattle.table.proofs.Readers.{reader-joined, sent-to-all, read-alike}
 use Rattle.table.proofs.StaysApart.{same-seat-of, differ}
 use Rattle.table.proofs.StaysValid.{hearing-seat, ticked-seat}
-use Rattle.table.specs.Tables.{withRows, onFirst, firstSuch, isJoined, stationOf, stepped, newcomer, joinForbids, joinMeans, leaveMeans, tickMeans, tickOf, readerOf, hearing, heardRows, takeMeans, taken, takeOf, askMeans}
+use Rattle.table.specs.Tables.{withRows, onFirst, firstSuch, isJoined, stationOf, stepped, newcomer, joinForbids, joinMeans, leaveMeans, tickedTable, tickMeans, tickOf, readerOf, hearing, heardRows, takeMeans, taken, takeOf, askMeans}
 use Rattle.table.specs.Validity.{Sits, Holds, RowOf, ValidTable}
 use Rattle.table.specs.declared.Table.{Table}
 use Rattle.table.specs.declared.asking.Asked.{Asked}
@@ -121,7 +121,7 @@ module _ (t : Table) (v : ValidTable t) (own : List ℕ) where
     -- ---- the clock
 
     abbrev ticks : ℕ → Bool → Table
-    ticks n b = stepped t (pick b (refused Refusal.PastClock) (accepted (record { ap = t .ap; interval = t .interval; clock = t .clock + n; rows = ticked n (t .rows) }))) .table
+    ticks n b = stepped t (pick b (refused Refusal.PastClock) (accepted (tickedTable t n))) .table
 
     ticked-answer : (n : ℕ) → tickOf t n .answer ≡ advanceOf r n .answer
     unfolding tickMeans checked
@@ -129,7 +129,7 @@ module _ (t : Table) (v : ValidTable t) (own : List ℕ) where
         by (far t n) ∙ ap (λ (m : ℕ). advancedBy r n (ltb unitLimit n || ltb clockLimit (m + n)) .answer) (sym (sits .same-clock)) ∙ ap (λ (x : Stepped). x .answer) (sym (by-far r n))
       where
         by : (b : Bool) → stepped t (pick b (refused Refusal.PastClock)
-            (accepted (record { ap = t .ap; interval = t .interval; clock = t .clock + n; rows = ticked n (t .rows) }))) .answer ≡ advancedBy r n b .answer
+            (accepted (tickedTable t n))) .answer ≡ advancedBy r n b .answer
         by true = refl
         by false = sym (goes-accepted r n)
 

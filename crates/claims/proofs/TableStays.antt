@@ -24,7 +24,7 @@ use Rattle.claims.specs.Records.{recordFrom}
 use Rattle.claims.specs.TableHistories.{concerns, madeFor, callsOf, callsFor, advancesOf, stationCall, historyOf, historyFor, Leaves, NeverLeaves, Stay, joinedAt, settingsOf}
 use Rattle.claims.specs.TableRuns.{TableCall, join, leave, tick, take, question, tpc, measurement, TableAnswer, answered, Made, Does, GoesOn, TableRan}
 use Rattle.claims.proofs.Same.{accepted-once}
-use Rattle.claims.proofs.TableMeans.{does-means, ap-kept, interval-kept, clock-after, starts-empty}
+use Rattle.claims.proofs.TableMeans.{answered-once, does-means, ap-kept, interval-kept, clock-after, starts-empty}
 use Rattle.claims.proofs.TableRows.{rowAfter, rowAnswers, concerned, unconcerned}
 
 -- ---- any run
@@ -73,9 +73,6 @@ reaches ap' b ms t (first, starts, rest) =
 
 -- ---- joining
 
-answered-once : {x y : Answer} → answered x ≡ answered y → x ≡ y
-answered-once {x} {y} e = cc
-
 module _ (t : Table) (own : List ℕ) (channel : ℕ) where
   abbrev seatedIn : Table
   seatedIn = withRows t (onFirst isFree (λ w. seated (newcomer t own channel)) (t .rows))
@@ -106,7 +103,7 @@ module _ (m : ℕ) (ap' : List ℕ) (b : ℕ) (own : List ℕ) (channel : ℕ) w
   abbrev recordOf : List TableCall → Station
   recordOf cs = recordFrom m (settingsOf ap' b own channel) (historyOf cs)
 
-  one-more : (c : TableCall) (cs : List TableCall) → rowAfter (recordOf cs) c ≡ recordOf (c ∷ cs)
+  pub one-more : (c : TableCall) (cs : List TableCall) → rowAfter (recordOf cs) c ≡ recordOf (c ∷ cs)
   unfolding historyOf recordFrom
   one-more (join a n) cs = refl
   one-more (leave a) cs = refl

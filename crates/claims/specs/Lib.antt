@@ -10,6 +10,7 @@ pub mod Filters
 pub mod Histories
 pub mod HistoryLines
 pub mod IbssReplies
+pub mod Joinings
 pub mod MemberRecords
 pub mod MemberRuns
 pub mod Moments

@@ -63,7 +63,7 @@ historyOf (c ∷ cs) = stationCall c (historyOf cs)
 abbrev pub historyFor : List ℕ → List Made → History
 historyFor own ms = historyOf (callsFor own ms)
 
--- the station does not leave
+-- by this call the station leaves
 abbrev pub Leaves : List ℕ → TableCall → Type 0
 Leaves own (leave a) = a ≡ own
 Leaves own (join a channel) = ⊥

@@ -9,12 +9,12 @@ use Rattle.station.specs.Starting.{blank}
 use Rattle.station.specs.Taking.{heardOf}
 use Rattle.station.specs.Validity.{Valid}
 use Rattle.station.specs.declared.Station.{Station}
-use Rattle.row.specs.Rows.{seated, Keeps, ValidRow, rowTicked, rowHeard}
+use Rattle.row.specs.Rows.{seated, Occupied, ValidRow, rowTicked, rowHeard}
 use Rattle.row.specs.declared.Row.{Row}
 
 module _ (w : Row) where
   pub joined-valid : w .joined ≡ true → ValidRow w → Valid (w .station)
-  joined-valid e v = subst (λ (b : Bool). Keeps b (w .station)) e v
+  joined-valid e v = subst (λ (b : Bool). Occupied Valid b (w .station)) e v
 
   -- a step of the station is one of its row
   abbrev byRow : (Station → Station) → Bool → Row

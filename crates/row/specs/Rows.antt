@@ -39,12 +39,13 @@ unfoldable pub All : {X : Type 0} → (X → Type 0) → List X → Type 0
 All P [] = Unit {0}
 All P (x ∷ xs) = P x × All P xs
 
-abbrev pub Keeps : Bool → Station → Type 0
-Keeps true s = Valid s
-Keeps false s = s ≡ blank
+-- a station that is joined is such that P, and a free row holds one fixed blank
+abbrev pub Occupied : (Station → Type 0) → Bool → Station → Type 0
+Occupied P true s = P s
+Occupied P false s = s ≡ blank
 
 abbrev pub ValidRow : Row → Type 0
-ValidRow w = Keeps (w .joined) (w .station)
+ValidRow w = Occupied Valid (w .joined) (w .station)
 
 pub record ValidRows (ws : List Row) : Type 0 where
   pub sixteen : length ws ≡ rowCount

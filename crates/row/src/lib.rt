@@ -35,12 +35,22 @@ impl Row {
         }
     }
 
-    // A station sits here from now on; nothing is left of what the row held.
+    // A station sits here from now on, and nothing is left of what the row held.
     pub fn taken_by(mut self, station: Station) -> Row
         ensures { λ r. ⌜ r ≡ seated station ⌝ }
     {
         self.joined = true;
         self.station = station;
+        self
+    }
+
+    // Its station leaves, and nothing of it stays.
+    pub fn vacated(mut self) -> Row
+        ensures { λ r. ⌜ r ≡ free ⌝ }
+    {
+        let nobody = Station::nobody();
+        self.joined = false;
+        self.station = nobody;
         self
     }
 
@@ -56,7 +66,7 @@ impl Row {
         header::are_same(own, sitting)
     }
 
-    // Its station goes on by so many TU; a free row stays so.
+    // What its station's advance by so many TU leaves, which is the same station where that is refused; a free row stays so.
     pub fn advance(self, units: u32) -> Row
         requires { ⌜ ValidRow self ⌝ }
         ensures { λ r. ⌜ r ≡ rowTicked units self ⌝ }
@@ -68,7 +78,10 @@ impl Row {
         let station = self.station;
         let stepped = station.advance(units);
         let next = stepped.station;
-        self.taken_by(next)
+        Row {
+            joined: true,
+            station: next,
+        }
     }
 
     // Its station hears what was read of a frame.
@@ -83,6 +96,9 @@ impl Row {
         let station = self.station;
         let taken = station.heard(received);
         let next = taken.station;
-        self.taken_by(next)
+        Row {
+            joined: true,
+            station: next,
+        }
     }
 }

@@ -13,9 +13,9 @@
 //   beacon, probe: the receiver's address, and the octets after the timestamp, which is 7
 //   clock: that of the table
 //   row: an address. Its answer is 26, or 0 and what the station keeps: clock, channel, constraint, pending switch
-//   reply-tpc, reply-measurement: as in `run_scenes`, where the third number of the second stands for no clock, since the table has one
+//   reply-tpc, reply-measurement: as in `run_scenes`; the third number of the second is not used, since the table has a clock
 //
-// Frames by their verbs come from the AP of a scene's first table. A scene more needs no proof.
+// Frames by their verbs come from the AP of a scene's first table. Adding a scene needs no proof.
 mod calls;
 mod frames;
 mod replies;

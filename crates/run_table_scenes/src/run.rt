@@ -24,7 +24,7 @@ fn headed(front: usize, first: u8, octets: [u8; line::ROOM]) -> [u8; made::LONGE
     made::sent_to(octets[1], octets[2], frame)
 }
 
-// A call that leaves the table as it is: a question, what is kept, or a reply. A verb that there is not must not go by unseen.
+// A call that leaves the table as it is: a question, what is kept, or a reply. An unknown verb is told.
 fn kept(table: Table, verb: Verb, numbers: [u64; 16], octets: [u8; line::ROOM], count: usize)
     requires { ⌜ ValidTable table ⌝ }
 {

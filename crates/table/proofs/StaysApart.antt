@@ -62,7 +62,7 @@ SameSeats (w ∷ ws) (v ∷ vs) = SameSeat w v × SameSeats ws vs
 pub same-seat-of : (own : List ℕ) (w v : Row) → SameSeat w v → isOf own v ≡ isOf own w
 same-seat-of own w v s = ap₂ (λ (b : Bool) (a : List ℕ). b && same own a) (s .0) (s .1)
 
-some-same : (own : List ℕ) (ws vs : List Row) → SameSeats ws vs → someRow (isOf own) vs ≡ someRow (isOf own) ws
+pub some-same : (own : List ℕ) (ws vs : List Row) → SameSeats ws vs → someRow (isOf own) vs ≡ someRow (isOf own) ws
 unfolding SameSeats someRow
 some-same own [] [] s = refl
 some-same own [] (v ∷ vs) s = absurd s

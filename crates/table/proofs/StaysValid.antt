@@ -15,7 +15,7 @@ use Rattle.frame.specs.Allowed.{KindAllowed}
 use Rattle.frame.specs.Frames.{Kind}
 use Rattle.frame.specs.Laid.{frameOf, quietsOf}
 use Rattle.octets.specs.Numbers.{bit, octet}
-use Rattle.row.specs.Rows.{rowCount, free, seated, isOf, isFree, All, Keeps, ValidRow, ValidRows, rowTicked, ticked}
+use Rattle.row.specs.Rows.{rowCount, free, seated, isOf, isFree, All, Occupied, ValidRow, ValidRows, rowTicked, ticked}
 use Rattle.row.specs.declared.Row.{Row}
 use Rattle.station.proofs.KeptThroughout.{Unchanged, heard-unchanged, KeptThroughout, advance-keeps}
 use Rattle.station.proofs.StaysValid.{valid-fresh, advanced, valid-changed}
@@ -28,7 +28,7 @@ use Rattle.station.specs.Validity.{PendingFits, Valid}
 use Rattle.station.specs.declared.Station.{Station}
 use Rattle.station.specs.declared.clock.Advanced.{Advanced}
 use Rattle.station.specs.declared.clock.Stepped.{Stepped}
-use Rattle.table.specs.Tables.{withRows, someRow, onFirst, isJoined, empty, startForbids, newcomer, joinForbids, hearing}
+use Rattle.table.specs.Tables.{tickedTable, withRows, someRow, onFirst, isJoined, empty, startForbids, newcomer, joinForbids, hearing}
 use Rattle.table.specs.Validity.{Sits, Holds, RowOf, Apart, ValidTable}
 use Rattle.table.specs.declared.Table.{Table}
 use Rattle.table.proofs.StaysApart.{all-map, all-kept, all-on-first, length-on-first, SameSeat, apart-same, seats-map, seats-on-first, apart-left, apart-joined}
@@ -95,7 +95,7 @@ module _ (t : Table) (v : ValidTable t) where
   pub rows-valid : ValidRows (t .rows)
   rows-valid = record { sixteen = v .sixteen; each = all-kept (RowOf t) ValidRow row-valid (t .rows) (v .each) }
     where
-      by : (b : Bool) (s : Station) → Holds (t .ap) (t .interval) (t .clock) b s → Keeps b s
+      by : (b : Bool) (s : Station) → Holds (t .ap) (t .interval) (t .clock) b s → Occupied Valid b s
       by true s h = h .valid
       by false s h = h
 
@@ -208,7 +208,7 @@ module _ (t : Table) (v : ValidTable t) where
         by true e h = advanced-sits (w .station) h
         by false e h = subst (λ (b : Bool). Holds (t .ap) (t .interval) (t .clock + n) b (w .station)) (sym e) h
 
-    pub valid-ticked : ValidTable (record { ap = t .ap; interval = t .interval; clock = t .clock + n; rows = ticked n (t .rows) })
+    pub valid-ticked : ValidTable (tickedTable t n)
     valid-ticked = record {
       ap-single = v .ap-single;
       interval-positive = v .interval-positive;

@@ -107,10 +107,11 @@ leaveOf t own = stepped t (leaveMeans t own)
 
 -- ---- the clock: 14 for the whole table, or every joined row advances
 
+abbrev pub tickedTable : Table → ℕ → Table
+tickedTable t n = record { ap = t .ap; interval = t .interval; clock = t .clock + n; rows = ticked n (t .rows) }
+
 unfoldable pub tickMeans : Table → ℕ → Outcome Table
-tickMeans t n =
-    judged ((ltb unitLimit n || ltb clockLimit (t .clock + n)) ⇒ Refusal.PastClock ∷ [])
-    (record { ap = t .ap; interval = t .interval; clock = t .clock + n; rows = ticked n (t .rows) })
+tickMeans t n = judged ((ltb unitLimit n || ltb clockLimit (t .clock + n)) ⇒ Refusal.PastClock ∷ []) (tickedTable t n)
 
 abbrev pub tickOf : Table → ℕ → Stepped
 tickOf t n = stepped t (tickMeans t n)

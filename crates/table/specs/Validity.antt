@@ -6,9 +6,8 @@ use mathlib.Core.Path.{_≡_}
 use Prim.Native.Nat.{ℕ, _≤_}
 use lib.ListN.{length}
 use Rattle.octets.specs.Numbers.{bit, octet}
-use Rattle.row.specs.Rows.{rowCount, isOf, All}
+use Rattle.row.specs.Rows.{rowCount, isOf, All, Occupied}
 use Rattle.row.specs.declared.Row.{Row}
-use Rattle.station.specs.Starting.{blank}
 use Rattle.station.specs.Validity.{Valid}
 use Rattle.station.specs.declared.Station.{Station}
 use Rattle.table.specs.Tables.{someRow}
@@ -22,8 +21,7 @@ pub record Sits (ap : List ℕ) (b clock : ℕ) (s : Station) : Type 0 where
   pub same-clock : s .clock ≡ clock
 
 abbrev pub Holds : List ℕ → ℕ → ℕ → Bool → Station → Type 0
-Holds ap b clock true s = Sits ap b clock s
-Holds ap b clock false s = s ≡ blank
+Holds ap b clock joined s = Occupied (Sits ap b clock) joined s
 
 abbrev pub RowOf : Table → Row → Type 0
 RowOf t w = Holds (t .ap) (t .interval) (t .clock) (w .joined) (w .station)

@@ -9,7 +9,6 @@ use crate::Table;
 use answer::Answer;
 use answer::Refusal;
 use row::Place;
-use row::Row;
 use station::Station;
 
 // The row that a station takes, or why it takes none.
@@ -68,7 +67,7 @@ impl Table {
         }
     }
 
-    // Nothing of the station is left in its row.
+    // Its row is free again.
     pub fn leave(self, own: [u8; 6]) -> Stepped
         requires { ⌜ ValidTable self ⌝ }
         ensures { λ r. ⌜ r ≡ leaveOf self own ⌝ }
@@ -77,7 +76,10 @@ impl Table {
         let rows = self.rows;
         match row::place_of(rows, own) {
             Place::Nowhere => Stepped::refused(Refusal::NotJoined, self),
-            Place::At(place) => Stepped::accepted(self.with_row(place, Row::free())),
+            Place::At(place) => {
+                let row = rows[place];
+                Stepped::accepted(self.with_row(place, row.vacated()))
+            }
         }
     }
 }

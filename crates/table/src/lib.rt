@@ -14,9 +14,12 @@ ghost use Prim.Native.Nat.{_<_};
 ghost use lib.ListN.{set};
 ghost use Rattle.answer.specs.Checks.{refused, accepted};
 ghost use Rattle.row.specs.Rows.{rowCount};
-ghost use Rattle.table.specs.Tables.{stepped, withRows};
+ghost use Rattle.row.specs.declared.places.Place.{Place};
+ghost use Rattle.table.specs.CodeTerms.Hearing.{readerAt};
+ghost use Rattle.table.specs.Tables.{readerOf, stepped, withRows};
 use answer::Answer;
 use answer::Refusal;
+use row::Place;
 use row::Row;
 
 // What is kept between calls. Every station that is joined has the table's AP, interval and clock.
@@ -53,7 +56,26 @@ impl Stepped {
     }
 }
 
+// The station as which a frame to an address is read: that address, where a station of it sits at a place, or one that only frames to all ones reach.
+fn reader_at(place: Place, to: [u8; 6]) -> [u8; 6]
+    ensures { λ r. ⌜ r ≡ readerAt place to ⌝ }
+{
+    match place {
+        Place::At(_) => to,
+        Place::Nowhere => [255; 6],
+    }
+}
+
 impl Table {
+    // The station as which a frame is read.
+    fn reader_of(self, frame: &[u8]) -> [u8; 6]
+        ensures { λ r. ⌜ r ≡ readerOf self (now (frame .entry)) ⌝ }
+    {
+        let to = header::receiver(frame);
+        let rows = self.rows;
+        reader_at(row::place_of(rows, to), to)
+    }
+
     // The same with another row at a place.
     fn with_row(self, place: usize, row: Row) -> Table
         requires { ⌜ place < rowCount ⌝ }

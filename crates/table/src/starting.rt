@@ -38,6 +38,7 @@ impl Table {
         ap[0] % 2 == 1
     }
 
+    // It begins at clock 0, or is refused with 15.
     pub fn start(ap: [u8; 6], interval: u16) -> Started
         ensures { λ r. ⌜ r ≡ started (startMeans ap interval) ⌝ }
         ensures valid { λ r. ⌜ (r .answer ≡ Answer.Accepted → ValidTable (r .table)) ⌝ }

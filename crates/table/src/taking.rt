@@ -4,8 +4,8 @@ ghost use Prim.Native.Nat.{_<_};
 ghost use Rattle.frame.specs.declared.Received.{Received};
 ghost use Rattle.row.specs.Rows.{rowCount};
 ghost use Rattle.row.specs.declared.places.Place.{Place};
-ghost use Rattle.table.specs.CodeTerms.Hearing.{readerAt, PlaceWithin, rowsAfter};
-ghost use Rattle.table.specs.Tables.{readerOf, takeOf, withRows};
+ghost use Rattle.table.specs.CodeTerms.Hearing.{PlaceWithin, rowsAfter};
+ghost use Rattle.table.specs.Tables.{takeOf, withRows};
 ghost use Rattle.table.specs.Validity.{ValidTable};
 use crate::Table;
 use answer::Verdict;
@@ -19,26 +19,7 @@ pub struct Taken {
     pub table: Table,
 }
 
-// The station as which a frame to an address is read: that address, where a station of it sits at a place, or one that only frames to all ones reach.
-fn reader_at(place: Place, to: [u8; 6]) -> [u8; 6]
-    ensures { λ r. ⌜ r ≡ readerAt place to ⌝ }
-{
-    match place {
-        Place::At(_) => to,
-        Place::Nowhere => [255; 6],
-    }
-}
-
 impl Table {
-    // The station as which a frame is read.
-    pub fn reader_of(self, frame: &[u8]) -> [u8; 6]
-        ensures { λ r. ⌜ r ≡ readerOf self (now (frame .entry)) ⌝ }
-    {
-        let to = header::receiver(frame);
-        let rows = self.rows;
-        reader_at(row::place_of(rows, to), to)
-    }
-
     // What was read goes to the row at a place, or, where it was sent to no station alone, to all of them.
     fn heard(self, place: Place, received: Received) -> Table
         requires { ⌜ ValidTable self ⌝ }
@@ -58,6 +39,7 @@ impl Table {
         }
     }
 
+    // The frame is read once, whatever rows it goes to.
     pub fn take(self, frame: &[u8]) -> Taken
         requires { ⌜ ValidTable self ⌝ }
         ensures { λ r. ⌜ r ≡ takeOf self (now (frame .entry)) ⌝ }
@@ -67,7 +49,8 @@ impl Table {
         let rows = self.rows;
         let ap = self.ap;
         let place = row::place_of(rows, to);
-        let received = frame::read(frame, reader_at(place, to), ap, self.interval);
+        let own = crate::reader_at(place, to);
+        let received = frame::read(frame, own, ap, self.interval);
         let reading = received.reading;
         match reading {
             Reading::Refused(fault) => Taken {

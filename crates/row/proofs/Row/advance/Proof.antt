@@ -1,11 +1,8 @@
 -- `Row::advance` meets its contract: a free row stays, and the station of another advances. Assumes nothing.
-use mathlib.Core.Path.{sym, ap, _∙_, subst}
-use borrow.Author.Needs.{needs}
+use mathlib.Core.Path.{ap, _∙_}
 use borrow.Author.Tests.{not-true, not-false}
-use Rattle.station.specs.declared.Station.{Station}
 use Rattle.station.specs.declared.clock.Stepped.{Stepped}
-use Rattle.row.specs.Rows.{seated, ValidRow}
-use Rattle.row.specs.declared.Row.{Row}
+use Rattle.row.specs.Rows.{seated}
 use Rattle.row.proofs.RowLaws.{joined-valid, ticked-joined, ticked-free}
 use Rattle.row.proofs.Row.advance.Statement.{statement}
 use Rattle.row.proofs.Row.advance.Tie as tie
@@ -20,13 +17,10 @@ advance-requires c κs =
 
 returns-2 : tie.Need-returns-2
 returns-2 c =
-    let stepped = c .before .before .advance .ensures in
-    let e = c .before .before .before .before in
-    let a = e .before .before .args in (
-      c .taken-by .ensures ∙ ap (λ (x : Stepped). seated (x .station)) (stepped .0)
-          ∙ ticked-joined (a .self) (a .units) (not-false (a .self .joined) (e .if1 .left)),
-      subst ValidRow (sym (c .taken-by .ensures)) (stepped .1),
-    )
+    let stepped = c .before .advance .ensures in
+    let e = c .before .before .before in
+    let a = e .before .before .args in
+    (ap (λ (x : Stepped). seated (x .station)) (stepped .0) ∙ ticked-joined (a .self) (a .units) (not-false (a .self .joined) (e .if1 .left)), stepped .1)
 
 pub advance-spec : {M : Type 1} → statement M
-advance-spec = tie.close (tie.spec returns advance-requires (λ c κs. search needs) returns-2)
+advance-spec = tie.close (tie.spec returns advance-requires returns-2)

@@ -1,9 +1,8 @@
 -- `Row::hear` meets its contract: a free row stays, and the station of another hears what was read. Assumes nothing.
-use mathlib.Core.Path.{sym, ap, _∙_, subst}
-use borrow.Author.Needs.{needs}
+use mathlib.Core.Path.{ap, _∙_}
 use borrow.Author.Tests.{not-true, not-false}
 use Rattle.station.specs.declared.taking.Taken.{Taken}
-use Rattle.row.specs.Rows.{seated, ValidRow}
+use Rattle.row.specs.Rows.{seated}
 use Rattle.row.proofs.RowLaws.{joined-valid, heard-joined, heard-free}
 use Rattle.row.proofs.Row.hear.Statement.{statement}
 use Rattle.row.proofs.Row.hear.Tie as tie
@@ -20,13 +19,12 @@ heard-requires c κs =
 
 returns-2 : tie.Need-returns-2
 returns-2 c =
-    let taken = c .before .before .heard .ensures in
-    let e = c .before .before .before .before in
+    let taken = c .before .heard .ensures in
+    let e = c .before .before .before in
     let a = e .before .before .args in (
-      c .taken-by .ensures ∙ ap (λ (x : Taken). seated (x .station)) (taken .0)
-          ∙ heard-joined (a .self) (a .received) (not-false (a .self .joined) (e .if1 .left)),
-      λ allowed. subst ValidRow (sym (c .taken-by .ensures)) (taken .1 allowed),
+      ap (λ (x : Taken). seated (x .station)) (taken .0) ∙ heard-joined (a .self) (a .received) (not-false (a .self .joined) (e .if1 .left)),
+      λ allowed. taken .1 allowed,
     )
 
 pub hear-spec : {M : Type 1} → statement M
-hear-spec = tie.close (tie.spec returns heard-requires (λ c κs. search needs) returns-2)
+hear-spec = tie.close (tie.spec returns heard-requires returns-2)

@@ -3,8 +3,8 @@ use mathlib.Core.Path.{sym, ap}
 use borrow.Author.Needs.{needs}
 use Rattle.row.specs.declared.places.Place.{Place}
 use Rattle.table.specs.CodeTerms.Hearing.{readerAt}
-use Rattle.table.proofs.taking.reader_at.Statement.{statement}
-use Rattle.table.proofs.taking.reader_at.Tie as tie
+use Rattle.table.proofs.reader_at.Statement.{statement}
+use Rattle.table.proofs.reader_at.Tie as tie
 
 returns : tie.Need-returns
 returns c = sym (ap (λ (p : Place). readerAt p (c .before .before .args .to)) (c .enum-told .given .1))
