@@ -1,4 +1,4 @@
--- The answer numbers (01, "Answer numbers"; 02, One, for 7, 21 and 22, and Five, for 23).
+-- The answer numbers (01, "Answer numbers"; 02, One, for 7, 21 and 22, Five, for 23, and Six, for 24 to 26).
 use Prim.Native.Nat.{ℕ}
 use Rattle.answer.specs.declared.Answer.{Answer}
 use Rattle.answer.specs.declared.Refusal.{Refusal}
@@ -29,6 +29,9 @@ numberOf Refusal.RecordMalformed = 20
 numberOf Refusal.OtherElement = 21
 numberOf Refusal.LeftOver = 22
 numberOf Refusal.ForeignAnnouncement = 23
+numberOf Refusal.NoFreeRow = 24
+numberOf Refusal.AlreadyJoined = 25
+numberOf Refusal.NotJoined = 26
 
 -- 0 is accepted
 abbrev pub answerNumber : Answer → ℕ

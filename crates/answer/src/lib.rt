@@ -1,4 +1,4 @@
-// The answers of every call (document 01, "Answer numbers"; 02, One and Five): accepted, or one of twenty-three refusals, and where a frame broke.
+// The answers of every call (document 01, "Answer numbers"; 02, One, Five and Six): accepted, or one of twenty-six refusals, and where a frame broke.
 ghost use mathlib.Core.Path.{_≡_};
 ghost use Rattle.answer.specs.Faults.{faultAt, faultNowhere, verdictOffset};
 ghost use Rattle.answer.specs.Numbers.{numberOf, answerNumber, verdictNumber};
@@ -12,6 +12,7 @@ pub enum Refusal {
     // Version, type, subtype, a flag or the fragment number is not one that is read.
     ForeignHeader,
     // SA or BSSID is not the AP, or DA is neither the station nor all ones. In an IBSS: BSSID is not the station's, SA is a group, or DA is neither.
+    // In a table of stations (02, Six): DA is neither a station that is joined nor all ones.
     ForeignAddress,
     // The category is not 0, or the action is over 4.
     ForeignAction,
@@ -51,6 +52,12 @@ pub enum Refusal {
     LeftOver,
     // In an IBSS: an announcement by any but a known DFS owner.
     ForeignAnnouncement,
+    // In a table of stations: no row is free.
+    NoFreeRow,
+    // In a table of stations: the address is joined already.
+    AlreadyJoined,
+    // In a table of stations: the address is not joined.
+    NotJoined,
 }
 
 // What a call answers where its value stands beside it.
@@ -88,6 +95,9 @@ impl Refusal {
             Refusal::OtherElement => 21,
             Refusal::LeftOver => 22,
             Refusal::ForeignAnnouncement => 23,
+            Refusal::NoFreeRow => 24,
+            Refusal::AlreadyJoined => 25,
+            Refusal::NotJoined => 26,
         }
     }
 }

@@ -25,8 +25,8 @@ use Rattle.station.specs.Stations.{inUse, fresh, withClock, withUntil}
 use Rattle.station.specs.Taking.{schedulesOf, latestEnd, outlasting, rescheduled, constrained, announced, announcedIf, informed, heard}
 use Rattle.station.specs.declared.Station.{Station}
 use Rattle.capture_record.specs.declared.entry.Settings.{Settings}
-use Rattle.claims.specs.Histories.{Call, frame, advance, ask, History, tooFar, clockAfter, Listener, listener, Says, Tells, Announces, Latest, Throughout}
-use Rattle.claims.specs.Records.{recordAfter, Agreeing, Agrees}
+use Rattle.claims.specs.Histories.{Call, frame, advance, ask, History, tooFar, clockFrom, Listener, clockOf, listenerFrom, Says, Tells, Announces, Latest, Throughout}
+use Rattle.claims.specs.Records.{Agreeing, recordFrom, AgreesFrom, recordAfter, Agrees}
 use Rattle.claims.specs.Standing.{NoAnnouncement, Switches, at-once, NoSwitch, ChannelIs, PowerIs, PendingIs, SetsEach, SchedulesAre, UntilIs}
 use Rattle.claims.specs.Standing as Standing
 use Rattle.claims.proofs.BegunRuns.{until-gone, until-stays, until-replaced}
@@ -38,11 +38,11 @@ use Rattle.claims.proofs.Pendings.{no-switch, pending-stays, pending-go
 use Rattle.claims.proofs.StationFollows.{follows, kept}
 
 module _ (l : Listener) (sound : Sound l) (pos : 1 ≤ l .interval) where
-  -- ---- at the start
+  -- ---- at the beginning
 
-  at-start : (own ap' : List ℕ) → Agreeing l [] (fresh own ap' (l .interval) (l .channel))
-  unfolding clockAfter Latest Throughout
-  at-start own ap' =
+  at-beginning : (own ap' : List ℕ) → Agreeing l [] (withClock (fresh own ap' (l .interval) (l .channel)) (l .begins))
+  unfolding clockFrom Latest Throughout
+  at-beginning own ap' =
       record {
         same-interval = refl;
         same-clock = refl;
@@ -76,7 +76,7 @@ module _ (l : Listener) (sound : Sound l) (pos : 1 ≤ l .interval) where
   module _ (h : History) (r : Station) (a : Agreeing l h r) where
     -- ---- a call that changes nothing
 
-    idle : (c : Call) → clockAfter (c ∷ h) ≡ clockAfter h → NoAnnouncement l c h → ((said : Told) → Tells l c h said → ⊥) → Agreeing l (c ∷ h) r
+    idle : (c : Call) → clockOf l (c ∷ h) ≡ clockOf l h → NoAnnouncement l c h → ((said : Told) → Tells l c h said → ⊥) → Agreeing l (c ∷ h) r
     idle c still none silent =
         let calm = no-switch l sound pos c h still none in
         record {
@@ -90,13 +90,13 @@ module _ (l : Listener) (sound : Sound l) (pos : 1 ≤ l .interval) where
         }
 
     -- one that is heard as nothing
-    unheard : (c : Call) → clockAfter (c ∷ h) ≡ clockAfter h → ((k : Kind) → l .hears c h k → ⊥) → Agreeing l (c ∷ h) r
+    unheard : (c : Call) → clockOf l (c ∷ h) ≡ clockOf l h → ((k : Kind) → l .hears c h k → ⊥) → Agreeing l (c ∷ h) r
     unheard c still none = idle c still (λ w y. none (y .0) (y .1)) (λ said y. none (y .0) (y .1))
 
     -- ---- an accepted frame: `x` is the record before its announcement
 
-    module _ (c : Call) (k : Kind) (x : Station) (still : clockAfter (c ∷ h) ≡ clockAfter h) (hears : l .hears c h k)
-        (interval : x .interval ≡ l .interval) (clock : x .clock ≡ clockAfter h)
+    module _ (c : Call) (k : Kind) (x : Station) (still : clockOf l (c ∷ h) ≡ clockOf l h) (hears : l .hears c h k)
+        (interval : x .interval ≡ l .interval) (clock : x .clock ≡ clockOf l h)
         (channel : ChannelIs l h (x .channel)) (pending : PendingIs l h (x .pending))
         (power : NoSwitch l c h → PowerIs l (c ∷ h) (x .power)) (schedules : NoSwitch l c h → SchedulesAre l (c ∷ h) (inUse x))
         (until : NoSwitch l c h → UntilIs l (c ∷ h) (x .until)) where
@@ -160,7 +160,7 @@ module _ (l : Listener) (sound : Sound l) (pos : 1 ≤ l .interval) where
 
     -- ---- a beacon or a probe response
 
-    module _ (c : Call) (k : Kind) (said : Told) (still : clockAfter (c ∷ h) ≡ clockAfter h) (hears : l .hears c h k) (says' : Says k said)
+    module _ (c : Call) (k : Kind) (said : Told) (still : clockOf l (c ∷ h) ≡ clockOf l h) (hears : l .hears c h k) (says' : Says k said)
         (allowed : QuietsAllowed (l .interval) (said .quiets)) where
       tells : Tells l c h said
       tells = (k, hears, says')
@@ -172,7 +172,7 @@ module _ (l : Listener) (sound : Sound l) (pos : 1 ≤ l .interval) where
       new-schedules : NoSwitch l c h → SchedulesAre l (c ∷ h) (inUse replaced)
       new-schedules calm =
           rw (in-use (withUntil r (outlasting r)) (said .quiets), a .same-clock, a .same-interval)
-          (schedules-replaced l c h calm said tells _ (sets-each (clockAfter h) (said .quiets) allowed))
+          (schedules-replaced l c h calm said tells _ (sets-each (clockOf l h) (said .quiets) allowed))
 
       runs-on : NoSwitch l c h → UntilIs l (c ∷ h) (outlasting r)
       runs-on calm =
@@ -194,8 +194,8 @@ module _ (l : Listener) (sound : Sound l) (pos : 1 ≤ l .interval) where
     -- ---- any frame
 
     module _ (f : List ℕ) where
-      still-frame : clockAfter (frame f ∷ h) ≡ clockAfter h
-      unfolding clockAfter
+      still-frame : clockOf l (frame f ∷ h) ≡ clockOf l h
+      unfolding clockFrom
       still-frame = refl
 
       -- an action frame but the announcement
@@ -227,8 +227,8 @@ module _ (l : Listener) (sound : Sound l) (pos : 1 ≤ l .interval) where
 
     -- ---- the clock goes on
 
-    module _ (n : ℕ) (t : ℕ) (moves : clockAfter (advance n ∷ h) ≡ t) (on : clockAfter h ≤ t) where
-      onward : clockAfter h ≤ clockAfter (advance n ∷ h)
+    module _ (n : ℕ) (t : ℕ) (moves : clockOf l (advance n ∷ h) ≡ t) (on : clockOf l h ≤ t) where
+      onward : clockOf l h ≤ clockOf l (advance n ∷ h)
       onward = omega arith
 
       nobody : NoAnnouncement l (advance n) h
@@ -276,27 +276,27 @@ module _ (l : Listener) (sound : Sound l) (pos : 1 ≤ l .interval) where
               let w = before .0 in
               ⊎-elim
               (λ (y : ltb t (q .at) ≡ true).
-              let short : clockAfter (advance n ∷ h) < q .at = omega (arith, ltb-true t (q .at) y) in
+              let short : clockOf l (advance n ∷ h) < q .at = omega (arith, ltb-true t (q .at) y) in
               simp y
               (goes-on (not-reached l sound pos (advance n) h onward nobody (q .at) w (before .1) short)
               (subst (PendingIs l (advance n ∷ h)) (sym e)
               (w, still-awaited l sound pos (advance n) h onward nobody (q .at) w (before .1) short, before .2, before .3))))
               (λ (k : ltb t (q .at) ≡ false).
-              let come : q .at ≤ clockAfter (advance n ∷ h) = omega (arith, ltb-false t (q .at) k) in
+              let come : q .at ≤ clockOf l (advance n ∷ h) = omega (arith, ltb-false t (q .at) k) in
               simp k
               (subst (λ (m : ℕ). Agreeing l (advance n ∷ h) (switched (withClock r t) m)) (before .3)
               (meets w (Standing.reached (q .at) (before .1) come) (no-longer l sound pos (advance n) h onward nobody (q .at) w (before .1) come))))
               (either (ltb t (q .at)))
 
     module _ (n : ℕ) where
-      same-test : tooFar (r .clock) n ≡ tooFar (clockAfter h) n
+      same-test : tooFar (r .clock) n ≡ tooFar (clockOf l h) n
       same-test = rw (a .same-clock)
 
-      refused-stays : clockAfter (advance n ∷ h) ≡ clockAfter h → Agreeing l (advance n ∷ h) r
+      refused-stays : clockOf l (advance n ∷ h) ≡ clockOf l h → Agreeing l (advance n ∷ h) r
       refused-stays still = unheard (advance n) still (sound .advance-unheard n h)
 
       advances : Agreeing l (advance n ∷ h) (advanceOf r n .station)
-      unfolding advanceMeans clockAdvance clockAfter
+      unfolding advanceMeans clockAdvance clockFrom
       advances =
           ⊎-elim
           (λ (y : tooFar (r .clock) n ≡ true). simp y (refused-stays (simp (sym same-test ∙ y))))
@@ -321,17 +321,21 @@ module _ (l : Listener) (after : History → Station) (follow : Follows l after)
       (hearing .decided (frame f) h)
 
   pub agreeing : (h : History) → Agreeing l h (after h)
-  unfolding clockAfter
-  agreeing [] = subst (Agreeing l []) (sym (follow .starts .2)) (at-start l hearing pos (follow .starts .0) (follow .starts .1))
+  unfolding clockFrom
+  agreeing [] = subst (Agreeing l []) (sym (follow .starts .2)) (at-beginning l hearing pos (follow .starts .0) (follow .starts .1))
   agreeing (frame f ∷ h) = takes f h (agreeing h)
   agreeing (advance n ∷ h) = subst (Agreeing l (advance n ∷ h)) (sym (follow .advances n h)) (advances l hearing pos h (after h) (agreeing h) n)
   agreeing (ask n ∷ h) = subst (Agreeing l (ask n ∷ h)) (sym (follow .asks n h)) (unheard l hearing pos h (after h) (agreeing h) (ask n) refl (hearing .ask-unheard n h))
 
--- the station of 01
-pub agrees : (s : Settings) → 1 ≤ s .interval → (h : History) → Agrees s h (recordAfter s h)
-agrees s pos h =
+-- the station of 01, from any beginning
+pub agrees-from : (t : ℕ) (s : Settings) → 1 ≤ s .interval → (h : History) → AgreesFrom t s h (recordFrom t s h)
+agrees-from t s pos h =
     record {
-      same-own = ap (λ z. z .0) (kept s h);
-      same-ap = ap (λ z. z .1) (kept s h);
-      as-heard = agreeing (listener s) (recordAfter s) (follows s) pos h;
+      same-own = ap (λ z. z .0) (kept t s h);
+      same-ap = ap (λ z. z .1) (kept t s h);
+      as-heard = agreeing (listenerFrom t s) (recordFrom t s) (follows t s) pos h;
     }
+
+-- and so from its start
+pub agrees : (s : Settings) → 1 ≤ s .interval → (h : History) → Agrees s h (recordAfter s h)
+agrees s pos h = agrees-from 0 s pos h

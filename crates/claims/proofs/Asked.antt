@@ -15,13 +15,16 @@ use Rattle.schedule.proofs.FirstUnit.{found, some-one}
 use Rattle.station.specs.Asking.{firstOf, quiet, quietBetween, permissionNumber, permissionOf}
 use Rattle.station.specs.declared.Station.{Station}
 use Rattle.station.specs.declared.asking.Permission.{Permission}
-use Rattle.claims.specs.Histories.{History, clockAfter, Listener}
+use Rattle.capture_record.specs.declared.entry.Settings.{Settings}
+use Rattle.claims.specs.Histories.{History, Listener, clockOf, listenerFrom}
 use Rattle.claims.specs.OpenUnits.{QuietUnit, AllOpen, Waits, QuietLater, SwitchWithin, Applies}
-use Rattle.claims.specs.Records.{Agreeing}
+use Rattle.claims.specs.Records.{Agreeing, recordFrom}
 use Rattle.claims.specs.Standing.{Awaits, PendingIs}
+use Rattle.claims.proofs.Agreement.{agrees-from}
 use Rattle.claims.proofs.Following.{Sound}
 use Rattle.claims.proofs.OneSaying.{announced-one, pending-one}
 use Rattle.claims.proofs.QuietUnits.{quiet-unit, unit-quiet}
+use Rattle.claims.proofs.StationFollows.{sound}
 
 -- a test that says whether something holds
 record Tells-whether (t : Bool) (P : Type 0) : Type 0 where
@@ -64,11 +67,11 @@ module _ (l : Listener) (sound : Sound l) (pos : 1 ≤ l .interval) (h : History
 
   -- ---- the quiet units
 
-  quiet-now : Tells-whether (quiet r (r .clock)) (QuietUnit l h (clockAfter h))
+  quiet-now : Tells-whether (quiet r (r .clock)) (QuietUnit l h (clockOf l h))
   quiet-now =
       record {
-        holds = λ e. quiet-unit l sound pos h (clockAfter h) r a (le-refl _) (subst (λ (u : ℕ). quiet r u ≡ true) (a .same-clock) e);
-        shows = λ q. subst (λ (u : ℕ). quiet r u ≡ true) (sym (a .same-clock)) (unit-quiet l sound pos h (clockAfter h) r a (le-refl _) q);
+        holds = λ e. quiet-unit l sound pos h (clockOf l h) r a (le-refl _) (subst (λ (u : ℕ). quiet r u ≡ true) (a .same-clock) e);
+        shows = λ q. subst (λ (u : ℕ). quiet r u ≡ true) (sym (a .same-clock)) (unit-quiet l sound pos h (clockOf l h) r a (le-refl _) q);
       }
 
   -- before the end, and before the pending switch, if any
@@ -120,7 +123,7 @@ module _ (l : Listener) (sound : Sound l) (pos : 1 ≤ l .interval) (h : History
   -- ---- the answers
 
   module _ (n : ℕ) where
-    all-open : (Waits l h → ⊥) → (QuietUnit l h (clockAfter h) → ⊥) → (QuietLater l h n → ⊥) → (SwitchWithin l h n → ⊥) → AllOpen l h n
+    all-open : (Waits l h → ⊥) → (QuietUnit l h (clockOf l h) → ⊥) → (QuietLater l h n → ⊥) → (SwitchWithin l h n → ⊥) → AllOpen l h n
     all-open no-wait not-now not-later not-within u lo hi =
         record {
           before-switch = before;
@@ -132,15 +135,15 @@ module _ (l : Listener) (sound : Sound l) (pos : 1 ≤ l .interval) (h : History
         before : (at : ℕ) (w : ChannelSwitch) → Awaits l h at w → u < at
         before at w x =
             ⊎-elim
-            (λ (y : ltb at (clockAfter h + n) ≡ true). absurd (not-within (at, w, x, ltb-true at (clockAfter h + n) y)))
-            (λ (k : ltb at (clockAfter h + n) ≡ false). omega (arith, ltb-false at (clockAfter h + n) k))
-            (either (ltb at (clockAfter h + n)))
+            (λ (y : ltb at (clockOf l h + n) ≡ true). absurd (not-within (at, w, x, ltb-true at (clockOf l h + n) y)))
+            (λ (k : ltb at (clockOf l h + n) ≡ false). omega (arith, ltb-false at (clockOf l h + n) k))
+            (either (ltb at (clockOf l h + n)))
 
         not-quiet : QuietUnit l h u → ⊥
         not-quiet q =
             ⊎-elim
-            (λ (e : clockAfter h ≡ u). not-now (subst (QuietUnit l h) (sym e) q))
-            (λ (k : clockAfter h < u). not-later (u, k, hi, before, q))
+            (λ (e : clockOf l h ≡ u). not-now (subst (QuietUnit l h) (sym e) q))
+            (λ (k : clockOf l h < u). not-later (u, k, hi, before, q))
             (eq-or-lt-of-le lo)
 
     -- the first that applies is the answer
@@ -171,9 +174,9 @@ module _ (l : Listener) (sound : Sound l) (pos : 1 ≤ l .interval) (h : History
 
     -- where every unit is open, nothing else applies
     open-no-wait : 1 ≤ n → AllOpen l h n → Waits l h → ⊥
-    open-no-wait more open-all (at, w, x, m) = open-all (clockAfter h) (le-refl _) (omega arith) .no-wait at w x m (x .1)
+    open-no-wait more open-all (at, w, x, m) = open-all (clockOf l h) (le-refl _) (omega arith) .no-wait at w x m (x .1)
 
-    open-not-quiet : AllOpen l h n → (u : ℕ) → clockAfter h ≤ u → u < clockAfter h + n → QuietUnit l h u → ⊥
+    open-not-quiet : AllOpen l h n → (u : ℕ) → clockOf l h ≤ u → u < clockOf l h + n → QuietUnit l h u → ⊥
     open-not-quiet open-all u lo hi q = ⊎-elim (open-all u lo hi .not-set) (open-all u lo hi .not-begun) q
 
     open-not-later : AllOpen l h n → QuietLater l h n → ⊥
@@ -199,7 +202,7 @@ module _ (l : Listener) (sound : Sound l) (pos : 1 ≤ l .interval) (h : History
           ne-eqb n 0 (λ z. omega arith),
           le-ltb 65535 n hi,
           denies waits (open-no-wait lo o),
-          denies quiet-now (open-not-quiet o (clockAfter h) (le-refl _) (omega arith)),
+          denies quiet-now (open-not-quiet o (clockOf l h) (le-refl _) (omega arith)),
           denies (quiet-later n) (open-not-later o),
           denies (within n) (open-not-within o),
         )
@@ -221,3 +224,11 @@ module _ (l : Listener) (sound : Sound l) (pos : 1 ≤ l .interval) (h : History
         is-granted Permission.QuietLater e = absurd (omega arith)
         is-granted Permission.SwitchBefore e = absurd (omega arith)
         is-granted Permission.WrongLength e = absurd (omega arith)
+
+-- the station of 01, from any beginning
+module _ (t : ℕ) (s : Settings) (pos : 1 ≤ s .interval) (h : History) (n : ℕ) where
+  pub answered-from : (p : Permission) → (permissionOf (recordFrom t s h) n ≡ p) ↔ Applies (listenerFrom t s) h n p
+  answered-from p = answered (listenerFrom t s) (sound t s) pos h (recordFrom t s h) (agrees-from t s pos h .as-heard) n p
+
+  pub granted-from : 1 ≤ n → n ≤ 65535 → (permissionNumber (permissionOf (recordFrom t s h) n) ≡ 0) ↔ AllOpen (listenerFrom t s) h n
+  granted-from lo hi = granted-open (listenerFrom t s) (sound t s) pos h (recordFrom t s h) (agrees-from t s pos h .as-heard) n lo hi

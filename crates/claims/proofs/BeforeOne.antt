@@ -343,6 +343,9 @@ numbered-before Refusal.RecordMalformed = inl refl
 numbered-before Refusal.OtherElement = inr (refl, inl refl)
 numbered-before Refusal.LeftOver = inr (refl, inr refl)
 numbered-before Refusal.ForeignAnnouncement = inl refl
+numbered-before Refusal.NoFreeRow = inl refl
+numbered-before Refusal.AlreadyJoined = inl refl
+numbered-before Refusal.NotJoined = inl refl
 
 -- a frame that is refused was refused, and with the same number, or with 7 where it is 21 or 22 now
 pub only-seven : (own ap' : List ℕ) (b : ℕ) (f : List ℕ) (x : Fault) → NothingPassed own ap' f → frameMeans own ap' b f ≡ refused x

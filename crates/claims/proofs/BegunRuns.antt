@@ -13,7 +13,7 @@ use Rattle.schedule.proofs.Ends.{none-later}
 use Rattle.schedule.specs.Schedules.{EndsAt}
 use Rattle.schedule.specs.declared.Schedule.{Schedule}
 use Rattle.station.specs.Taking.{latestEnd}
-use Rattle.claims.specs.Histories.{Call, frame, advance, ask, History, tooFar, clockAfter, Listener, Says, Tells, Latest}
+use Rattle.claims.specs.Histories.{Call, frame, advance, ask, History, tooFar, clockFrom, Listener, clockOf, Says, Tells, Latest}
 use Rattle.claims.specs.Standing.{Switches, NoSwitch, BegunNow, Begun, RunsOn, SetsEach, SchedulesAre, UntilIs}
 use Rattle.claims.proofs.CoveredUnits.{ends-begun, begun-ends}
 use Rattle.claims.proofs.Following.{Sound}
@@ -21,15 +21,15 @@ use Rattle.claims.proofs.LatestEnds.{after-first, after-each, one-of}
 use Rattle.claims.proofs.OneSaying.{counts-one}
 use Rattle.claims.proofs.SetSchedules.{counts-allowed, counted-once, set-by-some, sets-some}
 
--- no call sets the clock back
-onward : (c : Call) (h : History) → clockAfter h ≤ clockAfter (c ∷ h)
-unfolding clockAfter
-onward (frame f) h = omega arith
-onward (advance n) h =
-    ⊎-elim (λ (y : tooFar (clockAfter h) n ≡ true). simp y (omega arith)) (λ (k : tooFar (clockAfter h) n ≡ false). simp k (omega arith)) (either (tooFar (clockAfter h) n))
-onward (ask n) h = omega arith
-
 module _ (l : Listener) (sound : Sound l) where
+  -- no call sets the clock back
+  onward : (c : Call) (h : History) → clockOf l h ≤ clockOf l (c ∷ h)
+  unfolding clockFrom
+  onward (frame f) h = omega arith
+  onward (advance n) h =
+      ⊎-elim (λ (y : tooFar (clockOf l h) n ≡ true). simp y (omega arith)) (λ (k : tooFar (clockOf l h) n ≡ false). simp k (omega arith)) (either (tooFar (clockOf l h) n))
+  onward (ask n) h = omega arith
+
   -- a call is an accepted beacon or probe response, or it is not
   tells-or-not : (c : Call) (h : History) → ((said : Told) × Tells l c h said) ⊎ ((said : Told) → Tells l c h said → ⊥)
   tells-or-not c h = ⊎-elim (λ x. by-kind (x .0) (x .1)) (λ none. inr (λ said y. none (y .0) (y .1))) (sound .decided c h)
@@ -47,7 +47,7 @@ module _ (l : Listener) (sound : Sound l) where
   begun-now (c ∷ h) a e now = inl now
 
   -- what runs on has begun
-  pub runs-on-begun : (h : History) (e : ℕ) → RunsOn l h e → (a : ℕ) × Begun l h a e × (a ≤ clockAfter h)
+  pub runs-on-begun : (h : History) (e : ℕ) → RunsOn l h e → (a : ℕ) × Begun l h a e × (a ≤ clockOf l h)
   unfolding Latest
   runs-on-begun [] e x = absurd x
   runs-on-begun (c ∷ h) e (inl (told, calm, (a, now))) = (a, inr (calm, begun-now h a e now), omega (arith, now .begun, onward c h))
@@ -82,19 +82,19 @@ module _ (l : Listener) (sound : Sound l) where
   -- ---- the ends of the schedules' runs are those of the latest frame's runs
 
   module _ (pos : 1 ≤ l .interval) (h : History) (xs : List Schedule) (schedules : SchedulesAre l h xs) (e : ℕ) where
-    now-ends : (a : ℕ) → BegunNow l h a e → (x : Schedule) × List·Memᴰ x xs × EndsAt x (clockAfter h) e
+    now-ends : (a : ℕ) → BegunNow l h a e → (x : Schedule) × List·Memᴰ x xs × EndsAt x (clockOf l h) e
     now-ends a now = by-schedules schedules
       where
-        by-schedules : SchedulesAre l h xs → (x : Schedule) × List·Memᴰ x xs × EndsAt x (clockAfter h) e
+        by-schedules : SchedulesAre l h xs → (x : Schedule) × List·Memᴰ x xs × EndsAt x (clockOf l h) e
         by-schedules (inl (f, z)) = absurd (f (now .said) (now .accepted) (now .counts))
         by-schedules (inr (said, t, counts, each)) =
             let same = counts-one l sound pos h (said, t) (now .said, now .accepted) counts (now .counts) in
             let each' : SetsEach l (now .accepted) (now .said .quiets) xs = subst (λ (z : Told × ℕ). SetsEach l (z .1) (z .0 .quiets) xs) same each in
             let w = sets-some l (now .accepted) (now .said .quiets) xs (now .quiet) each' (now .among) in
             let once = counted-once l (now .said .quiets) (now .quiet) (counts-allowed l sound h (now .said) (now .accepted) (now .counts)) (now .among) in
-            (w .0, w .1, begun-ends l pos (now .accepted) (now .quiet) (w .0) (w .2) once (clockAfter h) e a (now .begins) (now .begun) (now .ends))
+            (w .0, w .1, begun-ends l pos (now .accepted) (now .quiet) (w .0) (w .2) once (clockOf l h) e a (now .begins) (now .begun) (now .ends))
 
-    ends-now : (x : Schedule) → List·Memᴰ x xs → EndsAt x (clockAfter h) e → (a : ℕ) × BegunNow l h a e
+    ends-now : (x : Schedule) → List·Memᴰ x xs → EndsAt x (clockOf l h) e → (a : ℕ) × BegunNow l h a e
     ends-now x m ends = by-schedules schedules
       where
         by-schedules : SchedulesAre l h xs → (a : ℕ) × BegunNow l h a e
@@ -102,7 +102,7 @@ module _ (l : Listener) (sound : Sound l) where
         by-schedules (inr (said, t, counts, each)) =
             let w = set-by-some l t (said .quiets) xs x each m in
             let once = counted-once l (said .quiets) (w .0) (counts-allowed l sound h said t counts) (w .1) in
-            let b = ends-begun l pos t (w .0) x (w .2) once (clockAfter h) e ends in (
+            let b = ends-begun l pos t (w .0) x (w .2) once (clockOf l h) e ends in (
               b .0,
               record { said = said; accepted = t; counts = counts; quiet = w .0; among = w .1; begins = b .1; begun = b .2; ends = b .3 },
             )
@@ -130,19 +130,19 @@ module _ (l : Listener) (c : Call) (h : History) where
 
     -- a beacon or a probe response: what the schedules began runs on too
     pub until-replaced : Sound l → 1 ≤ l .interval → (said : Told) → Tells l c h said → (xs : List Schedule) → SchedulesAre l h xs
-        → UntilIs l (c ∷ h) (latestEnd (clockAfter h) n xs)
+        → UntilIs l (c ∷ h) (latestEnd (clockOf l h) n xs)
     unfolding Latest
-    until-replaced sound pos said tells xs schedules = (none-later-on, ⊎-elim as-before of-these (one-of (clockAfter h) xs n))
+    until-replaced sound pos said tells xs schedules = (none-later-on, ⊎-elim as-before of-these (one-of (clockOf l h) xs n))
       where
-        none-later-on : (e : ℕ) → RunsOn l (c ∷ h) e → e ≤ latestEnd (clockAfter h) n xs
+        none-later-on : (e : ℕ) → RunsOn l (c ∷ h) e → e ≤ latestEnd (clockOf l h) n xs
         none-later-on e (inl (told, z, (a, now))) =
             let w = now-ends l sound pos h xs schedules e a now in
-            omega (arith, none-later (w .0) (clockAfter h) e (w .2), after-each (clockAfter h) xs n (w .0) (w .1))
-        none-later-on e (inr (z, last)) = omega (arith, until .0 e last, after-first (clockAfter h) xs n)
+            omega (arith, none-later (w .0) (clockOf l h) e (w .2), after-each (clockOf l h) xs n (w .0) (w .1))
+        none-later-on e (inr (z, last)) = omega (arith, until .0 e last, after-first (clockOf l h) xs n)
 
-        as-before : latestEnd (clockAfter h) n xs ≡ n → (latestEnd (clockAfter h) n xs ≡ 0) ⊎ RunsOn l (c ∷ h) (latestEnd (clockAfter h) n xs)
+        as-before : latestEnd (clockOf l h) n xs ≡ n → (latestEnd (clockOf l h) n xs ≡ 0) ⊎ RunsOn l (c ∷ h) (latestEnd (clockOf l h) n xs)
         as-before e = ⊎-elim (λ z. inl (e ∙ z)) (λ last. inr (inr (calm, subst (RunsOn l h) (sym e) last))) (until .1)
 
-        of-these : (x : Schedule) × List·Memᴰ x xs × EndsAt x (clockAfter h) (latestEnd (clockAfter h) n xs)
-            → (latestEnd (clockAfter h) n xs ≡ 0) ⊎ RunsOn l (c ∷ h) (latestEnd (clockAfter h) n xs)
-        of-these (x, m, ends) = inr (inl ((said, tells), calm, ends-now l sound pos h xs schedules (latestEnd (clockAfter h) n xs) x m ends))
+        of-these : (x : Schedule) × List·Memᴰ x xs × EndsAt x (clockOf l h) (latestEnd (clockOf l h) n xs)
+            → (latestEnd (clockOf l h) n xs ≡ 0) ⊎ RunsOn l (c ∷ h) (latestEnd (clockOf l h) n xs)
+        of-these (x, m, ends) = inr (inl ((said, tells), calm, ends-now l sound pos h xs schedules (latestEnd (clockOf l h) n xs) x m ends))

@@ -24,11 +24,10 @@ use Rattle.station.specs.declared.starting.Started.{Started}
 use Rattle.capture_record.specs.declared.entry.Settings.{Settings}
 use Rattle.claims.specs.Histories.{frame, advance, ask, History, listener}
 use Rattle.claims.specs.OpenUnits.{AllOpen, Applies}
-use Rattle.claims.specs.Records.{recordAfter, Agrees}
+use Rattle.claims.specs.Records.{recordFrom, recordAfter, Agrees}
 use Rattle.claims.specs.Runs.{Starts, Takes, Advances, Asks, Ran}
 use Rattle.claims.proofs.Agreement.{agrees}
-use Rattle.claims.proofs.Asked.{answered, granted-open}
-use Rattle.claims.proofs.StationFollows.{sound}
+use Rattle.claims.proofs.Asked.{answered-from, granted-from}
 
 -- ---- what each call leaves
 
@@ -45,7 +44,7 @@ start-accepted own ap' b channel e =
 
 module _ (s : Settings) where
   leaves-start : (r : Station) → Starts s r → (r ≡ recordAfter s []) × Valid r
-  unfolding recordAfter
+  unfolding recordFrom
   leaves-start r (κs, a, x, e, promise, (own, ap', interval, channel, accepted, result)) =
       let same : x ≡ started (startMeans (s .own) (s .ap) (s .interval) (s .channel)) = rw (← own, ← ap', ← interval, ← channel) (promise .0) in (
         sym result ∙ ap (λ (y : Started). y .station) same ∙ start-accepted (s .own) (s .ap) (s .interval) (s .channel) (ap (λ (y : Started). y .answer) (sym same) ∙ accepted),
@@ -69,7 +68,7 @@ module _ (s : Settings) where
 
   -- the functions, run call by call, arrive at the record that the history speaks of, and it is valid
   pub arrives : (h : History) (r : Station) → Ran s h r → (r ≡ recordAfter s h) × Valid r
-  unfolding Ran recordAfter
+  unfolding Ran recordFrom
   arrives [] r x = leaves-start r x
   arrives (frame f ∷ h) r (before, ran, took) =
       let w = leaves-take before r f took in
@@ -81,7 +80,7 @@ module _ (s : Settings) where
 
   -- an accepted start has an interval
   interval-positive : (h : History) (r : Station) → Ran s h r → 1 ≤ s .interval
-  unfolding Ran recordAfter
+  unfolding Ran recordFrom
   interval-positive [] r x = let w = leaves-start r x in omega (arith, ap (λ (y : Station). y .interval) (w .0), w .1 .interval-positive)
   interval-positive (frame f ∷ h) r (before, ran, took) = interval-positive h before ran
   interval-positive (advance n ∷ h) r (before, ran, advanced) = interval-positive h before ran
@@ -95,15 +94,17 @@ module _ (s : Settings) where
     pub agreed : Agrees s h r
     agreed = subst (Agrees s h) (sym (arrives h r ran .0)) (agrees s (interval-positive h r ran) h)
 
+    -- an answer is that of the record that the history speaks of
+    as-recorded : (n : ℕ) (p : Permission) → Asks r n p → p ≡ permissionOf (recordAfter s h) n
+    as-recorded n p x = answers-ask r n p x ∙ ap (λ (y : Station). permissionOf y n) (arrives h r ran .0)
+
     -- each of the answers is given exactly where the history says so
     pub asked : (n : ℕ) (p q : Permission) → Asks r n p → (p ≡ q) ↔ Applies (listener s) h n q
     asked n p q x =
-        let w = answered (listener s) (sound s) (interval-positive h r ran) h r (agreed .as-heard) n q in
-        (λ e. w .0 (sym (answers-ask r n p x) ∙ e), λ y. answers-ask r n p x ∙ w .1 y)
+        subst (λ (y : Permission). (y ≡ q) ↔ Applies (listener s) h n q) (sym (as-recorded n p x)) (answered-from 0 s (interval-positive h r ran) h n q)
 
     -- a question to send for 1 to 65,535 TU is granted exactly if each unit that it would cover is open
     pub granted : (n : ℕ) → 1 ≤ n → n ≤ 65535 → (p : Permission) → Asks r n p → (permissionNumber p ≡ 0) ↔ AllOpen (listener s) h n
     granted n lo hi p x =
-        let same = ap permissionNumber (answers-ask r n p x) in
-        let w = granted-open (listener s) (sound s) (interval-positive h r ran) h r (agreed .as-heard) n lo hi in
-        (λ e. w .0 (sym same ∙ e), λ o. same ∙ w .1 o)
+        subst (λ (y : Permission). (permissionNumber y ≡ 0) ↔ AllOpen (listener s) h n) (sym (as-recorded n p x))
+        (granted-from 0 s (interval-positive h r ran) h n lo hi)

@@ -37,14 +37,13 @@ use Rattle.station.specs.declared.clock.Advanced.{Advanced}
 use Rattle.capture.specs.Lines.{lineOf, closingOf}
 use Rattle.capture.specs.declared.words.Word.{Word}
 use Rattle.capture_record.specs.declared.entry.Settings.{Settings}
-use Rattle.claims.specs.Histories.{History, tooFar, listener}
+use Rattle.claims.specs.Histories.{History, tooFar}
 use Rattle.claims.specs.HistoryLines.{Followed, nobody, since, refusesStart, followedAfter, says, saysFrame, Tells, TellsRecords, TellsBlock, TellsBlocks, ToldByHistories}
 use Rattle.claims.specs.Numbered.{Said, numberedFrom}
-use Rattle.claims.specs.Records.{recordAfter, Agrees}
+use Rattle.claims.specs.Records.{recordFrom, recordAfter, Agrees}
 use Rattle.claims.proofs.Agreement.{agrees}
-use Rattle.claims.proofs.Asked.{answered}
+use Rattle.claims.proofs.Asked.{answered-from}
 use Rattle.claims.proofs.ListedFiles.{numbered-append, blocks-counted}
-use Rattle.claims.proofs.StationFollows.{sound}
 
 -- the lister follows the station of this history, or none
 Matches : Lister → Followed → Type 0
@@ -112,7 +111,7 @@ module _ (l : Lister) (x : Followed) (s : Settings) where
       → (forbidden ≡ true → o ≡ refused Refusal.BadStart)
       → (forbidden ≡ false → o ≡ accepted (Stations.fresh (s .own) (s .ap) (s .interval) (s .channel)))
       → One l x (starting s) (started l o)
-  unfolding Matches recordAfter
+  unfolding Matches recordFrom
   one-start o true f refuses starts =
       subst (λ (p : Outcome Station). One l x (starting s) (started l p)) (sym (refuses refl))
       (record {
@@ -149,7 +148,7 @@ module _ (l : Lister) (s : Settings) (h : History) (active : l .active ≡ true)
   agreed = subst (Agrees s h) (sym same) (agrees s positive h)
 
   one-advance : (n : ℕ) → One l (since s h) (advancing n) (stepped l (advanceOf (l .station) n))
-  unfolding Matches recordAfter
+  unfolding Matches recordFrom
   one-advance n =
       record {
         said = says Word.Advance (answerNumber (advanceOf (l .station) n .answer));
@@ -160,7 +159,7 @@ module _ (l : Lister) (s : Settings) (h : History) (active : l .active ≡ true)
       }
 
   one-frame : (f : List ℕ) → One l (since s h) (hearing f) (Lists.taken l (takeOf (l .station) f))
-  unfolding Matches recordAfter
+  unfolding Matches recordFrom
   one-frame f =
       let settled : frameMeans (l .station .own) (l .station .ap) (l .station .interval) f ≡ frameMeans (s .own) (s .ap) (s .interval) f = rw (agreed .same-own, agreed .same-ap, agreed .as-heard .same-interval) in
       record {
@@ -172,11 +171,11 @@ module _ (l : Lister) (s : Settings) (h : History) (active : l .active ≡ true)
       }
 
   one-ask : (n : ℕ) → One l (since s h) (asking n) (line l Word.Ask (Response.Question (permissionOf (l .station) n)))
-  unfolding Matches recordAfter
+  unfolding Matches recordFrom
   one-ask n =
       record {
         said = says Word.Ask (permissionNumber (permissionOf (l .station) n));
-        tells = (permissionOf (l .station) n, answered (listener s) (sound s) positive h (l .station) (agreed .as-heard) n (permissionOf (l .station) n) .0 refl, refl);
+        tells = (permissionOf (l .station) n, answered-from 0 s positive h n (permissionOf (l .station) n) .0 (ap (λ (r : Station). permissionOf r n) (sym same)), refl);
         text = refl;
         line-count = refl;
         keeps = (active, same, positive);

@@ -24,7 +24,8 @@ pub mod Following
 pub mod HistoriesTell
 pub mod IbssReadings
 pub mod IbssReplies
-pub mod KeptThroughout
+pub mod Isolation
+pub mod JoinedRows
 pub mod LatestEnds
 pub mod ListedFiles
 pub mod MeasurementItems
@@ -41,6 +42,7 @@ pub mod OneOutcomeFrames
 pub mod OneOutcomeLeaves
 pub mod OneOutcomeMembers
 pub mod OneOutcomeOwners
+pub mod OneOutcomeTables
 pub mod OneOutcomeWalk
 pub mod OneRecord
 pub mod OneSaying
@@ -71,6 +73,13 @@ pub mod SoundBefore
 pub mod StationFollows
 pub mod StationWitnesses
 pub mod Stations
+pub mod TableAnswers
+pub mod TableDemand3
+pub mod TableMeans
+pub mod TableRows
+pub mod TableStays
+pub mod TableWitnesses
 pub mod TakenOut
 pub mod TbttsPassed
+pub mod WhoIsJoined
 pub mod Witnesses

@@ -36,7 +36,7 @@ use Rattle.claims.specs.Reigns.{readAs, reigning, ibssListener}
 use Rattle.claims.specs.Standing.{LastAnnounced, Switches, at-once, reached, NoSwitch, ChannelIs, PendingIs}
 use Rattle.claims.proofs.Agreement.{agreeing}
 use Rattle.claims.proofs.Asked.{answered, granted-open}
-use Rattle.claims.proofs.KeptThroughout.{KeptThroughout}
+use Rattle.station.proofs.KeptThroughout.{KeptThroughout}
 use Rattle.claims.proofs.MemberFollows.{tells, step-as, verdict-as, member-follows, sound}
 use Rattle.claims.proofs.OneRecord.{alike, same-station}
 use Rattle.claims.proofs.OwnersNamed.{none-obeyed}

@@ -33,12 +33,12 @@ use Rattle.station.specs.Clock.{reached, clockAdvance, advancedTo, advanceMeans
 use Rattle.station.specs.Taking.{heard}
 use Rattle.station.specs.declared.Station.{Station}
 use Rattle.station.specs.declared.clock.Advanced.{Advanced}
-use Rattle.claims.specs.Histories.{Call, frame, advance, ask, History, tooFar, clockAfter}
+use Rattle.claims.specs.Histories.{Call, frame, advance, ask, History, tooFar, clockFrom, clockAfter}
 use Rattle.claims.specs.MemberRecords.{ownerTold, verdictTold, memberAfter}
 use Rattle.claims.specs.Reigns.{Reigning, overUnits, namingAt, foreignTo, afterKind, afterFrame, readAs, reigning, Accepts, ibssListener}
 use Rattle.claims.proofs.Following.{Sound, Follows}
 use Rattle.claims.proofs.IbssReadings.{read-allowed, recovery-some, beacons-only}
-use Rattle.claims.proofs.KeptThroughout.{KeptThroughout, keptBy, heard-keeps, heard-clock, advance-keeps}
+use Rattle.station.proofs.KeptThroughout.{KeptThroughout, keptBy, heard-keeps, heard-clock, advance-keeps}
 use Rattle.claims.proofs.OwnersTold.{Lasting, units-last, units-told, owns-told, naming-told, heard-told, naming-lasts, hearing-lasts}
 use Rattle.claims.proofs.Same.{accepted-once}
 
@@ -162,7 +162,7 @@ module _ (s : Settings) where
     pub owner : memberAfter s h .owner ≡ ownerTold (s .interval) (clockAfter h) (reigning s h)
 
   at-start : Tells []
-  unfolding memberAfter reigning clockAfter
+  unfolding memberAfter reigning clockFrom
   at-start = record { settings = refl; clock = refl; lasting = tt; owner = refl }
 
   -- ---- a frame
@@ -183,7 +183,7 @@ module _ (s : Settings) where
     reigns-as o e = ap (λ (z : Placed SentInIbss). afterFrame (clockAfter h) z w) e
 
     same-clock : clockAfter (frame f ∷ h) ≡ clockAfter h
-    unfolding clockAfter
+    unfolding clockFrom
     same-clock = refl
 
     -- the frame leaves this record and this owner
@@ -268,7 +268,7 @@ module _ (s : Settings) where
         ∙ sym (units-told (s .interval) (reigning s h) (clockAfter h) n (t .lasting))
 
     advancing : Tells (advance n ∷ h)
-    unfolding memberAfter reigning clockAfter
+    unfolding memberAfter reigning clockFrom
     advancing =
         let p = advance-parts m' n in
         record {
@@ -291,7 +291,7 @@ module _ (s : Settings) where
         by-owner false = past-as
 
   asking : (n : ℕ) (h : History) → Tells h → Tells (ask n ∷ h)
-  unfolding memberAfter reigning clockAfter
+  unfolding memberAfter reigning clockFrom
   asking n h t = record { settings = t .settings; clock = t .clock; lasting = t .lasting; owner = t .owner }
 
   pub tells : (h : History) → Tells h

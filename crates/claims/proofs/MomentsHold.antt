@@ -20,8 +20,8 @@ use Rattle.station.specs.Clock.{clockAdvance, advanceMeans}
 use Rattle.station.specs.Taking.{latestEnd, announced, informed, takeMeans}
 use Rattle.walk.specs.Elements.{elementsAfter, elementsIn}
 use Rattle.claims.specs.Moments.{AllRight, moments}
-use Rattle.claims.specs.Records.{recordAfter}
+use Rattle.claims.specs.Records.{recordFrom}
 
 pub all-right : AllRight moments
-unfolding recordAfter takeMeans frameMeans headerMeans managementMeans addressMeans foreignHeader foreignAddress toAll beaconMeans checked says takes elementMeans elementsIn elementsAfter quietMeans switchMeans fixed actionMeans opensWith required handing passing nothingLeft single announced informed latestEnd endBegun clockAdvance advanceMeans permissionOf firstOf quiet coveredBy someUnit covered densitiesOf possible fractionOf ceiling
+unfolding recordFrom takeMeans frameMeans headerMeans managementMeans addressMeans foreignHeader foreignAddress toAll beaconMeans checked says takes elementMeans elementsIn elementsAfter quietMeans switchMeans fixed actionMeans opensWith required handing passing nothingLeft single announced informed latestEnd endBegun clockAdvance advanceMeans permissionOf firstOf quiet coveredBy someUnit covered densitiesOf possible fractionOf ceiling
 all-right = (refl, (refl, (refl, (refl, (refl, (refl, (refl, (refl, (refl, (refl, (refl, (refl, (refl, (refl, (refl, (refl, ((refl, refl), tt)))))))))))))))))

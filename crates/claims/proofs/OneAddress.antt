@@ -36,11 +36,11 @@ use Rattle.claims.specs.Histories.{frame, advance, ask, History, Through
 use Rattle.claims.specs.MemberRecords.{memberAfter, verdictTold}
 use Rattle.claims.specs.MemberRuns.{MemberTakes, MemberAdvances, MemberAsks, MemberRan}
 use Rattle.claims.specs.OneAddress.{FromOne, CallFromOne, AllFromOne, allFromAp, StationJudges, StationSteps}
-use Rattle.claims.specs.Records.{recordAfter}
+use Rattle.claims.specs.Records.{recordFrom, recordAfter}
 use Rattle.claims.specs.Reigns.{Reigning, nobody, reigns, reignOf, owns, namingAt, foreignTo, readAs, reigning}
 use Rattle.claims.specs.Runs.{Asks, Ran}
 use Rattle.claims.proofs.Demand3 as Demand3
-use Rattle.claims.proofs.KeptThroughout.{KeptThroughout}
+use Rattle.station.proofs.KeptThroughout.{KeptThroughout}
 use Rattle.claims.proofs.MemberDemand3 as MemberDemand3
 use Rattle.claims.proofs.MemberFollows.{member-follows, verdict-as}
 use Rattle.claims.proofs.StationFollows.{follows, kept}
@@ -66,7 +66,7 @@ step-answer m n = by (advanceMeans (m .station) n)
 
 module _ (s : Settings) where
   started : memberAfter s [] .station ≡ recordAfter s []
-  unfolding memberAfter recordAfter
+  unfolding memberAfter recordFrom
   started = refl
 
   -- ---- document 01's verdict on a frame
@@ -81,7 +81,7 @@ module _ (s : Settings) where
   station-verdict : (h : History) (f : List ℕ) → takeOf (recordAfter s h) f .verdict ≡ verdictOf (frameMeans (s .own) (s .ap) (s .interval) f)
   unfolding takeMeans
   station-verdict h f =
-      ap (λ (z : KeptThroughout). taken (recordAfter s h) (andThen (frameMeans (z .0) (z .1) (z .2) f) (λ x. accepted (heard (recordAfter s h) (x .kind)))) .verdict) (kept s h)
+      ap (λ (z : KeptThroughout). taken (recordAfter s h) (andThen (frameMeans (z .0) (z .1) (z .2) f) (λ x. accepted (heard (recordAfter s h) (x .kind)))) .verdict) (kept 0 s h)
       ∙ by (frameMeans (s .own) (s .ap) (s .interval) f)
     where
       by : (o : Placed Sent) → taken (recordAfter s h) (andThen o (λ x. accepted (heard (recordAfter s h) (x .kind)))) .verdict ≡ verdictOf o
@@ -128,11 +128,11 @@ module _ (s : Settings) where
           by : (o : Placed Sent) → byAp f ≡ o → memberAfter s (frame f ∷ h) .station ≡ recordAfter s (frame (fromAp (s .ap) f) ∷ g)
           by (refused q) e =
               let unread : readAs s f ≡ refused q = read-alike ∙ ap (λ (o : Placed Sent). andThen o (λ x. accepted (sentBy x))) e in
-              member-follows s .ignores f h (λ k z. never (sym unread ∙ z .1 .0)) ∙ same ∙ sym (follows s .ignores (fromAp (s .ap) f) g (λ k z. never (sym e ∙ z .1)))
+              member-follows s .ignores f h (λ k z. never (sym unread ∙ z .1 .0)) ∙ same ∙ sym (follows 0 s .ignores (fromAp (s .ap) f) g (λ k z. never (sym e ∙ z .1)))
           by (accepted x) e =
               let read : readAs s f ≡ accepted (sentBy x) = read-alike ∙ ap (λ (o : Placed Sent). andThen o (λ y. accepted (sentBy y))) e in
               member-follows s .takes f h (x .kind) (sentBy x, (read, ours (clockAfter h) (reigning s h) x e), refl)
-              ∙ ap (λ (r : Station). heard r (x .kind)) same ∙ sym (follows s .takes (fromAp (s .ap) f) g (x .kind) (x .toAll, e))
+              ∙ ap (λ (r : Station). heard r (x .kind)) same ∙ sym (follows 0 s .takes (fromAp (s .ap) f) g (x .kind) (x .toAll, e))
 
     -- ---- whatever the calls
 
@@ -141,8 +141,8 @@ module _ (s : Settings) where
     stations-alike [] all = started
     stations-alike (frame f ∷ h) all = left-alike f (all .0) h (allFromAp s h) (stations-alike h (all .1))
     stations-alike (advance n ∷ h) all =
-        member-follows s .advances n h ∙ ap (λ (r : Station). advanceOf r n .station) (stations-alike h (all .1)) ∙ sym (follows s .advances n (allFromAp s h))
-    stations-alike (ask n ∷ h) all = member-follows s .asks n h ∙ stations-alike h (all .1) ∙ sym (follows s .asks n (allFromAp s h))
+        member-follows s .advances n h ∙ ap (λ (r : Station). advanceOf r n .station) (stations-alike h (all .1)) ∙ sym (follows 0 s .advances n (allFromAp s h))
+    stations-alike (ask n ∷ h) all = member-follows s .asks n h ∙ stations-alike h (all .1) ∙ sym (follows 0 s .asks n (allFromAp s h))
 
   -- ---- of the code's own runs
 

@@ -34,10 +34,12 @@ use Rattle.frame.specs.Laid.{frameTold}
 use Rattle.frame.specs.declared.Frame.{Frame}
 use Rattle.frame.specs.declared.Reading.{Reading}
 use Rattle.frame.specs.declared.index.Asked.{Asked}
+use Rattle.header.proofs.are_same as Are-same
 use Rattle.header.proofs.body as Header-body
 use Rattle.header.proofs.read as Header-read
 use Rattle.header.proofs.read_address as Header-read-address
 use Rattle.header.proofs.read_management as Header-read-management
+use Rattle.header.proofs.receiver as Header-receiver
 use Rattle.header.proofs.sender as Header-sender
 use Rattle.header.specs.Headers.{Head, addressTold, headerTold, managementTold}
 use Rattle.header.specs.declared.Header.{Header}
@@ -96,6 +98,12 @@ header-told (Header.Is s a) = refl
 pub header-body : (κs : Lfts 1) (a : Dens κs Header-body.Kinds.ps) (e f : AtExit (endedOf 1 Header-body.Kinds.ps Header-body.Kinds.r) κs) (x y : resT Header-body.Kinds.r κs .Denot)
     → Header-body.Reads.Post κs a x e → Header-body.Reads.Post κs a y f → now x ≡ now y
 header-body κs a e f x y p q = once p q
+
+pub header-are-same : OneResult 0 Are-same.Kinds.ps Are-same.Kinds.r Are-same.Reads.Post
+header-are-same κs a e f x y p q = once p q
+
+pub header-receiver : OneResult 1 Header-receiver.Kinds.ps Header-receiver.Kinds.r Header-receiver.Reads.Post
+header-receiver κs a e f x y p q = once p q
 
 pub header-sender : OneResult 1 Header-sender.Kinds.ps Header-sender.Kinds.r Header-sender.Reads.Post
 header-sender κs a e f x y p q = once p q

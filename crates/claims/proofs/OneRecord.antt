@@ -15,8 +15,8 @@ use Rattle.station.specs.Stations.{inUse, noSchedule}
 use Rattle.station.specs.Validity.{Valid}
 use Rattle.station.specs.declared.Station.{Station}
 use Rattle.capture_record.specs.declared.entry.Settings.{Settings}
-use Rattle.claims.specs.Histories.{History, Listener, listener}
-use Rattle.claims.specs.Records.{Agreeing, Agrees}
+use Rattle.claims.specs.Histories.{History, Listener, listenerFrom}
+use Rattle.claims.specs.Records.{Agreeing, AgreesFrom, Agrees}
 use Rattle.claims.specs.Standing.{Sets, SetsEach, SchedulesAre, UntilIs}
 use Rattle.claims.proofs.CountingTbtts.{one-moment}
 use Rattle.claims.proofs.Following.{Sound}
@@ -122,8 +122,14 @@ same-station r r' own ap' w =
     rw (own, ap', w .interval, w .clock, w .channel, w .power, w .pending, w .schedules, w .count, w .until) in
     same
 
--- the record of the station of 01
+-- the record of the station of 01, from any beginning
+module _ (t : ℕ) (s : Settings) (pos : 1 ≤ s .interval) (h : History) where
+  pub one-record-from : (r r' : Station) → Valid r → Valid r' → AgreesFrom t s h r → AgreesFrom t s h r' → r ≡ r'
+  one-record-from r r' v v' a a' =
+      same-station r r' (a .same-own ∙ sym (a' .same-own)) (a .same-ap ∙ sym (a' .same-ap))
+      (alike (listenerFrom t s) (sound t s) pos h r r' v v' (a .as-heard) (a' .as-heard))
+
+-- and so from its start
 module _ (s : Settings) (pos : 1 ≤ s .interval) (h : History) where
   pub one-record : (r r' : Station) → Valid r → Valid r' → Agrees s h r → Agrees s h r' → r ≡ r'
-  one-record r r' v v' a a' =
-      same-station r r' (a .same-own ∙ sym (a' .same-own)) (a .same-ap ∙ sym (a' .same-ap)) (alike (listener s) (sound s) pos h r r' v v' (a .as-heard) (a' .as-heard))
+  one-record = one-record-from 0 s pos h

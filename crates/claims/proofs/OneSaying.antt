@@ -13,7 +13,7 @@ use Rattle.frame.specs.Announcements.{announcementIn}
 use Rattle.frame.specs.Frames.{Kind, beacon, probeResponse, action}
 use Rattle.pending.specs.declared.Pending.{Pending}
 use Rattle.pending.specs.declared.Switch.{Switch}
-use Rattle.claims.specs.Histories.{Call, frame, advance, ask, History, clockAfter, Listener, Says, Tells, Announces, Constrains, Latest, Throughout}
+use Rattle.claims.specs.Histories.{Call, frame, advance, ask, History, clockFrom, Listener, clockOf, Says, Tells, Announces, Constrains, Latest, Throughout}
 use Rattle.claims.specs.Standing.{NoAnnouncement, LastAnnounced, Switches, at-once, reached, NoSwitch, Counts, ChannelIs, LastConstrained, PowerIs, PendingIs}
 use Rattle.claims.specs.Tbtts.{CountedTo}
 use Rattle.claims.proofs.CountingTbtts.{one-moment}
@@ -75,22 +75,22 @@ module _ {X : Type 0} (P : Call → History → Type 0) (Q : X → Call → Hist
 module _ (l : Listener) (sound : Sound l) (pos : 1 ≤ l .interval) where
   pub announced-one : (h : History) (x y : ℕ × ChannelSwitch) → LastAnnounced l h (x .0) (x .1) → LastAnnounced l h (y .0) (y .1) → x ≡ y
   announced-one =
-      latest-one (NoAnnouncement l) (λ x c g. Announces l c g (x .1) × CountedTo (l .interval) (clockAfter g) (x .1 .count) (x .0))
+      latest-one (NoAnnouncement l) (λ x c g. Announces l c g (x .1) × CountedTo (l .interval) (clockOf l g) (x .1 .count) (x .0))
       (λ x c g v none. none (x .1) (v .0))
       one
     where
-      one : (x y : ℕ × ChannelSwitch) (c : Call) (g : History) → Announces l c g (x .1) × CountedTo (l .interval) (clockAfter g) (x .1 .count) (x .0)
-          → Announces l c g (y .1) × CountedTo (l .interval) (clockAfter g) (y .1 .count) (y .0) → x ≡ y
+      one : (x y : ℕ × ChannelSwitch) (c : Call) (g : History) → Announces l c g (x .1) × CountedTo (l .interval) (clockOf l g) (x .1 .count) (x .0)
+          → Announces l c g (y .1) × CountedTo (l .interval) (clockOf l g) (y .1 .count) (y .0) → x ≡ y
       one (at, w) (at', v) c g (a, m) (b, n) =
           let same : w ≡ v = announces-one l sound c g w v a b in
           let moment : at ≡ at' =
-          one-moment (l .interval) pos (clockAfter g) (w .count) at at' m
-          (subst (λ (z : ChannelSwitch). CountedTo (l .interval) (clockAfter g) (z .count) at') (sym same) n) in
+          one-moment (l .interval) pos (clockOf l g) (w .count) at at' m
+          (subst (λ (z : ChannelSwitch). CountedTo (l .interval) (clockOf l g) (z .count) at') (sym same) n) in
           cc
 
   -- a frame leaves the clock where it is
-  announced-still : (c : Call) (h : History) (w : ChannelSwitch) → Announces l c h w → clockAfter (c ∷ h) ≡ clockAfter h
-  unfolding clockAfter
+  announced-still : (c : Call) (h : History) (w : ChannelSwitch) → Announces l c h w → clockOf l (c ∷ h) ≡ clockOf l h
+  unfolding clockFrom
   announced-still (frame f) h w a = refl
   announced-still (advance n) h w a = absurd (sound .advance-unheard n h (a .0) (a .1))
   announced-still (ask n) h w a = refl
@@ -103,12 +103,12 @@ module _ (l : Listener) (sound : Sound l) (pos : 1 ≤ l .interval) where
 
   pub counts-one : (h : History) (x y : Told × ℕ) → Counts l h (x .0) (x .1) → Counts l h (y .0) (y .1) → x ≡ y
   counts-one =
-      latest-one (λ c g. ((z : Told) → Tells l c g z → ⊥) × NoSwitch l c g) (λ x c g. Tells l c g (x .0) × (x .1 ≡ clockAfter g) × NoSwitch l c g)
+      latest-one (λ c g. ((z : Told) → Tells l c g z → ⊥) × NoSwitch l c g) (λ x c g. Tells l c g (x .0) × (x .1 ≡ clockOf l g) × NoSwitch l c g)
       (λ x c g v none. none .0 (x .0) (v .0))
       one
     where
-      one : (x y : Told × ℕ) (c : Call) (g : History) → Tells l c g (x .0) × (x .1 ≡ clockAfter g) × NoSwitch l c g
-          → Tells l c g (y .0) × (y .1 ≡ clockAfter g) × NoSwitch l c g → x ≡ y
+      one : (x y : Told × ℕ) (c : Call) (g : History) → Tells l c g (x .0) × (x .1 ≡ clockOf l g) × NoSwitch l c g
+          → Tells l c g (y .0) × (y .1 ≡ clockOf l g) × NoSwitch l c g → x ≡ y
       one (a, t) (b, t') c g (x, e, i) (y, f, j) =
           let same : a ≡ b = tells-one l sound c g a b x y in
           let when : t ≡ t' = e ∙ sym f in

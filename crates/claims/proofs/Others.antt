@@ -8,7 +8,7 @@ use Rattle.beacon.specs.declared.MaybePower.{MaybePower}
 use Rattle.element.specs.declared.channel_switch.ChannelSwitch.{ChannelSwitch}
 use Rattle.element.specs.declared.power_constraint.PowerConstraint.{PowerConstraint}
 use Rattle.schedule.specs.declared.Schedule.{Schedule}
-use Rattle.claims.specs.Histories.{Call, History, clockAfter, Listener, Tells, Constrains, Latest, Throughout}
+use Rattle.claims.specs.Histories.{Call, History, Listener, clockOf, Tells, Constrains, Latest, Throughout}
 use Rattle.claims.specs.Standing.{Switches, NoSwitch, Counts, ChannelIs, LastConstrained, PowerIs, SetsEach, SchedulesAre}
 use Rattle.claims.proofs.Following.{Sound}
 use Rattle.claims.proofs.OneSaying.{tells-one, no-power-said}
@@ -71,6 +71,6 @@ module _ (l : Listener) (c : Call) (h : History) where
       pub no-constraint : Sound l → said .notice .power ≡ MaybePower.Absent → (p : PowerConstraint) → Constrains l c h p → ⊥
       no-constraint sound e p (other, y, z) = no-power-said (sym e ∙ ap (λ (x : Told). x .notice .power) (tells-one l sound c h said other tells y) ∙ z)
 
-      pub schedules-replaced : (xs : List Schedule) → SetsEach l (clockAfter h) (said .quiets) xs → SchedulesAre l (c ∷ h) xs
+      pub schedules-replaced : (xs : List Schedule) → SetsEach l (clockOf l h) (said .quiets) xs → SchedulesAre l (c ∷ h) xs
       unfolding Latest
-      schedules-replaced xs each = inr (said, clockAfter h, inl (tells, refl, calm), each)
+      schedules-replaced xs each = inr (said, clockOf l h, inl (tells, refl, calm), each)

@@ -8,7 +8,7 @@ use Rattle.element.specs.declared.channel_switch.ChannelSwitch.{ChannelSwitch}
 use Rattle.pending.specs.Waiting.{pendingBy}
 use Rattle.pending.specs.declared.Pending.{Pending}
 use Rattle.station.proofs.StaysValid.{moment-after}
-use Rattle.claims.specs.Histories.{Call, History, clockAfter, Listener, Announces, Latest}
+use Rattle.claims.specs.Histories.{Call, History, Listener, clockOf, Announces, Latest}
 use Rattle.claims.specs.Standing.{NoAnnouncement, Awaits, Switches, at-once, reached, NoSwitch, PendingIs}
 use Rattle.claims.specs.Tbtts.{CountedTo}
 use Rattle.claims.proofs.CountingTbtts.{counting}
@@ -18,7 +18,7 @@ use Rattle.claims.proofs.OneSaying.{announces-one, announced-one}
 module _ (l : Listener) (sound : Sound l) (pos : 1 ≤ l .interval) (c : Call) (h : History) where
   -- ---- where the clock stands still
 
-  module _ (still : clockAfter (c ∷ h) ≡ clockAfter h) where
+  module _ (still : clockOf l (c ∷ h) ≡ clockOf l h) where
     -- only a count of 0 brings a switch
     pub switch-in-frame : (w : ChannelSwitch) → Switches l c h w → Announces l c h w × (w .count ≡ 0)
     switch-in-frame w (at-once a e) = (a, e)
@@ -44,18 +44,18 @@ module _ (l : Listener) (sound : Sound l) (pos : 1 ≤ l .interval) (c : Call) (
       pub pending-gone : w .count ≡ 0 → PendingIs l (c ∷ h) Pending.Nothing
       unfolding Latest CountedTo
       pending-gone e at v (inl (a, m), come) =
-          let now : at ≡ clockAfter h = subst (λ (n : ℕ). CountedTo (l .interval) (clockAfter h) n at) (same-count v a ∙ e) m in
+          let now : at ≡ clockOf l h = subst (λ (n : ℕ). CountedTo (l .interval) (clockOf l h) n at) (same-count v a ∙ e) m in
           omega arith
       pending-gone e at v (inr (none, last), come) = none w says
 
       module _ (more : 1 ≤ w .count) where
-        pub pending-new : PendingIs l (c ∷ h) (pendingBy w (clockAfter h / l .interval) (l .interval))
+        pub pending-new : PendingIs l (c ∷ h) (pendingBy w (clockOf l h / l .interval) (l .interval))
         unfolding Latest
         pending-new = (
           w,
           (
-            inl (says, counting (l .interval) pos (clockAfter h) (w .count) more),
-            omega (arith, still, moment-after (l .interval) (clockAfter h) (w .count) pos more),
+            inl (says, counting (l .interval) pos (clockOf l h) (w .count) more),
+            omega (arith, still, moment-after (l .interval) (clockOf l h) (w .count) pos more),
           ),
           refl,
           refl,
@@ -66,7 +66,7 @@ module _ (l : Listener) (sound : Sound l) (pos : 1 ≤ l .interval) (c : Call) (
 
   -- ---- where it goes on
 
-  module _ (on : clockAfter h ≤ clockAfter (c ∷ h)) (none : NoAnnouncement l c h) where
+  module _ (on : clockOf l h ≤ clockOf l (c ∷ h)) (none : NoAnnouncement l c h) where
     earlier : (at : ℕ) (w : ChannelSwitch) → Awaits l (c ∷ h) at w → Awaits l h at w
     unfolding Latest
     earlier at w (inl (a, m), come) = absurd (none w a)
@@ -83,7 +83,7 @@ module _ (l : Listener) (sound : Sound l) (pos : 1 ≤ l .interval) (c : Call) (
       same-moment : (at' : ℕ) (v : ChannelSwitch) → Awaits l h at' v → at ≡ at'
       same-moment at' v y = ap (λ (z : ℕ × ChannelSwitch). z .0) (announced-one l sound pos h (at, w) (at', v) (x .0) (y .0))
 
-      module _ (short : clockAfter (c ∷ h) < at) where
+      module _ (short : clockOf l (c ∷ h) < at) where
         pub still-awaited : Awaits l (c ∷ h) at w
         unfolding Latest
         still-awaited = (inr (none, x .0), short)
@@ -92,5 +92,5 @@ module _ (l : Listener) (sound : Sound l) (pos : 1 ≤ l .interval) (c : Call) (
         not-reached v (at-once a e) = none v a
         not-reached v (reached at' y le) = omega (arith, same-moment at' v y)
 
-      pub no-longer : at ≤ clockAfter (c ∷ h) → PendingIs l (c ∷ h) Pending.Nothing
+      pub no-longer : at ≤ clockOf l (c ∷ h) → PendingIs l (c ∷ h) Pending.Nothing
       no-longer le at' v y = omega (arith, same-moment at' v (earlier at' v y), y .1)

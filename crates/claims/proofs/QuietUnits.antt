@@ -15,7 +15,7 @@ use Rattle.schedule.specs.declared.Schedule.{Schedule}
 use Rattle.station.specs.Asking.{coveredBy, quiet}
 use Rattle.station.specs.Stations.{inUse}
 use Rattle.station.specs.declared.Station.{Station}
-use Rattle.claims.specs.Histories.{History, clockAfter, Listener}
+use Rattle.claims.specs.Histories.{History, Listener, clockOf}
 use Rattle.claims.specs.OpenUnits.{SetUnit, BegunUnit, QuietUnit}
 use Rattle.claims.specs.Records.{Agreeing}
 use Rattle.claims.specs.Standing.{RunsOn, SetsEach, SchedulesAre, UntilIs}
@@ -70,7 +70,7 @@ module _ (l : Listener) (sound : Sound l) (pos : 1 ≤ l .interval) (h : History
 
   -- ---- by what has begun: from the clock on, the latest end of what runs on is enough, however many run
 
-  module _ (n : ℕ) (until : UntilIs l h n) (from : clockAfter h ≤ u) where
+  module _ (n : ℕ) (until : UntilIs l h n) (from : clockOf l h ≤ u) where
     before-begun : u < n → BegunUnit l h u
     before-begun lt = ⊎-elim (λ (z : n ≡ 0). absurd (omega arith)) runs (until .1)
       where
@@ -91,7 +91,7 @@ module _ (l : Listener) (sound : Sound l) (pos : 1 ≤ l .interval) (h : History
 
   -- ---- the record
 
-  module _ (r : Station) (a : Agreeing l h r) (from : clockAfter h ≤ u) where
+  module _ (r : Station) (a : Agreeing l h r) (from : clockOf l h ≤ u) where
     pub quiet-unit : quiet r u ≡ true → QuietUnit l h u
     unfolding quiet
     quiet-unit e =

@@ -17,7 +17,7 @@ use Rattle.reply.specs.Replies.{leftBy, Replied}
 use Rattle.answer.specs.Outcomes.{OneOutcome, OneResult}
 use Rattle.claims.proofs.Same.{once, told-once, answer, answer-told}
 
-replied-once : {o : Outcome (List ℕ)} {buffer : List ℕ} {x y : Wrote} {e f : List ℕ} → Replied o buffer x e → Replied o buffer y f → (x ≡ y) × (e ≡ f)
+pub replied-once : {o : Outcome (List ℕ)} {buffer : List ℕ} {x y : Wrote} {e f : List ℕ} → Replied o buffer x e → Replied o buffer y f → (x ≡ y) × (e ≡ f)
 replied-once p q = (told-once wroteTold answer answer-told (p .answers) (q .answers), once (p .leaves) (q .leaves))
 
 pub report-for : OneResult 0 Report-for.Kinds.ps Report-for.Kinds.r Report-for.Reads.Post

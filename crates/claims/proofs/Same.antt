@@ -19,7 +19,7 @@ accepted-once e = cc
 pub told-once : {X A : Type 0} (tells : X → A) (back : A → X) → ((x : X) → back (tells x) ≡ x) → {x y : X} {o : A} → tells x ≡ o → tells y ≡ o → x ≡ y
 told-once tells back undone {x} {y} p q = sym (undone x) ∙ ap back (p ∙ sym q) ∙ undone y
 
-pub answer : Outcome ℕ → Wrote
+unfoldable pub answer : Outcome ℕ → Wrote
 answer (refused r) = Wrote.Refused r
 answer (accepted n) = Wrote.Length n
 

@@ -1,4 +1,4 @@
--- The station of 01 hears only what its reader accepts, and its record follows what it hears. Assumes nothing.
+-- The station of 01 hears only what its reader accepts, and its record follows what it hears, from any beginning of its history. Assumes nothing.
 use mathlib.Core.List.{List, [], _∷_}
 use mathlib.Core.Logic.{_⊎_, inl, inr}
 use mathlib.Core.Path.{_≡_, refl, sym, ap, _∙_}
@@ -12,10 +12,10 @@ use Rattle.frame.specs.Frames.{Kind, Sent, frameMeans}
 use Rattle.station.specs.Taking.{taken, heard, takeMeans, takeOf}
 use Rattle.station.specs.declared.Station.{Station}
 use Rattle.capture_record.specs.declared.entry.Settings.{Settings}
-use Rattle.claims.specs.Histories.{Call, frame, advance, ask, History, Hears, listener}
-use Rattle.claims.specs.Records.{recordAfter}
+use Rattle.claims.specs.Histories.{Call, frame, advance, ask, History, Hears, listenerFrom}
+use Rattle.claims.specs.Records.{recordFrom}
 use Rattle.claims.proofs.Following.{Sound, Follows}
-use Rattle.claims.proofs.KeptThroughout.{KeptThroughout, keptBy, heard-keeps, advance-keeps}
+use Rattle.station.proofs.KeptThroughout.{KeptThroughout, keptBy, heard-keeps, advance-keeps}
 use Rattle.claims.proofs.Same.{accepted-once}
 
 -- what the outcome of reading a frame makes of the record
@@ -53,40 +53,41 @@ module _ (s : Settings) where
   hears-allowed (advance n) k x = absurd x
   hears-allowed (ask n) k x = absurd x
 
-  pub sound : Sound (listener s)
+module _ (t : ℕ) (s : Settings) where
+  pub sound : Sound (listenerFrom t s)
   sound =
       record {
         advance-unheard = λ n h k x. x;
         ask-unheard = λ n h k x. x;
-        one-kind = λ c h k k' x y. hears-one c k k' x y;
-        decided = λ c h. hears-or-not c;
-        allowed = λ c h k x. hears-allowed c k x;
+        one-kind = λ c h k k' x y. hears-one s c k k' x y;
+        decided = λ c h. hears-or-not s c;
+        allowed = λ c h k x. hears-allowed s c k x;
       }
 
   -- ---- its record
 
-  pub kept : (h : History) → keptBy (recordAfter s h) ≡ (s .own, s .ap, s .interval)
-  unfolding recordAfter
+  pub kept : (h : History) → keptBy (recordFrom t s h) ≡ (s .own, s .ap, s .interval)
+  unfolding recordFrom
   kept [] = refl
-  kept (frame f ∷ h) = take-keeps (recordAfter s h) f ∙ kept h
-  kept (advance n ∷ h) = advance-keeps (recordAfter s h) n ∙ kept h
+  kept (frame f ∷ h) = take-keeps (recordFrom t s h) f ∙ kept h
+  kept (advance n ∷ h) = advance-keeps (recordFrom t s h) n ∙ kept h
   kept (ask n ∷ h) = kept h
 
   -- so a frame means to the record what it means by the settings
   taken-as : (f : List ℕ) (h : History) (o : Placed Sent) → frameMeans (s .own) (s .ap) (s .interval) f ≡ o
-      → recordAfter s (frame f ∷ h) ≡ leaves (recordAfter s h) o
-  unfolding recordAfter takeMeans
-  taken-as f h o e = ap (leaves (recordAfter s h)) (ap (λ (z : KeptThroughout). frameMeans (z .0) (z .1) (z .2) f) (kept h) ∙ e)
+      → recordFrom t s (frame f ∷ h) ≡ leaves (recordFrom t s h) o
+  unfolding recordFrom takeMeans
+  taken-as f h o e = ap (leaves (recordFrom t s h)) (ap (λ (z : KeptThroughout). frameMeans (z .0) (z .1) (z .2) f) (kept h) ∙ e)
 
-  ignored : (f : List ℕ) (h : History) → ((k : Kind) → Hears s (frame f) k → ⊥) → recordAfter s (frame f ∷ h) ≡ recordAfter s h
+  ignored : (f : List ℕ) (h : History) → ((k : Kind) → Hears s (frame f) k → ⊥) → recordFrom t s (frame f ∷ h) ≡ recordFrom t s h
   ignored f h none = by-outcome (frameMeans (s .own) (s .ap) (s .interval) f) refl
     where
-      by-outcome : (o : Placed Sent) → frameMeans (s .own) (s .ap) (s .interval) f ≡ o → recordAfter s (frame f ∷ h) ≡ recordAfter s h
+      by-outcome : (o : Placed Sent) → frameMeans (s .own) (s .ap) (s .interval) f ≡ o → recordFrom t s (frame f ∷ h) ≡ recordFrom t s h
       by-outcome (refused q) e = taken-as f h (refused q) e
       by-outcome (accepted x) e = absurd (none (x .kind) (x .toAll, e))
 
-  pub follows : Follows (listener s) (recordAfter s)
-  unfolding recordAfter
+  pub follows : Follows (listenerFrom t s) (recordFrom t s)
+  unfolding recordFrom
   follows =
       record {
         sound = sound;

@@ -28,7 +28,7 @@ use Rattle.station.specs.Taking.{latestEnd, announced, informed, takeMeans}
 use Rattle.walk.specs.Elements.{elementsAfter, elementsIn}
 use Rattle.claims.specs.Histories.{Call, advance}
 use Rattle.claims.specs.Moments.{Moment, asking, AllRight, ours, heard, beaconOf, quiet, switchSoon, announcement, quietSince}
-use Rattle.claims.specs.Records.{recordAfter}
+use Rattle.claims.specs.Records.{recordFrom, recordAfter}
 
 -- Quiet with this count: period 0, duration 10, offset 20
 abbrev quietAfter : ℕ → List ℕ
@@ -88,27 +88,27 @@ witnesses =
     ∷ []
 
 pub witnesses-right : AllRight witnesses
-unfolding recordAfter takeMeans frameMeans headerMeans managementMeans addressMeans foreignHeader foreignAddress toAll beaconMeans checked says takes elementMeans elementsIn elementsAfter quietMeans switchMeans fixed actionMeans opensWith required handing passing nothingLeft single announced informed latestEnd endBegun clockAdvance advanceMeans permissionOf firstOf Asking.quiet coveredBy someUnit covered
+unfolding recordFrom takeMeans frameMeans headerMeans managementMeans addressMeans foreignHeader foreignAddress toAll beaconMeans checked says takes elementMeans elementsIn elementsAfter quietMeans switchMeans fixed actionMeans opensWith required handing passing nothingLeft single announced informed latestEnd endBegun clockAdvance advanceMeans permissionOf firstOf Asking.quiet coveredBy someUnit covered
 witnesses-right = (refl, (refl, (refl, (refl, (refl, (refl, (refl, (refl, (refl, (refl, (refl, (refl, (refl, (refl, (refl, (refl, (refl, (refl, (refl, tt)))))))))))))))))))
 
 -- ---- the record
 
 -- a Power Constraint is kept
 pub constraint-kept : recordAfter ours (beaconOf constraint ∷ []) .power ≡ MaybePower.Is (record { decibels = 3 })
-unfolding recordAfter takeMeans frameMeans headerMeans managementMeans addressMeans foreignHeader foreignAddress toAll beaconMeans checked says takes elementMeans elementsIn elementsAfter powerMeans fixed announced informed
+unfolding recordFrom takeMeans frameMeans headerMeans managementMeans addressMeans foreignHeader foreignAddress toAll beaconMeans checked says takes elementMeans elementsIn elementsAfter powerMeans fixed announced informed
 constraint-kept = refl
 
 -- and does not outlive a switch
 pub constraint-gone : recordAfter ours (advance 100 ∷ announcement 0 ∷ beaconOf constraint ∷ []) .power ≡ MaybePower.Absent
-unfolding recordAfter takeMeans frameMeans headerMeans managementMeans addressMeans foreignHeader foreignAddress toAll beaconMeans checked says takes elementMeans elementsIn elementsAfter powerMeans switchMeans fixed actionMeans opensWith required handing passing nothingLeft single announced informed clockAdvance advanceMeans
+unfolding recordFrom takeMeans frameMeans headerMeans managementMeans addressMeans foreignHeader foreignAddress toAll beaconMeans checked says takes elementMeans elementsIn elementsAfter powerMeans switchMeans fixed actionMeans opensWith required handing passing nothingLeft single announced informed clockAdvance advanceMeans
 constraint-gone = refl
 
 -- a switch is for the next TBTT, wherever in the interval it was announced
 pub counted-from-tbtt : recordAfter ours (announcement 0 ∷ advance 99 ∷ []) .pending ≡ Pending.Switch (record { at = 100; mode = 0; channel = 40 })
-unfolding recordAfter takeMeans frameMeans headerMeans managementMeans addressMeans foreignHeader foreignAddress toAll checked elementsIn elementsAfter switchMeans fixed actionMeans opensWith required handing passing nothingLeft single announced informed clockAdvance advanceMeans
+unfolding recordFrom takeMeans frameMeans headerMeans managementMeans addressMeans foreignHeader foreignAddress toAll checked elementsIn elementsAfter switchMeans fixed actionMeans opensWith required handing passing nothingLeft single announced informed clockAdvance advanceMeans
 counted-from-tbtt = refl
 
 -- and when it comes, the channel is the new one
 pub channel-new : recordAfter ours (advance 1 ∷ announcement 0 ∷ advance 99 ∷ []) .channel ≡ 40
-unfolding recordAfter takeMeans frameMeans headerMeans managementMeans addressMeans foreignHeader foreignAddress toAll checked elementsIn elementsAfter switchMeans fixed actionMeans opensWith required handing passing nothingLeft single announced informed clockAdvance advanceMeans
+unfolding recordFrom takeMeans frameMeans headerMeans managementMeans addressMeans foreignHeader foreignAddress toAll checked elementsIn elementsAfter switchMeans fixed actionMeans opensWith required handing passing nothingLeft single announced informed clockAdvance advanceMeans
 channel-new = refl

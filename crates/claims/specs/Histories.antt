@@ -1,5 +1,5 @@
--- The history of one station (00, demand 3): what it goes by from its start on, the calls that it was given after the start, refused
--- ones among them, and what can be read off them. Nothing here names a station's record or a step of one.
+-- The history of one station (00, demand 3): what it goes by from its beginning on, the calls that it was given since, refused ones
+-- among them, and what can be read off them. Nothing here names a station's record or a step of one.
 use mathlib.Core.Bool.{Bool, _||_}
 use mathlib.Core.List.{List, [], _∷_}
 use mathlib.Core.Logic.{_⊎_}
@@ -32,21 +32,30 @@ History = List Call
 abbrev pub tooFar : ℕ → ℕ → Bool
 tooFar t n = ltb 65535 n || ltb 4294967295 (t + n)
 
+-- the clock after the calls of a history that began when it was at t
+unfoldable pub clockFrom : ℕ → History → ℕ
+clockFrom t [] = t
+clockFrom t (frame f ∷ h) = clockFrom t h
+clockFrom t (advance n ∷ h) = pick (tooFar (clockFrom t h) n) (clockFrom t h) (clockFrom t h + n)
+clockFrom t (ask n ∷ h) = clockFrom t h
+
 -- "The clock counts TU from 0 at start"
-unfoldable pub clockAfter : History → ℕ
-clockAfter [] = 0
-clockAfter (frame f ∷ h) = clockAfter h
-clockAfter (advance n ∷ h) = pick (tooFar (clockAfter h) n) (clockAfter h) (clockAfter h + n)
-clockAfter (ask n ∷ h) = clockAfter h
+abbrev pub clockAfter : History → ℕ
+clockAfter h = clockFrom 0 h
 
 -- ---- accepted frames
 
--- a station by what it goes by: its beacon interval, its channel at the start, and as what kind of frame it hears a call, after the calls before it.
--- To hear is to accept: a call that is no frame, or a refused one, is heard as nothing
+-- a station by what it goes by: the clock at the beginning of its history, its beacon interval, its channel at the beginning, and as what kind of frame it
+-- hears a call, after the calls before it. To hear is to accept: a call that is no frame, or a refused one, is heard as nothing
 pub record Listener : Type 1 where
+  pub begins : ℕ
   pub interval : ℕ
   pub channel : ℕ
   pub hears : Call → History → Kind → Type 0
+
+-- its clock after the calls
+abbrev pub clockOf : Listener → History → ℕ
+clockOf l h = clockFrom (l .begins) h
 
 -- by a station's settings (01): the call was a frame that was accepted, and it was of this kind
 abbrev pub Hears : Settings → Call → Kind → Type 0
@@ -54,9 +63,14 @@ Hears s (frame f) k = (toAll : Bool) × (frameMeans (s .own) (s .ap) (s .interva
 Hears s (advance n) k = ⊥
 Hears s (ask n) k = ⊥
 
--- the station of 01: whether it accepts a frame depends on the frame alone, whatever came before
+-- the station of 01 with a history that begins at t, as for a row that is joined at t (02, Six): whether it accepts a frame depends on the frame alone,
+-- whatever came before
+abbrev pub listenerFrom : ℕ → Settings → Listener
+listenerFrom t s = record { begins = t; interval = s .interval; channel = s .channel; hears = λ c h k. Hears s c k }
+
+-- started, and so with a history that begins at 0
 abbrev pub listener : Settings → Listener
-listener s = record { interval = s .interval; channel = s .channel; hears = λ c h k. Hears s c k }
+listener s = listenerFrom 0 s
 
 -- a beacon or a probe response says this
 abbrev pub Says : Kind → Told → Type 0

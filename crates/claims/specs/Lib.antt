@@ -10,6 +10,7 @@ pub mod Filters
 pub mod Histories
 pub mod HistoryLines
 pub mod IbssReplies
+pub mod Joinings
 pub mod MemberRecords
 pub mod MemberRuns
 pub mod Moments
@@ -29,5 +30,7 @@ pub mod Reserved
 pub mod Runs
 pub mod SoundBefore
 pub mod Standing
+pub mod TableHistories
+pub mod TableRuns
 pub mod TakenOut
 pub mod Tbtts

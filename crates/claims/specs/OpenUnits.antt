@@ -9,7 +9,7 @@ use Rattle.beacon.specs.Beacons.{Told}
 use Rattle.element.specs.declared.channel_switch.ChannelSwitch.{ChannelSwitch}
 use Rattle.element.specs.declared.quiet.Quiet.{Quiet}
 use Rattle.station.specs.declared.asking.Permission.{Permission}
-use Rattle.claims.specs.Histories.{History, clockAfter, Listener}
+use Rattle.claims.specs.Histories.{History, Listener, clockOf}
 use Rattle.claims.specs.QuietRuns.{CoversUnit}
 use Rattle.claims.specs.Standing.{Awaits, Counts, Begun}
 
@@ -37,7 +37,7 @@ module _ (l : Listener) (h : History) where
 
   -- each unit that sending for n TU would cover is open
   abbrev pub AllOpen : ℕ → Type 0
-  AllOpen n = (u : ℕ) → clockAfter h ≤ u → u < clockAfter h + n → Open u
+  AllOpen n = (u : ℕ) → clockOf l h ≤ u → u < clockOf l h + n → Open u
 
   -- ---- what applies
 
@@ -48,11 +48,11 @@ module _ (l : Listener) (h : History) where
   -- some covered unit after t and before the pending switch, if any, is quiet
   abbrev pub QuietLater : ℕ → Type 0
   QuietLater n =
-      (u : ℕ) × (clockAfter h < u) × (u < clockAfter h + n) × ((at : ℕ) (w : ChannelSwitch) → Awaits l h at w → u < at) × QuietUnit u
+      (u : ℕ) × (clockOf l h < u) × (u < clockOf l h + n) × ((at : ℕ) (w : ChannelSwitch) → Awaits l h at w → u < at) × QuietUnit u
 
   -- the switch lies before t + n
   abbrev pub SwitchWithin : ℕ → Type 0
-  SwitchWithin n = (at : ℕ) × (w : ChannelSwitch) × Awaits l h at w × (at < clockAfter h + n)
+  SwitchWithin n = (at : ℕ) × (w : ChannelSwitch) × Awaits l h at w × (at < clockOf l h + n)
 
   -- ---- the answers: each one exactly where it is the first that applies
 
@@ -62,8 +62,8 @@ module _ (l : Listener) (h : History) where
   abbrev pub Applies : ℕ → Permission → Type 0
   Applies n Permission.WrongLength = (n ≡ 0) ⊎ (65535 < n)
   Applies n Permission.SwitchSilences = RightLength n × Waits
-  Applies n Permission.QuietNow = RightLength n × (Waits → ⊥) × QuietUnit (clockAfter h)
-  Applies n Permission.QuietLater = RightLength n × (Waits → ⊥) × (QuietUnit (clockAfter h) → ⊥) × QuietLater n
+  Applies n Permission.QuietNow = RightLength n × (Waits → ⊥) × QuietUnit (clockOf l h)
+  Applies n Permission.QuietLater = RightLength n × (Waits → ⊥) × (QuietUnit (clockOf l h) → ⊥) × QuietLater n
   Applies n Permission.SwitchBefore =
-      RightLength n × (Waits → ⊥) × (QuietUnit (clockAfter h) → ⊥) × (QuietLater n → ⊥) × SwitchWithin n
+      RightLength n × (Waits → ⊥) × (QuietUnit (clockOf l h) → ⊥) × (QuietLater n → ⊥) × SwitchWithin n
   Applies n Permission.Granted = RightLength n × AllOpen n

@@ -35,6 +35,9 @@ BrokenAt f n Refusal.NoReplyDue = ⊥
 BrokenAt f n Refusal.NoStation = ⊥
 BrokenAt f n Refusal.RecordMalformed = ⊥
 BrokenAt f n Refusal.ForeignAnnouncement = ⊥
+BrokenAt f n Refusal.NoFreeRow = ⊥
+BrokenAt f n Refusal.AlreadyJoined = ⊥
+BrokenAt f n Refusal.NotJoined = ⊥
 
 -- 1 to 4: no octet is at fault
 abbrev pub BrokenNowhere : Refusal → Type 0

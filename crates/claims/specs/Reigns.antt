@@ -131,4 +131,4 @@ module _ (s : Settings) where
   -- a station of an IBSS by what it goes by
   abbrev pub ibssListener : Listener
   ibssListener =
-      record { interval = s .interval; channel = s .channel; hears = λ c h k. (x : SentInIbss) × Accepts c h x × (x .sent .kind ≡ k) }
+      record { begins = 0; interval = s .interval; channel = s .channel; hears = λ c h k. (x : SentInIbss) × Accepts c h x × (x .sent .kind ≡ k) }

@@ -12,7 +12,7 @@ use Rattle.element.specs.declared.power_constraint.PowerConstraint.{PowerConstr
 use Rattle.element.specs.declared.quiet.Quiet.{Quiet}
 use Rattle.pending.specs.declared.Pending.{Pending}
 use Rattle.schedule.specs.declared.Schedule.{Schedule}
-use Rattle.claims.specs.Histories.{Call, History, clockAfter, Listener, Tells, Announces, Constrains, Latest, Throughout}
+use Rattle.claims.specs.Histories.{Call, History, Listener, clockOf, Tells, Announces, Constrains, Latest, Throughout}
 use Rattle.claims.specs.QuietRuns.{RunBegins}
 use Rattle.claims.specs.Tbtts.{CountedTo}
 
@@ -27,17 +27,17 @@ module _ (l : Listener) where
   LastAnnounced h at w =
       Latest
       NoAnnouncement
-      (λ c g. Announces l c g w × CountedTo (l .interval) (clockAfter g) (w .count) at)
+      (λ c g. Announces l c g w × CountedTo (l .interval) (clockOf l g) (w .count) at)
       h
 
   -- its moment is still to come
   abbrev pub Awaits : History → ℕ → ChannelSwitch → Type 0
-  Awaits h at w = LastAnnounced h at w × (clockAfter h < at)
+  Awaits h at w = LastAnnounced h at w × (clockOf l h < at)
 
   -- the call, made after h, brings a switch: by a count of 0, or since the clock reaches the moment that was awaited
   pub data Switches (c : Call) (h : History) (w : ChannelSwitch) : Type 0 where
     at-once : Announces l c h w → w .count ≡ 0 → Switches c h w
-    reached : (at : ℕ) → Awaits h at w → at ≤ clockAfter (c ∷ h) → Switches c h w
+    reached : (at : ℕ) → Awaits h at w → at ≤ clockOf l (c ∷ h) → Switches c h w
 
   abbrev pub NoSwitch : Call → History → Type 0
   NoSwitch c h = (w : ChannelSwitch) → Switches c h w → ⊥
@@ -49,7 +49,7 @@ module _ (l : Listener) where
   Counts h said t =
       Latest
       (λ c g. ((x : Told) → Tells l c g x → ⊥) × NoSwitch c g)
-      (λ c g. Tells l c g said × (t ≡ clockAfter g) × NoSwitch c g)
+      (λ c g. Tells l c g said × (t ≡ clockOf l g) × NoSwitch c g)
       h
 
   -- ---- quiet intervals that have begun
@@ -62,7 +62,7 @@ module _ (l : Listener) where
     pub quiet : Quiet
     pub among : List·Memᴰ quiet (said .quiets)
     pub begins : RunBegins (l .interval) accepted quiet a
-    pub begun : a ≤ clockAfter h
+    pub begun : a ≤ clockOf l h
     pub ends : e ≡ a + quiet .duration
 
   -- such a run has begun while its frame was the latest, with no switch at its beginning or since
@@ -75,7 +75,7 @@ module _ (l : Listener) where
 
   -- ---- each field of the record, as the history has it
 
-  -- the latest switch gave the channel; before any switch it is that of the start
+  -- the latest switch gave the channel; before any switch it is that of the beginning
   abbrev pub ChannelIs : History → ℕ → Type 0
   ChannelIs h n =
       (Throughout NoSwitch h × (n ≡ l .channel))

@@ -1,3 +1,4 @@
 pub mod Addresses
 pub mod Heard
+pub mod SameAddresses
 pub mod SentBy

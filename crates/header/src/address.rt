@@ -3,7 +3,7 @@ ghost use mathlib.Core.Path.{_≡_};
 ghost use mathlib.Core.List.{[], _∷_};
 ghost use Prim.Native.Nat.{_≤_};
 ghost use Rattle.octets.specs.Numbers.{octetsFrom};
-ghost use Rattle.header.specs.Headers.{same, sa, toAll, foreignSender, foreignAddress, addressTold, addressMeans};
+ghost use Rattle.header.specs.Headers.{same, da, sa, toAll, foreignSender, foreignAddress, addressTold, addressMeans};
 use answer::Refusal;
 
 // Whose frames a station takes: its AP's, whose address is the BSSID (document 01), or those of any member of its IBSS (document 02, Five).
@@ -25,6 +25,21 @@ const DA: usize = 4;
 const SA: usize = 10;
 
 const BSSID: usize = 16;
+
+// Six octets from a place on.
+fn address_at(frame: &[u8], at: usize) -> [u8; 6]
+    requires { ⌜ at ≤ 16 ⌝ }
+    ensures { λ r. ⌜ r ≡ octetsFrom 6 at (now (frame .entry)) ⌝ }
+{
+    [
+        octets::octet_at(frame, at),
+        octets::octet_at(frame, at + 1),
+        octets::octet_at(frame, at + 2),
+        octets::octet_at(frame, at + 3),
+        octets::octet_at(frame, at + 4),
+        octets::octet_at(frame, at + 5),
+    ]
+}
 
 // Whether three octets from a place on are these.
 fn are(frame: &[u8], at: usize, first: u8, second: u8, third: u8) -> bool
@@ -73,18 +88,32 @@ fn is_to_all(frame: &[u8]) -> bool
     are_ones(frame, DA + 4)
 }
 
+// Whether two addresses are the same.
+pub fn are_same(one: [u8; 6], other: [u8; 6]) -> bool
+    ensures { λ r. ⌜ r ≡ same one other ⌝ }
+{
+    let mut i = 0;
+    while i < 6 {
+        if one[i] != other[i] {
+            return false;
+        }
+        i += 1;
+    }
+    true
+}
+
+// To whom the frame was sent.
+pub fn receiver(frame: &[u8]) -> [u8; 6]
+    ensures { λ r. ⌜ r ≡ da (now (frame .entry)) ⌝ }
+{
+    address_at(frame, DA)
+}
+
 // Who has sent the frame.
 pub fn sender(frame: &[u8]) -> [u8; 6]
     ensures { λ r. ⌜ r ≡ sa (now (frame .entry)) ⌝ }
 {
-    [
-        octets::octet_at(frame, SA),
-        octets::octet_at(frame, SA + 1),
-        octets::octet_at(frame, SA + 2),
-        octets::octet_at(frame, SA + 3),
-        octets::octet_at(frame, SA + 4),
-        octets::octet_at(frame, SA + 5),
-    ]
+    address_at(frame, SA)
 }
 
 // SA is not the AP, or, in an IBSS, has its group bit set.

@@ -5,7 +5,9 @@ mod parts;
 
 pub use address::Addressed;
 pub use address::Cell;
+pub use address::are_same;
 pub use address::read_address;
+pub use address::receiver;
 pub use address::sender;
 pub use management::LENGTH;
 pub use management::LONGEST_FRAME;

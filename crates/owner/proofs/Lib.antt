@@ -1,4 +1,3 @@
 pub mod CountingUnits
 pub mod KeptFit
-pub mod SameAddresses
 pub mod TbttByTbtt

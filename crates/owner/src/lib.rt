@@ -1,7 +1,6 @@
 // The DFS owner of an IBSS, as a member follows it (document 02, Five; 802.11h 11.6.7.2).
 ghost use mathlib.Core.Path.{_≡_};
 ghost use Prim.Native.Nat.{_≤_};
-ghost use Rattle.header.specs.Headers.{same};
 ghost use Rattle.owner.specs.CodeTerms.Spared.{sparedBy};
 ghost use Rattle.owner.specs.Owners.{unknown, isOwner, named, heardFrom, pastTbtts, OwnerFits};
 
@@ -13,20 +12,6 @@ pub struct Owner {
     pub recovery: u8,
     pub misses: u8,
     pub heard: bool,
-}
-
-// Whether two addresses are the same.
-fn are_same(one: [u8; 6], other: [u8; 6]) -> bool
-    ensures { λ r. ⌜ r ≡ same one other ⌝ }
-{
-    let mut i = 0;
-    while i < 6 {
-        if one[i] != other[i] {
-            return false;
-        }
-        i += 1;
-    }
-    true
 }
 
 // How many of the TBTTs to come are no miss: the next one, where a beacon from the owner has been accepted since the latest.
@@ -59,7 +44,7 @@ impl Owner {
             return false;
         }
         let owner = self.address;
-        are_same(address, owner)
+        header::are_same(address, owner)
     }
 
     // An accepted beacon names an owner and an interval. Another owner than before has missed nothing, and has not been heard.

@@ -2,7 +2,6 @@
 ghost use Rattle.member.specs.Validity.{ValidMember};
 use member::Member;
 use owner::Owner;
-use pending::Pending;
 use scene::fields;
 use scene::say;
 use scene::verb::Verb;
@@ -12,17 +11,6 @@ fn permission(member: Member, units: u32)
 {
     let permission = member.ask(units);
     say::octet(permission.number());
-}
-
-fn pending(pending: Pending) {
-    match pending {
-        Pending::Nothing => say::number(0),
-        Pending::Switch(switch) => {
-            say::number(switch.at);
-            say::octet(switch.mode);
-            say::octet(switch.channel);
-        }
-    }
 }
 
 fn owner(owner: Owner) {
@@ -50,7 +38,7 @@ pub fn asked(member: Member, verb: Verb, units: u32)
         Verb::Channel => say::octet(station.channel),
         Verb::Clock => say::number(station.clock as u64),
         Verb::Constraint => fields::kept(power),
-        Verb::Pending => pending(switch),
+        Verb::Pending => fields::pending(switch),
         Verb::Owner => owner(known),
         _ => say::text(b" unknown"),
     }

@@ -1,130 +1,28 @@
-// Replies as they are written: the answer's number, of a reply its length and its octets, of a long one the first and whether zeros follow, and whether
-// the buffer is as it was after the reply, or whole where there is none.
-ghost use Prim.Native.Nat.{_≤_};
+// Replies that are asked for without a station.
 use crate::AP;
 use crate::OWN;
-use element::tpc_report::TpcReport;
-use measured_report::Finding;
-use measured_report::Readings;
-use octets::Wrote;
-use scene::after;
 use scene::line;
-use scene::say;
+use scene::replies;
+use scene::replies::BLANK;
+use scene::replies::ROOM;
 
-// Every buffer is lent full of this octet, so that one that is changed shows.
-const BLANK: u8 = 170;
-
-// A buffer takes a reply as long as the longest frame.
-const ROOM: usize = 2400;
-
-// How many octets of a reply are told.
-const TOLD: usize = 96;
-
-fn short(n: u64) -> u32 {
-    (n % 4294967296) as u32
-}
-
-fn finding(sort: u64, value: u64) -> Finding {
-    match sort {
-        0 => Finding::Refused,
-        1 => Finding::Map((value % 256) as u8),
-        2 => Finding::Busy(short(value)),
-        _ => Finding::Times,
-    }
-}
-
-fn readings(n: [u64; 16]) -> Readings {
-    let finding = finding(n[5], n[6]);
-    let times = [
-        short(n[7]),
-        short(n[8]),
-        short(n[9]),
-        short(n[10]),
-        short(n[11]),
-        short(n[12]),
-        short(n[13]),
-        short(n[14]),
-    ];
-    Readings { finding, times }
-}
-
-// The first octets, and whether the others are as they were.
-fn octets(buffer: &[u8; ROOM], count: usize) {
-    let mut zeros = true;
-    let mut kept = true;
-    let mut i = 0;
-    while i < ROOM {
-        let octet = buffer[i];
-        if i < count {
-            if i < TOLD {
-                say::octet(octet);
-            } else if octet != 0 {
-                zeros = false;
-            }
-        } else if octet != BLANK {
-            kept = false;
-        }
-        i += 1;
-    }
-    if TOLD < count {
-        if zeros {
-            say::text(b" zeros");
-        } else {
-            say::text(b" others");
-        }
-    }
-    if kept {
-        say::text(b" kept");
-    } else {
-        say::text(b" changed");
-    }
-}
-
-fn tell(wrote: Wrote, buffer: &[u8; ROOM]) {
-    match wrote {
-        Wrote::Refused(refusal) => {
-            say::octet(refusal.number());
-            octets(buffer, 0);
-        }
-        Wrote::Length(count) => {
-            say::number(0);
-            say::number(count as u64);
-            octets(buffer, count);
-        }
-    }
-}
-
-// The frame is the octets from `from` on, and as many zeros as asked. Sizes past their limits wrap, so that every scene runs.
-fn size(n: [u64; 16], count: usize, from: usize) -> usize
-    requires { ⌜ from ≤ 128 ⌝ }
-    ensures { λ r. ⌜ r ≤ 2496 ⌝ }
-{
-    let octets = after::end(count, from) - from;
-    octets + ((n[2] % 2337) as usize)
-}
-
-// A TPC Report, in which power and margin are octets.
 pub fn tpc(n: [u64; 16], octets: [u8; line::ROOM], count: usize) {
-    let mut frame = [0u8; 2496];
     let mut buffer = [BLANK; ROOM];
     let room = (n[1] % 2401) as usize;
-    let power = octets::to_signed(octets[3]);
-    let margin = octets::to_signed(octets[4]);
-    let length = size(n, count, 5);
-    octets::put(true, &octets[5..], &mut frame, 0);
-    let report = TpcReport { power, margin };
+    let frame = replies::frame(&octets[5..]);
+    let length = replies::size(n, count, 5);
+    let report = replies::report(octets);
     let wrote = reply::to_tpc_request(&frame[..length], OWN, AP, report, &mut buffer[..room]);
-    tell(wrote, &buffer);
+    replies::tell(wrote, &buffer);
 }
 
 pub fn measurement(n: [u64; 16], octets: [u8; line::ROOM], count: usize) {
-    let mut frame = [0u8; 2496];
     let mut buffer = [BLANK; ROOM];
     let room = (n[1] % 2401) as usize;
-    let readings = readings(n);
-    let length = size(n, count, 15);
-    octets::put(true, &octets[15..], &mut frame, 0);
-    let clock = short(n[3]);
+    let frame = replies::frame(&octets[15..]);
+    let length = replies::size(n, count, 15);
+    let readings = replies::readings(n);
+    let clock = replies::short(n[3]);
     let index = n[4] as usize;
     let wrote = reply::to_measurement_request(
         &frame[..length],
@@ -135,5 +33,5 @@ pub fn measurement(n: [u64; 16], octets: [u8; line::ROOM], count: usize) {
         readings,
         &mut buffer[..room],
     );
-    tell(wrote, &buffer);
+    replies::tell(wrote, &buffer);
 }

@@ -14,6 +14,7 @@ use measurement_element::Span;
 use measurement_element::measurement_report;
 use measurement_element::measurement_report::Reason;
 use measurement_element::measurement_request;
+use pending::Pending;
 
 pub fn power(p: PowerConstraint) {
     say::text(b" constraint");
@@ -25,6 +26,18 @@ pub fn kept(power: MaybePower) {
     match power {
         MaybePower::Absent => say::text(b" none"),
         MaybePower::Is(constraint) => say::octet(constraint.decibels),
+    }
+}
+
+// The switch that a station awaits: 0, or its moment, mode and channel.
+pub fn pending(pending: Pending) {
+    match pending {
+        Pending::Nothing => say::number(0),
+        Pending::Switch(switch) => {
+            say::number(switch.at);
+            say::octet(switch.mode);
+            say::octet(switch.channel);
+        }
     }
 }
 

@@ -16,8 +16,13 @@ pub const INTERVAL: usize = 32;
 // How many octets the longest frame of a scene has.
 pub const LONGEST: usize = 2400;
 
-// Where the last octet of SA stands.
+// Where DA stands, and the last octet of SA.
+const RECEIVER: usize = 4;
+
 const SENDER: usize = 15;
+
+// A receiver that is named by this first octet is all ones.
+const ALL: u8 = 255;
 
 fn begun_by(octets: &[u8]) -> [u8; LONGEST] {
     let mut frame = [0u8; LONGEST];
@@ -38,4 +43,25 @@ pub fn headed(front: usize, first: u8, sender: u8, after: &[u8]) -> [u8; LONGEST
     frame[SENDER] = sender;
     octets::put(true, after, &mut frame, front);
     frame
+}
+
+// An address by its first and its last octet.
+pub fn named(first: u8, last: u8) -> [u8; 6] {
+    [first, 0, 0, 0, 0, last]
+}
+
+// The receiver of frames to it.
+fn receiver(first: u8, last: u8) -> [u8; 6] {
+    if first == ALL {
+        return [ALL; 6];
+    }
+    named(first, last)
+}
+
+// The same frame to another receiver, by the first and the last octet of its address.
+pub fn sent_to(first: u8, last: u8, frame: [u8; LONGEST]) -> [u8; LONGEST] {
+    let to = receiver(first, last);
+    let mut sent = frame;
+    octets::put(true, &to, &mut sent, RECEIVER);
+    sent
 }

@@ -6,12 +6,16 @@ pub enum Verb {
     At,
     Start,
     Advance,
+    Join,
+    Leave,
+    Tick,
     Ask,
     Channel,
     Clock,
     Constraint,
     Pending,
     Owner,
+    Row,
     Frame,
     Action,
     Beacon,
@@ -57,6 +61,23 @@ pub fn verb_of(word: &[u8]) -> Verb {
     }
     if same(word, b"scene") {
         return Verb::Scene;
+    }
+    stepping(word)
+}
+
+// Verbs of a table and its rows.
+fn stepping(word: &[u8]) -> Verb {
+    if same(word, b"join") {
+        return Verb::Join;
+    }
+    if same(word, b"leave") {
+        return Verb::Leave;
+    }
+    if same(word, b"tick") {
+        return Verb::Tick;
+    }
+    if same(word, b"row") {
+        return Verb::Row;
     }
     asking(word)
 }

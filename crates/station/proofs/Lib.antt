@@ -1,6 +1,7 @@
 pub mod Answers
 pub mod Clearing
 pub mod InUse
+pub mod KeptThroughout
 pub mod OneWay
 pub mod Received
 pub mod SlotBySlot

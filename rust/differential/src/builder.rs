@@ -511,7 +511,9 @@ impl Builder<'_> {
     /// The ID that belongs in this place, or another.
     fn id(&mut self, id: u8) -> u8 {
         if self.wrong() {
-            return self.rng.pick(&[0, 32, 34, 35, 37, 38, 39, 40, 220, 221, 222, 255]);
+            return self
+                .rng
+                .pick(&[0, 32, 34, 35, 37, 38, 39, 40, 220, 221, 222, 255]);
         }
         id
     }

@@ -1,5 +1,5 @@
-//! The numbers of the section "Answer numbers" and of requests One and Five in
-//! document 02, and the answers to an ask from the section "The station".
+//! The numbers of the section "Answer numbers" and of requests One, Five and Six
+//! in document 02, and the answers to an ask from the section "The station".
 
 /// The refusal of a frame, with the place where the frame broke (02, One).
 #[derive(Clone, Copy, Debug, PartialEq, Eq)]
@@ -62,7 +62,8 @@ pub const INTERVAL: u8 = 12;
 pub const BUFFER_SHORT: u8 = 13;
 /// The clock would pass its limit, or the advance is over 65,535.
 pub const CLOCK: u8 = 14;
-/// At start: B is 0, channel over 200, or an address with its group bit set.
+/// At start, and where a row of a table is joined: B is 0, channel over 200, or
+/// an address with its group bit set.
 pub const START: u8 = 15;
 /// Record that cannot be written, impossible readings, index past the last or
 /// on a kind without elements, or a centre asked over channel 200.
@@ -83,6 +84,13 @@ pub const LEFT_OVER: u8 = 22;
 
 /// In an IBSS: an announcement by any but a known owner.
 pub const NOT_THE_OWNER: u8 = 23;
+
+/// In a table: no free row.
+pub const NO_FREE_ROW: u8 = 24;
+/// In a table: the address is already joined.
+pub const ALREADY_JOINED: u8 = 25;
+/// In a table: the address is not joined.
+pub const NOT_JOINED: u8 = 26;
 
 /// Ask: granted.
 pub const ASK_GRANTED: u8 = 0;

@@ -21,7 +21,8 @@ const FRAGMENT: u8 = 0b0000_1111;
 /// Octet 0 of an Action frame: version 0, type 0, subtype 13.
 const ACTION_CONTROL: u8 = 13 << 4;
 
-const ALL_ONES: Address = [0xFF; 6];
+/// The address of frames to every station.
+pub(crate) const ALL_ONES: Address = [0xFF; 6];
 
 /// The group bit of an address, in its first octet.
 const GROUP: u8 = 1;
@@ -121,6 +122,14 @@ fn read_addresses(frame: &[u8], own: Address, network: Network) -> Result<bool, 
         return Err(ADDRESSES);
     }
     Ok(da == ALL_ONES)
+}
+
+/// DA, where a frame is not too short to have one.
+pub(crate) fn receiver(frame: &[u8]) -> Option<Address> {
+    if frame.len() < SA {
+        return None;
+    }
+    Some(address_at(frame, DA))
 }
 
 fn address_at(frame: &[u8], at: usize) -> Address {
@@ -226,6 +235,16 @@ mod tests {
         assert!(read_header(&to_all, OWN, BSS).unwrap().broadcast);
         assert!(!read_header(&header(8, OWN), OWN, BSS).unwrap().broadcast);
         assert_eq!(read_header(&to_all, OWN, BSS).unwrap().sender, AP);
+    }
+
+    #[test]
+    fn the_receiver_of_a_short_frame() {
+        let frame = header(13, OWN);
+        assert_eq!(receiver(&frame), Some(OWN));
+        assert_eq!(receiver(&frame[..10]), Some(OWN));
+        for length in 0..10 {
+            assert_eq!(receiver(&frame[..length]), None);
+        }
     }
 
     #[test]

@@ -1,7 +1,8 @@
 //! A second, independent reading of document 01 ("Scope of the build and its
-//! rules") and of requests One, Two, Four and Five in document 02, over IEEE
-//! Std 802.11h-2003: elements, action frames, replies, one non-AP station, one
-//! station of an IBSS, and the evening list of a capture.
+//! rules") and of requests One, Two, Four, Five and Six in document 02, over
+//! IEEE Std 802.11h-2003: elements, action frames, replies, one non-AP station,
+//! one station of an IBSS, a table of sixteen stations, and the evening list of
+//! a capture.
 //!
 //! Every refusal is a `u8` of the document's table, see [`answer`]; that of a
 //! frame says its place too, see [`Refusal`]. No function panics, and a
@@ -24,6 +25,7 @@ pub mod measurement;
 mod octets;
 pub mod reply;
 pub mod station;
+pub mod table;
 
 #[cfg(test)]
 mod sample;
@@ -57,3 +59,4 @@ pub use reply::{
     reply_to_tpc_request_in_ibss, Finding,
 };
 pub use station::{PendingSwitch, Station};
+pub use table::Table;

@@ -119,6 +119,18 @@ impl Station {
     /// Starts a station at clock 0. B of 0, a channel over 200 or a group
     /// address: 15.
     pub fn start(own: Address, ap: Address, interval: u16, channel: u8) -> Result<Station, u8> {
+        Station::start_at(0, own, ap, interval, channel)
+    }
+
+    /// Starts a station whose clock stands at `clock`, as that of a table does
+    /// where a row is joined (02, Six). Refused as `start` is.
+    pub(crate) fn start_at(
+        clock: u32,
+        own: Address,
+        ap: Address,
+        interval: u16,
+        channel: u8,
+    ) -> Result<Station, u8> {
         let group = is_group(own) || is_group(ap);
         if interval == 0 || !is_channel(channel) || group {
             return Err(START);
@@ -128,7 +140,7 @@ impl Station {
             ap,
             interval,
             channel,
-            clock: 0,
+            clock,
             frames: 0,
             history: Vec::new(),
             latest: None,
@@ -152,12 +164,14 @@ impl Station {
 
     /// Advances the clock by `n` TU. Over 65,535, or past the limit: 14.
     pub fn advance(&mut self, n: u32) -> u8 {
-        if n > Station::STEP_LIMIT || n > Station::CLOCK_LIMIT - self.clock {
-            return CLOCK;
+        match clock_after(self.clock, n) {
+            Err(refusal) => refusal,
+            Ok(clock) => {
+                self.clock = clock;
+                self.forget();
+                ACCEPTED
+            }
         }
-        self.clock += n;
-        self.forget();
-        ACCEPTED
     }
 
     /// Asks to send for `n` TU from now: the first that applies of 5, 1, 2, 3,
@@ -186,7 +200,7 @@ impl Station {
         ASK_GRANTED
     }
 
-    /// The clock, in TU since the start.
+    /// The clock, in TU since the start; in a row of a table since the table's.
     pub fn clock(&self) -> u32 {
         self.clock
     }
@@ -415,6 +429,15 @@ impl Station {
             replaced: setting.replaced,
         })
     }
+}
+
+/// What a clock is after `n` TU. 14: "clock would pass its limit, or the advance
+/// is over 65,535".
+pub(crate) fn clock_after(clock: u32, n: u32) -> Result<u32, u8> {
+    if n > Station::STEP_LIMIT || n > Station::CLOCK_LIMIT - clock {
+        return Err(CLOCK);
+    }
+    Ok(clock + n)
 }
 
 /// How many units are looked at together.

@@ -1,19 +1,17 @@
-//! What the scenes reached. That answers are alike shows little if some answer
-//! was never among them.
+//! What the scenes of an IBSS reached.
 
-/// The numbers of the document's table, with 0 for accepted.
-const NUMBERS: usize = 24;
+use crate::scenes::counts::{tell_events, tell_numbers, Given};
 
 /// How often each answer was given, and how often what else is worth seeing.
 #[derive(Default)]
 pub struct Counts {
     pub lines: u64,
-    pub starts: [u64; NUMBERS],
-    pub frames: [u64; NUMBERS],
-    pub advances: [u64; NUMBERS],
-    pub asks: [u64; NUMBERS],
-    pub reads: [u64; NUMBERS],
-    pub pairs: [u64; NUMBERS],
+    pub starts: Given,
+    pub frames: Given,
+    pub advances: Given,
+    pub asks: Given,
+    pub reads: Given,
+    pub pairs: Given,
     events: [u64; EVENTS.len()],
 }
 
@@ -91,27 +89,7 @@ impl Counts {
             ("read", &self.reads, &refusals),
             ("pair", &self.pairs, &pairs),
         ];
-        let calls: u64 = tables.iter().map(|table| table.1.iter().sum::<u64>()).sum();
-        eprintln!("ibss scenes: {} lines, {calls} calls", self.lines);
-        let mut well = true;
-        for (name, given, can) in tables {
-            eprint!("{name:>9}");
-            for (number, &times) in given.iter().enumerate() {
-                if times != 0 {
-                    eprint!("  {number}: {times}");
-                }
-                if (times != 0) != can.contains(&number) {
-                    eprint!("  FAILED: {number} was given {times} times");
-                    well = false;
-                }
-            }
-            eprintln!();
-        }
-        for (name, &times) in EVENTS.iter().zip(&self.events) {
-            let failed = if times == 0 { "FAILED: " } else { "" };
-            eprintln!("{times:>9} times {failed}{name}");
-            well &= times != 0;
-        }
-        well
+        let is_complete = tell_numbers("ibss scenes", self.lines, &tables);
+        tell_events(&EVENTS, &self.events) && is_complete
     }
 }

@@ -6,13 +6,19 @@
 //! All of it comes from fixed seeds. What was given how often is told on
 //! standard error; the run fails if something that can occur never did.
 
+// The other programs of this package use the rest of these three.
+#[allow(dead_code)]
+#[path = "../../builder.rs"]
+mod builder;
 mod counts;
 mod frames;
-// The other program of this package uses the rest of it.
 #[allow(dead_code)]
 #[path = "../../rng.rs"]
 mod rng;
 mod scene;
+#[allow(dead_code)]
+#[path = "../../scenes/mod.rs"]
+mod scenes;
 mod words;
 
 use counts::Counts;

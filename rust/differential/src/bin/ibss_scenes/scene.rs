@@ -1,41 +1,35 @@
 //! One scene: calls at random, with the twin's answers.
 
+use crate::builder::ALL_ONES;
 use crate::counts::{Counts, Event};
-use crate::frames::{
-    announcement, cut, dfs, element, header, member, quiet, spelt, Body, Kind, Sent, BSSID,
-    NUMBERS, OWN,
-};
+use crate::frames::{dfs, member, sent_by, BSSID, OWN};
 use crate::rng::Rng;
-use crate::words::{octets, received_told, told};
+use crate::scenes::frames::{
+    self, announcing_action, fixed_fields, header, other_action, spelt, Body, Kind, Sent,
+};
+use crate::scenes::moments::{some_interval, Moments, Now, LONGEST_STEP};
+use crate::scenes::words::{constraint_told, octets, pending_told, told};
+use crate::words::received_told;
 use std::collections::HashMap;
 use std::fmt::Write;
-use twin::{read_ibss_frame, Address, Frame, IbssReceived, IbssStation, Notice, Owner, Switch};
+use twin::{read_ibss_frame, Address, Frame, IbssReceived, IbssStation, Owner, Switch};
 
 /// So many calls has a scene, beside those that look at what is kept.
 const STEPS: u64 = 900;
 
-const ALL_ONES: Address = [0xFF; 6];
 /// Those that send, the station's own address among them.
 const SENDERS: [u8; 4] = [3, 4, 5, 1];
 /// The interval by which the program reads frames that no station hears.
 const READ_INTERVAL: u16 = 100;
-const LONGEST_ADVANCE: u64 = 65_535;
-
-/// Octets of a header, and of the longest frame that the program can make.
-const HEADER: usize = 24;
-const LONGEST: usize = 2400;
 
 /// A scene as it goes on.
 pub struct Scene<'a> {
     rng: Rng,
     interval: u16,
     station: IbssStation,
-    /// Moments at which something may begin or end.
-    edges: Vec<u64>,
+    moments: Moments,
     /// When each address last sent a beacon that was accepted.
     beacons: HashMap<Address, u64>,
-    /// How often, of ten times, the clock stays within one beacon interval.
-    near: u64,
     text: String,
     counts: &'a mut Counts,
 }
@@ -44,17 +38,12 @@ impl<'a> Scene<'a> {
     /// The text of the scene of this seed.
     pub fn play(seed: u64, is_late: bool, counts: &'a mut Counts) -> String {
         let mut rng = Rng::new(seed * 0x9E37_79B9_7F4A_7C15);
-        let interval = if rng.one_in(4) {
-            rng.between(1, 65_535) as u16
-        } else {
-            rng.pick(&[1, 2, 3, 7, 10, 100, 100, 100, 100, 1000, 65_535])
-        };
+        let interval = some_interval(&mut rng);
         let mut scene = Scene {
             interval,
             station: IbssStation::start(OWN, BSSID, READ_INTERVAL, 36).expect("it may start"),
-            edges: Vec::new(),
+            moments: Moments::new(interval, rng.pick(&[5, 8, 9, 9])),
             beacons: HashMap::new(),
-            near: rng.pick(&[5, 8, 9, 9]),
             text: format!("scene of seed {seed}\n"),
             rng,
             counts,
@@ -103,10 +92,10 @@ impl<'a> Scene<'a> {
 
     /// Brings the clock near its limit, by advances as the program does.
     fn go_late(&mut self) {
-        let moment = u32::MAX - self.rng.below(20 * u64::from(self.interval) + 300) as u32;
+        let moment = self.moments.late(&mut self.rng);
         while self.station.clock() < moment {
             let left = moment - self.station.clock();
-            self.station.advance(left.min(LONGEST_ADVANCE as u32));
+            self.station.advance(left.min(LONGEST_STEP as u32));
         }
         self.counts.lines += 1;
         writeln!(self.text, "at {moment}").expect("a string takes all");
@@ -126,8 +115,11 @@ impl<'a> Scene<'a> {
         self.look();
     }
 
-    fn now(&self) -> u64 {
-        u64::from(self.station.clock())
+    fn now(&self) -> Now {
+        Now {
+            clock: u64::from(self.station.clock()),
+            pending: self.station.pending_switch().map(|switch| switch.moment),
+        }
     }
 
     /// What the station keeps, of each now and then.
@@ -145,83 +137,29 @@ impl<'a> Scene<'a> {
             self.say("owner", &owner);
         }
         if self.rng.one_in(4) {
-            let pending = match self.station.pending_switch() {
-                None => "0".to_string(),
-                Some(switch) => format!("{} {} {}", switch.moment, switch.mode, switch.channel),
-            };
-            self.say("pending", &pending);
+            let pending = self.station.pending_switch();
+            self.say("pending", &pending_told(pending));
         }
         match self.rng.below(6) {
             0 => self.say("channel", &self.station.channel().to_string()),
             1 => self.say("clock", &self.station.clock().to_string()),
             2 => {
                 let constraint = self.station.constraint();
-                let told = constraint.map_or("none".to_string(), |decibels| decibels.to_string());
-                self.say("constraint", &told);
+                self.say("constraint", &constraint_told(constraint));
             }
             _ => {}
         }
     }
 
-    /// A moment that lies ahead, at which something may begin or end.
-    fn edge(&mut self) -> Option<u64> {
-        let now = self.now();
-        self.edges.retain(|&edge| edge > now);
-        if self.edges.len() > 12 {
-            self.edges.drain(..6);
-        }
-        let pending = self.station.pending_switch().map(|switch| switch.moment);
-        if self.rng.one_in(2) && pending.is_some() {
-            return pending;
-        }
-        if self.edges.is_empty() {
-            return None;
-        }
-        Some(self.rng.pick(&self.edges))
-    }
-
     fn advance(&mut self) {
         let before = self.station.clone();
-        let units = if self.rng.below(10) < self.near {
-            self.few_units()
-        } else {
-            self.many_units()
-        } as u32;
+        let now = self.now();
+        let units = self.moments.units_to_advance(&mut self.rng, now);
         let answer = self.station.advance(units);
         self.counts.advances[usize::from(answer)] += 1;
         self.say(&format!("advance {units}"), &answer.to_string());
         if answer == 0 {
             self.advanced(&before, units);
-        }
-    }
-
-    /// To about the next TBTT at most.
-    fn few_units(&mut self) -> u64 {
-        let b = u64::from(self.interval);
-        let to_tbtt = b - self.now() % b;
-        match self.rng.below(8) {
-            0 => 0,
-            1 => 1,
-            2 => to_tbtt - 1,
-            3 | 4 => to_tbtt,
-            5 => to_tbtt + 1,
-            6 => self.towards_edge().unwrap_or(1),
-            _ => self.rng.below(b),
-        }
-    }
-
-    fn many_units(&mut self) -> u64 {
-        let b = u64::from(self.interval);
-        match self.rng.below(16) {
-            0 | 1 => b - 1,
-            2 | 3 => b,
-            4 | 5 => b + 1,
-            6..=8 => self.rng.between(2, 6) * b,
-            9..=11 => self.towards_edge().unwrap_or(b),
-            12 => self.rng.below(LONGEST_ADVANCE + 1),
-            13 => LONGEST_ADVANCE,
-            14 => LONGEST_ADVANCE + 1,
-            _ => self.rng.pick(&[100_000, 4_294_967_295]),
         }
     }
 
@@ -244,7 +182,7 @@ impl<'a> Scene<'a> {
                 self.counts.event(Event::SwitchedOwned);
             }
         }
-        if u64::from(units) == LONGEST_ADVANCE {
+        if u64::from(units) == LONGEST_STEP {
             self.counts.event(Event::LongAdvance);
         }
         if self.station.clock() == u32::MAX {
@@ -252,24 +190,9 @@ impl<'a> Scene<'a> {
         }
     }
 
-    /// The way to an edge, or one unit less or more.
-    fn towards_edge(&mut self) -> Option<u64> {
-        let edge = self.edge()?;
-        let way = edge - self.now() + self.rng.below(3) - 1;
-        Some(way.min(LONGEST_ADVANCE))
-    }
-
     fn ask(&mut self) {
-        let units = match self.rng.below(10) {
-            0 => 0,
-            1 | 2 => 1,
-            3 => u64::from(self.interval),
-            4 => self.rng.below(LONGEST_ADVANCE + 1),
-            5 => self
-                .rng
-                .pick(&[LONGEST_ADVANCE, LONGEST_ADVANCE + 1, 4_294_967_295]),
-            _ => self.towards_edge().unwrap_or(2),
-        } as u32;
+        let now = self.now();
+        let units = self.moments.units_to_ask(&mut self.rng, now);
         let answer = self.station.ask(units);
         self.counts.asks[usize::from(answer)] += 1;
         self.say(&format!("ask {units}"), &answer.to_string());
@@ -312,106 +235,24 @@ impl<'a> Scene<'a> {
                 elements.push(dfs(&mut self.rng, owner));
             }
         }
-        if announces {
-            elements.push(announcement(&mut self.rng));
-            if self.rng.one_in(30) {
-                elements.push(announcement(&mut self.rng));
-            }
-        }
-        let quiets = if self.rng.one_in(40) {
-            self.rng.pick(&[8, 9])
-        } else {
-            self.rng.pick(&[0, 0, 0, 0, 1, 1, 1, 2, 3])
-        };
-        for _ in 0..quiets {
-            elements.push(quiet(&mut self.rng, interval));
-        }
-        if self.rng.one_in(4) {
-            elements.push(element(32, &[self.rng.octet()]));
-        }
-        match self.rng.below(40) {
-            0 => elements.push(element(32, &[3])),
-            1 => elements.push(element(32, &[3, 4])),
-            2 => elements.push(element(35, &[self.rng.octet(), self.rng.octet()])),
-            3 => elements.push(element(35, &[7])),
-            4 => elements.push(element(221, &[1, 2, 3])),
-            5 => elements.push(element(0, &[])),
-            6 => elements.push(element(42, &self.rng.octets(5))),
-            _ => {}
-        }
+        elements.extend(frames::elements(&mut self.rng, announces, interval));
         self.rng.shuffle(&mut elements);
         elements
     }
 
     /// A beacon or a probe response.
     fn notice(&mut self, kind: Kind, sender: u8, announces: bool, interval: u16) -> Body {
-        let said = match self.rng.below(40) {
-            0 => interval ^ 1,
-            1 => interval.wrapping_add(256),
-            _ => interval,
-        };
-        let mut parts = vec![said.to_le_bytes().to_vec(), vec![0, 1]];
-        parts.extend(self.elements(sender, announces, interval));
-        let length: usize = parts.iter().map(Vec::len).sum();
-        let kept = match self.rng.below(40) {
-            0 => self.rng.place(length + 1),
-            1 => length - 1,
-            _ => length,
-        };
-        // In front of them stand a sender and maybe an index.
-        cut(&mut parts, kept.min(NUMBERS - 2));
-        Body { kind, parts }
-    }
-
-    /// An action body that announces nothing, or a broken one.
-    fn other_action(&mut self) -> Body {
-        let measure = element(38, &[7, 0, 0, 36, 0, 0, 0, 0, 0, 0, 0, 0, 10, 0]);
-        let enable = element(38, &[8, 2, 0]);
-        let report = element(39, &[7, 1, 0]);
-        let vendor = element(221, &[1, 2]);
-        let parts = match self.rng.below(16) {
-            0 => vec![vec![0, 0, 7], measure, enable],
-            1 => vec![vec![0, 0, 7], measure.clone(), vendor, measure],
-            2 => vec![vec![0, 1, 0], report.clone(), report],
-            3 => vec![vec![0, 2, 7], element(34, &[])],
-            4 => vec![vec![0, 2, 0], element(34, &[])],
-            5 => vec![
-                vec![0, 3, 7],
-                element(35, &[self.rng.octet(), self.rng.octet()]),
-                vendor,
-            ],
-            6 => vec![vec![1, 4]],
-            7 => vec![vec![0, 5, 7]],
-            8 => vec![vec![0]],
-            9 => vec![vec![0, 2]],
-            10 => vec![vec![0, 4]],
-            11 => vec![vec![0, 4], element(34, &[])],
-            12 => vec![vec![0, 4], element(37, &[0, 44, 1]), vec![0]],
-            13 => vec![vec![0, 4], vec![37, 3, 0, 44]],
-            14 => vec![vec![0, 4], element(37, &[0, 44])],
-            _ => vec![vec![0, 3, 7], vec![35]],
-        };
-        Body {
-            kind: Kind::Action,
-            parts,
-        }
+        let fixed_fields = fixed_fields(&mut self.rng, interval);
+        let elements = self.elements(sender, announces, interval);
+        frames::notice(&mut self.rng, kind, fixed_fields, elements)
     }
 
     fn body(&mut self, sender: u8, announces: bool, interval: u16) -> Body {
         match self.rng.below(10) {
             0..=5 => self.notice(Kind::Beacon, sender, announces, interval),
             6 | 7 => self.notice(Kind::Probe, sender, announces, interval),
-            _ if announces => {
-                let mut parts = vec![vec![0, 4], announcement(&mut self.rng)];
-                if self.rng.one_in(6) {
-                    parts.push(element(221, &[9]));
-                }
-                Body {
-                    kind: Kind::Action,
-                    parts,
-                }
-            }
-            _ => self.other_action(),
+            _ if announces => announcing_action(&mut self.rng),
+            _ => other_action(&mut self.rng),
         }
     }
 
@@ -422,7 +263,7 @@ impl<'a> Scene<'a> {
         if self.rng.one_in(8) {
             self.with_header(&body, sender)
         } else {
-            body.sent(sender)
+            sent_by(sender, &body)
         }
     }
 
@@ -450,41 +291,8 @@ impl<'a> Scene<'a> {
             1 => sa,
             _ => BSSID,
         };
-        let mut header = header(body.kind, da, sa, bssid);
-        match self.rng.below(24) {
-            0 => header[0] |= 1,
-            1 => header[0] |= 4,
-            2 => header[0] ^= 0x30,
-            3 => header[1] = self.rng.pick(&[1, 2, 4, 64]),
-            4 => header[22] = 1,
-            5 => header[22] = 0xF0,
-            6 => header[1] = 0x98,
-            _ => {}
-        }
-        if self.rng.one_in(24) {
-            header.truncate(self.rng.place(HEADER));
-            return Body {
-                kind: Kind::Action,
-                parts: Vec::new(),
-            }
-            .whole(&header);
-        }
-        let mut sent = body.whole(&header);
-        if self.rng.one_in(12) {
-            let length = self.lengthened(sent.octets.len());
-            sent.lengthen(length);
-        }
-        sent
-    }
-
-    /// With zeros after its octets, up to the longest frame and past it.
-    fn lengthened(&mut self, length: usize) -> usize {
-        match self.rng.below(4) {
-            0 => length + self.rng.place(300),
-            1 => 2336,
-            2 => 2337,
-            _ => self.rng.between(2330, LONGEST as u64) as usize,
-        }
+        let header = header(body.kind, da, sa, bssid);
+        frames::with_header(&mut self.rng, body, header)
     }
 
     fn take(&mut self, sent: &Sent) {
@@ -521,13 +329,13 @@ impl<'a> Scene<'a> {
             self.beacon_accepted(received, before);
         }
         if let Frame::Beacon(notice) | Frame::ProbeResponse(notice) = &received.frame {
-            self.note_edges(notice);
+            self.moments.note(self.now().clock, notice);
         }
     }
 
     /// What an accepted beacon has to do with the owner.
     fn beacon_accepted(&mut self, received: &IbssReceived, before: Option<Owner>) {
-        let now = self.now();
+        let now = self.now().clock;
         let latest_tbtt = now - now % u64::from(self.interval);
         if let Some(owner) = self.station.owner() {
             if owner.address == received.sender {
@@ -559,18 +367,6 @@ impl<'a> Scene<'a> {
         }
     }
 
-    /// When the Quiet elements begin and end.
-    fn note_edges(&mut self, notice: &Notice) {
-        let b = u64::from(self.interval);
-        let latest_tbtt = self.now() / b * b;
-        for quiet in &notice.quiets {
-            let start = latest_tbtt + u64::from(quiet.count) * b + u64::from(quiet.offset);
-            let end = start + u64::from(quiet.duration);
-            let again = u64::from(quiet.period) * b;
-            self.edges.extend([start, end, start + again, end + again]);
-        }
-    }
-
     fn foreign(&mut self, received: &IbssReceived) {
         self.counts.event(match received.frame {
             Frame::Beacon(_) => Event::ForeignBeacon,
@@ -589,7 +385,7 @@ impl<'a> Scene<'a> {
         let sent = if self.rng.one_in(2) {
             self.with_header(&body, sender)
         } else {
-            body.sent(sender)
+            sent_by(sender, &body)
         };
         let read = read_ibss_frame(&sent.octets, OWN, BSSID, READ_INTERVAL);
         let number = read.as_ref().err().map_or(0, |refusal| refusal.number);
@@ -605,7 +401,7 @@ impl<'a> Scene<'a> {
         let sender = self.rng.pick(&SENDERS);
         let body = self.notice(Kind::Beacon, sender, false, READ_INTERVAL);
         let index = self.rng.pick(&[0, 0, 1, 1, 2, 3, 4, u64::MAX / 4]);
-        let read = read_ibss_frame(&body.sent(sender).octets, OWN, BSSID, READ_INTERVAL);
+        let read = read_ibss_frame(&sent_by(sender, &body).octets, OWN, BSSID, READ_INTERVAL);
         let pair = match read {
             Ok(received) => received.pair(index as usize),
             Err(refusal) => Err(refusal.number),

@@ -1,25 +1,7 @@
-//! Answers in the words of the scenes.
+//! Frames that were read, in the words of the scenes.
 
-use twin::{Frame, IbssReceived, Notice, Refusal, Switch};
-
-pub fn octets(octets: &[u8]) -> String {
-    let words: Vec<String> = octets.iter().map(u8::to_string).collect();
-    words.join(" ")
-}
-
-pub fn told(answer: Result<(), Refusal>) -> String {
-    match answer {
-        Ok(()) => "0".to_string(),
-        Err(Refusal {
-            number,
-            offset: None,
-        }) => number.to_string(),
-        Err(Refusal {
-            number,
-            offset: Some(offset),
-        }) => format!("{number} {offset}"),
-    }
-}
+use crate::scenes::words::octets;
+use twin::{Frame, IbssReceived, Notice, Switch};
 
 pub fn received_told(received: &IbssReceived) -> String {
     let to_all = if received.broadcast { " to all" } else { "" };

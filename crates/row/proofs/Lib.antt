@@ -1,0 +1,5 @@
+pub mod Cells
+pub mod InTurn
+pub mod PlaceLaws
+pub mod RowLaws
+pub mod Says

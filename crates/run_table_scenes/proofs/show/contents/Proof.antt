@@ -1,0 +1,30 @@
+-- `contents` is safe and ends: the index rises to the number of rows.
+use Prim.Native.Nat.{_≤_, _-_}
+use borrow.Author.Needs.{needs}
+use Rattle.run_table_scenes.proofs.show.contents.Statement.{statement}
+use Rattle.run_table_scenes.proofs.show.contents.Tie as tie
+
+abbrev Inv-loop : tie.InvT-loop
+Inv-loop own rows i₀ i = i ≤ 16
+
+abbrev μ-loop : tie.MeasureT-loop
+μ-loop own rows i₀ i = 16 - i
+
+pub contents-spec : {M : Type 1} → statement M
+contents-spec =
+    tie.close
+    (tie.spec
+    Inv-loop
+    μ-loop
+    (λ c. search needs)
+    (λ c. search needs)
+    (λ c. search needs)
+    (λ c κs. search needs)
+    (λ c κs. search needs)
+    (λ c. search needs)
+    (λ c. search needs)
+    (λ c. search needs)
+    (λ c. search needs)
+    (λ c κs. search needs)
+    (λ c κs. search needs)
+    (λ c. search needs))

@@ -1,0 +1,4 @@
+pub mod CodeTerms
+pub mod Replies
+pub mod Tables
+pub mod Validity
