@@ -5,8 +5,9 @@ use mathlib.Core.Path.{_≡_, refl, sym, ap, ap₂, _∙_, subst}
 use Prim.Native.Nat.{ℕ, suc, _+_, _≤_}
 use native.Mathlib.Omega.{arith}
 use lib.ListN.{length, length-append}
+use Rattle.answer.proofs.RefusalNumbers.{numbered}
 use Rattle.answer.specs.Checks.{Outcome, refused, accepted, pick}
-use Rattle.answer.specs.Numbers.{answerNumber, numberOf}
+use Rattle.answer.specs.Numbers.{answerNumber}
 use Rattle.answer.specs.declared.Answer.{Answer}
 use Rattle.answer.specs.declared.Refusal.{Refusal}
 use Rattle.block.specs.Blocks.{usedLength, isDamaged, usedPart, blockMeans}
@@ -212,37 +213,9 @@ recorded-by x e is sound rs l =
     ap (λ (k : Noted). pick (isMalformed k) (badRecord l) (before (noted l k .text) (recorded rs (noted l k .lister)))) is
     ∙ ap (λ (b : Bool). pick b (badRecord l) (before (noted l e .text) (recorded rs (noted l e .lister)))) sound
 
-number-positive : (r : Refusal) → numberOf r ≡ 0 → ⊥
-number-positive Refusal.TooShort e = omega (arith, e)
-number-positive Refusal.TooLong e = omega (arith, e)
-number-positive Refusal.ForeignHeader e = omega (arith, e)
-number-positive Refusal.ForeignAddress e = omega (arith, e)
-number-positive Refusal.ForeignAction e = omega (arith, e)
-number-positive Refusal.ElementCut e = omega (arith, e)
-number-positive Refusal.ElementAbsent e = omega (arith, e)
-number-positive Refusal.WrongLength e = omega (arith, e)
-number-positive Refusal.ForbiddenValue e = omega (arith, e)
-number-positive Refusal.Repeated e = omega (arith, e)
-number-positive Refusal.TooManyQuiets e = omega (arith, e)
-number-positive Refusal.OtherInterval e = omega (arith, e)
-number-positive Refusal.BufferShort e = omega (arith, e)
-number-positive Refusal.PastClock e = omega (arith, e)
-number-positive Refusal.BadStart e = omega (arith, e)
-number-positive Refusal.Impossible e = omega (arith, e)
-number-positive Refusal.BlockDamaged e = omega (arith, e)
-number-positive Refusal.NoReplyDue e = omega (arith, e)
-number-positive Refusal.NoStation e = omega (arith, e)
-number-positive Refusal.RecordMalformed e = omega (arith, e)
-number-positive Refusal.OtherElement e = omega (arith, e)
-number-positive Refusal.LeftOver e = omega (arith, e)
-number-positive Refusal.ForeignAnnouncement e = omega (arith, e)
-number-positive Refusal.NoFreeRow e = omega (arith, e)
-number-positive Refusal.AlreadyJoined e = omega (arith, e)
-number-positive Refusal.NotJoined e = omega (arith, e)
-
 accepted-number : (a : Answer) → answerNumber a ≡ 0 → a ≡ Answer.Accepted
 accepted-number Answer.Accepted e = refl
-accepted-number (Answer.Refused r) e = absurd (number-positive r e)
+accepted-number (Answer.Refused r) e = absurd (let w = numbered r .0 in omega (arith, w, e))
 
 -- an advance that was accepted had a station
 module _ (l : Lister) (m : ℕ) (e : advSaid l m ≡ wentOn) where
