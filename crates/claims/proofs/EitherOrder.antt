@@ -27,8 +27,7 @@ use Rattle.walk.specs.Required.{required, nothingLeft}
 use Rattle.station.specs.declared.Station.{Station}
 use Rattle.table.proofs.Neighbours.{of-another}
 use Rattle.table.proofs.Readers.{sent-to-all}
-use Rattle.table.proofs.StaysApart.{some-same, same-seat-of}
-use Rattle.table.proofs.StaysValid.{hearing-seat}
+use Rattle.table.proofs.StaysApart.{some-same}
 use Rattle.table.specs.Tables.{withRows, onFirst, isJoined, stationOf, readerOf, hearing, heardRows, takeMeans, taken, takeOf, askMeans}
 use Rattle.table.specs.Validity.{ValidTable}
 use Rattle.table.specs.declared.Table.{Table}
@@ -40,7 +39,7 @@ use Rattle.claims.specs.TableHistories.{madeFor, historyOf, historyFor, 
 use Rattle.claims.specs.TableRuns.{take, question, TableAnswer, judged, asked, Made, Does}
 use Rattle.claims.proofs.TableDemand3.{row-arrives}
 use Rattle.claims.proofs.TableMeans.{askedAs, ap-kept, interval-kept, does-means}
-use Rattle.claims.proofs.TableRows.{unconcerned}
+use Rattle.claims.proofs.TableRows.{hearing-keeps, unconcerned}
 use Rattle.claims.proofs.WhoIsJoined.{heard-seats}
 
 -- ---- two rows changed in either order
@@ -106,9 +105,6 @@ module _ (f : List ℕ) where
       ∙ ap (λ (b : Bool). frameMeans (pick b (da f) (replicate 6 255)) (t .ap) (t .interval) f) (some-same (da f) (t .rows) (takeOf t g .table .rows) (heard-seats t v g))
 
 module _ (f g : List ℕ) (two : same (da f) (da g) ≡ false) where
-  hearing-keeps : (own : List ℕ) (k : Kind) (w : Row) → isOf own (hearing k w) ≡ isOf own w
-  hearing-keeps own k w = same-seat-of own w (hearing k w) (hearing-seat k w)
-
   rows-exchanged : (o o' : Placed Sent) (ws : List Row) → rowsBy g o' (rowsBy f o ws) ≡ rowsBy f o (rowsBy g o' ws)
   rows-exchanged (refused x) o' ws = refl
   rows-exchanged (accepted x) (refused y) ws = refl

@@ -31,7 +31,7 @@ use Rattle.claims.specs.HistoryLines.{says}
 use Rattle.claims.specs.MergedCaptures.{Noting, Advances, before as beforeRecords, leading, NoneMalformed, MergedRecords, MergedFiles, wentOn, ListsMerge, placeOf}
 use Rattle.claims.specs.Numbered.{Said, numberedFrom, recordsCounted, linesIn, linesAmong, damagedAmong}
 use Rattle.claims.proofs.ListedFiles.{numbered-append, blocks-counted}
-use Rattle.claims.proofs.MergedStations.{advance-merged}
+use Rattle.claims.proofs.MergedStations.{refused-never, advance-merged}
 
 -- ---- what is told, wherever its lines begin
 
@@ -222,9 +222,6 @@ module _ (l : Lister) (m : ℕ) (e : advSaid l m ≡ wentOn) where
   went : (l .active ≡ true) × (advanceOf (l .station) m .answer ≡ Answer.Accepted)
   went = by (l .active) refl (accepted-number (advAnswer l m) (ap (λ (x : Said). x .answer) e))
     where
-      refused-never : {A : Type 0} {r : Refusal} → Answer.Refused r ≡ Answer.Accepted → A
-      refused-never {A} {r} z = absurd (let f : _≡_ {A = ℕ} 0 1 = cc in omega arith)
-
       by : (b : Bool) → l .active ≡ b → advAnswer l m ≡ Answer.Accepted → (l .active ≡ true) × (advanceOf (l .station) m .answer ≡ Answer.Accepted)
       by true j a = (j, ap (λ (b : Bool). pick b (advanceOf (l .station) m .answer) (Answer.Refused Refusal.NoStation)) (sym j) ∙ a)
       by false j a = refused-never (ap (λ (b : Bool). pick b (advanceOf (l .station) m .answer) (Answer.Refused Refusal.NoStation)) (sym j) ∙ a)

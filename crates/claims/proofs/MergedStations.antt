@@ -146,7 +146,7 @@ gone-nowhere s v = ap (λ (t : ℕ). goneTo s t (s .pending)) (let e : s .clock 
         ap (λ (c : Bool). stepped s (advancedTo s (pick c (Advanced.Goes (s .clock)) (Advanced.Switches (s .clock) (x .channel)))) .station) (lt-ltb (s .clock) (x .at) (fits .0))
 
 -- what is accepted is not too far
-refused-never : {A : Type 0} {r : Refusal} → Answer.Refused r ≡ Answer.Accepted → A
+pub refused-never : {A : Type 0} {r : Refusal} → Answer.Refused r ≡ Answer.Accepted → A
 refused-never {A} {r} z = absurd (let f : _≡_ {A = ℕ} 0 1 = cc in omega arith)
 
 accepted-near : (t n : ℕ) (answer : Answer) → (tooFar t n ≡ true → answer ≡ Answer.Refused Refusal.PastClock) → answer ≡ Answer.Accepted → tooFar t n ≡ false

@@ -93,7 +93,7 @@ pub hearing-station : (own : List ℕ) (k : Kind) (w : Row) → isOf own w ≡ t
 unfolding hearing
 hearing-station own k w y = ap (λ (b : Bool). pick b (seated (heard (w .station) k)) w .station) (both (w .joined) (same own (w .station .own)) y .0)
 
-hearing-keeps : (own : List ℕ) (k : Kind) (w : Row) → isOf own (hearing k w) ≡ isOf own w
+pub hearing-keeps : (own : List ℕ) (k : Kind) (w : Row) → isOf own (hearing k w) ≡ isOf own w
 hearing-keeps own k w = same-seat-of own w (hearing k w) (hearing-seat k w)
 
 module _ (t : Table) (v : ValidTable t) (own : List ℕ) where
