@@ -1,5 +1,5 @@
 -- Frames to two different stations of a table at one moment may be taken in either order, and so may a frame to one and a question of the other (02, Seven: "frames to
--- two different stations at one moment may be taken in either order"); two frames to one station may not. Over the code's own results. Assumes nothing.
+-- two different stations at one moment may be taken in either order"); of two frames to one station the order can matter. Over the code's own results. Assumes nothing.
 use mathlib.Core.Bool.{Bool, true, false}
 use mathlib.Core.List.{List, [], _∷_, _++_, map}
 use mathlib.Core.Logic.{⊎-elim}
@@ -156,12 +156,12 @@ switchTo channel = (208 ∷ 0 ∷ 0 ∷ 0 ∷ []) ++ ours .own ++ ours .ap ++ ou
 abbrev bothMade : ℕ → TableAnswer → ℕ → TableAnswer → List Made
 bothMade first r second s = record { call = take (switchTo second); answer = s } ∷ record { call = take (switchTo first); answer = r } ∷ []
 
-abbrev Switched : List Made → List Made → Table → Type 0
-Switched before after t = Stay (ours .ap) (ours .interval) (ours .own) (ours .channel) before after t
+abbrev OurStay : List Made → List Made → Table → Type 0
+OurStay before after t = Stay (ours .ap) (ours .interval) (ours .own) (ours .channel) before after t
 
--- a table that it joined at moment 0 is another one in either order
+-- in a table that it joined at moment 0 the two orders leave two different tables
 pub order-matters : (before : List Made) → joinedAt before ≡ 0 → (x y x' y' : TableAnswer) (t u : Table)
-    → Switched before (bothMade 44 x 48 y) t → Switched before (bothMade 48 x' 44 y') u → t ≡ u → ⊥
+    → OurStay before (bothMade 44 x 48 y) t → OurStay before (bothMade 48 x' 44 y') u → t ≡ u → ⊥
 unfolding madeFor historyOf recordFrom stationTakes frameMeans headerMeans managementMeans addressMeans foreignHeader foreignAddress toAll checked elementsIn elementsAfter switchMeans fixed actionMeans opensWith required handing passing nothingLeft single announced informed
 order-matters before none x y x' y' t u one other e =
     let at-48 : channelIn (stationOf t (ours .own)) ≡ 48 = ap channelIn (row-arrives (ours .ap) (ours .interval) (ours .own) (ours .channel) before (bothMade 44 x 48 y) t one ∙ at-zero (bothMade 44 x 48 y)) in

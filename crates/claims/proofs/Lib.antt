@@ -86,4 +86,5 @@ pub mod TableWitnesses
 pub mod TakenOut
 pub mod TbttsPassed
 pub mod WhoIsJoined
+pub mod WhoStays
 pub mod Witnesses

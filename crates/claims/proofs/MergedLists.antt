@@ -5,7 +5,6 @@ use mathlib.Core.Path.{_≡_, refl, sym, ap, ap₂, _∙_, subst}
 use Prim.Native.Nat.{ℕ, suc, _+_, _≤_}
 use native.Mathlib.Omega.{arith}
 use lib.ListN.{length, length-append}
-use Rattle.answer.proofs.RefusalNumbers.{numbered}
 use Rattle.answer.specs.Checks.{Outcome, refused, accepted, pick}
 use Rattle.answer.specs.Numbers.{answerNumber}
 use Rattle.answer.specs.declared.Answer.{Answer}
@@ -23,15 +22,16 @@ use Rattle.capture_record.specs.Records.{Records, end, cut, more, recordsIn}
 use Rattle.station.specs.Asking.{permissionOf}
 use Rattle.station.specs.Clock.{advanceOf}
 use Rattle.station.specs.Starting.{startMeans}
+use Rattle.station.specs.Stations.{unitLimit}
 use Rattle.station.specs.Taking.{takeOf}
 use Rattle.station.specs.declared.Station.{Station}
 use Rattle.station.specs.declared.clock.Stepped.{Stepped}
 use Rattle.station.specs.declared.taking.Taken.{Taken}
 use Rattle.claims.specs.HistoryLines.{says}
-use Rattle.claims.specs.MergedCaptures.{Noting, Advances, before as beforeRecords, leading, NoneMalformed, MergedRecords, MergedFiles, wentOn, ListsMerge, placeOf}
-use Rattle.claims.specs.Numbered.{Said, numberedFrom, recordsCounted, linesIn, linesAmong, damagedAmong}
+use Rattle.claims.specs.MergedCaptures.{RawRecord, entryOf, inFront, leading, NoneMalformed, MergedRecords, MergedFiles, pastBlocks, pastRecords, BothAccepted, linesBefore, wentOn, closingLine, ListsMerge}
+use Rattle.claims.specs.Numbered.{Said, numberedFrom, recordsCounted, linesIn, linesAmong}
 use Rattle.claims.proofs.ListedFiles.{numbered-append, blocks-counted}
-use Rattle.claims.proofs.MergedStations.{refused-never, advance-merged}
+use Rattle.claims.proofs.MergedStations.{advance-merged}
 
 -- ---- what is told, wherever its lines begin
 
@@ -169,220 +169,238 @@ block-many b l = by (isDamaged b)
     by true = refl
     by false = recorded-many (recordsIn (usedPart b)) (oneBlockMore l 0)
 
--- ---- two advances and one
+-- ---- two advances that are accepted, and one
 
-pub record Merging (tell tell' : ℕ → Told) (place : ℕ) : Type 0 where
+abbrev Went : Lister → ℕ → ℕ → Type 0
+Went l a b =
+    (l .active ≡ true)
+    × (advanceOf (l .station) a .answer ≡ Answer.Accepted)
+    × (advanceOf (advanceOf (l .station) a .station) b .answer ≡ Answer.Accepted)
+
+-- what is told of both, and of the one
+pub record Merged (tell tell' : ℕ → Told) (many : ℕ) : Type 0 where
   pub lines-before : List Said
-  pub one : Said
-  pub next : Said
   pub lines-after : List Said
   pub base : Lister
-  pub placed : length lines-before ≡ place
-  pub apart : (n : ℕ) → tell n ≡ toldFrom base (lines-before ++ (one ∷ next ∷ lines-after)) n
-  pub together : one ≡ wentOn → next ≡ wentOn → (n : ℕ) → tell' n ≡ toldFrom base (lines-before ++ (wentOn ∷ lines-after)) n
+  pub placed : length lines-before ≡ many
+  pub apart : (n : ℕ) → tell n ≡ toldFrom base (lines-before ++ (wentOn ∷ wentOn ∷ lines-after)) n
+  pub together : (n : ℕ) → tell' n ≡ toldFrom base (lines-before ++ (wentOn ∷ lines-after)) n
 
-abbrev advAnswer : Lister → ℕ → Answer
-advAnswer l m = pick (l .active) (advanceOf (l .station) m .answer) (Answer.Refused Refusal.NoStation)
+-- the same where both are accepted at the lister that is reached from l, whatever the number of its lines
+pub record TellsMerged (reach : Lister → Lister) (l : Lister) (a b : ℕ) (tell tell' : ℕ → Told) (many : ℕ) : Type 0 where
+  pub at : Lister
+  pub reached : (n : ℕ) → (k : ℕ) × (reach (withLines l n) ≡ withLines at k)
+  pub lists : Went at a b → Merged tell tell' many
 
-abbrev advLister : Lister → ℕ → Lister
-advLister l m = pick (l .active) (following l (advanceOf (l .station) m .station)) l
-
-abbrev advSaid : Lister → ℕ → Said
-advSaid l m = says Word.Advance (answerNumber (advAnswer l m))
-
-adv-tells : (l : Lister) (m n : ℕ) → noted (withLines l n) (advancing m) ≡ toldFrom (advLister l m) (advSaid l m ∷ []) n
+-- an advance that is accepted
+adv-tells : (l : Lister) (m : ℕ) → l .active ≡ true → advanceOf (l .station) m .answer ≡ Answer.Accepted → (n : ℕ)
+    → noted (withLines l n) (advancing m) ≡ toldFrom (following l (advanceOf (l .station) m .station)) (wentOn ∷ []) n
 unfolding noted
-adv-tells l m n = by (l .active)
-  where
-    x : Stepped
-    x = advanceOf (l .station) m
+adv-tells l m active allowed n =
+    let x = advanceOf (l .station) m in
+    ap (λ (c : Bool). pick c (stepped (withLines l n) x) (noStation (withLines l n) Word.Advance)) active
+    ∙ line-tells (following l (x .station)) Word.Advance (Response.Call (x .answer)) n
+    ∙ ap (λ (r : Answer). toldFrom (following l (x .station)) (says Word.Advance (answerNumber r) ∷ []) n) allowed
 
-    by : (b : Bool) → pick b (stepped (withLines l n) x) (noStation (withLines l n) Word.Advance)
-        ≡ toldFrom (pick b (following l (x .station)) l) (says Word.Advance (answerNumber (pick b (x .answer) (Answer.Refused Refusal.NoStation))) ∷ []) n
-    by true = line-tells (following l (x .station)) Word.Advance (Response.Call (x .answer)) n
-    by false = line-tells l Word.Advance (refusal Refusal.NoStation) n
-
-adv-spoken : (l : Lister) (m : ℕ) → Spoken (λ n. noted (withLines l n) (advancing m))
-adv-spoken l m = record { said = advSaid l m ∷ []; base = advLister l m; tells = adv-tells l m }
+adv-spoken : (l : Lister) (m : ℕ) → l .active ≡ true → advanceOf (l .station) m .answer ≡ Answer.Accepted → Spoken (λ n. noted (withLines l n) (advancing m))
+adv-spoken l m active allowed = record { said = wentOn ∷ []; base = following l (advanceOf (l .station) m .station); tells = adv-tells l m active allowed }
 
 -- a record that is not malformed
-recorded-by : (x : Noting) (e : Noted) → entryMeans (x .kind) (x .contents) ≡ e → isMalformed e ≡ false → (rs : Records) (l : Lister)
-    → recorded (beforeRecords x rs) l ≡ before (noted l e .text) (recorded rs (noted l e .lister))
+recorded-by : (x : RawRecord) (e : Noted) → entryOf x ≡ e → isMalformed e ≡ false → (rs : Records) (l : Lister)
+    → recorded (inFront x rs) l ≡ before (noted l e .text) (recorded rs (noted l e .lister))
 unfolding recorded
 recorded-by x e is sound rs l =
     ap (λ (k : Noted). pick (isMalformed k) (badRecord l) (before (noted l k .text) (recorded rs (noted l k .lister)))) is
     ∙ ap (λ (b : Bool). pick b (badRecord l) (before (noted l e .text) (recorded rs (noted l e .lister)))) sound
 
-accepted-number : (a : Answer) → answerNumber a ≡ 0 → a ≡ Answer.Accepted
-accepted-number Answer.Accepted e = refl
-accepted-number (Answer.Refused r) e = absurd (let w = numbered r .0 in omega (arith, w, e))
+module _ (l : Lister) (one next both : RawRecord) (a b : ℕ) (few : a + b ≤ unitLimit) (is-one : entryOf one ≡ advancing a) (is-next : entryOf next ≡ advancing b) (is-both : entryOf both ≡ advancing (a + b)) (rest : Records) (went : Went l a b) where
+  abbrev mid : Lister
+  mid = following l (advanceOf (l .station) a .station)
 
--- an advance that was accepted had a station
-module _ (l : Lister) (m : ℕ) (e : advSaid l m ≡ wentOn) where
-  went : (l .active ≡ true) × (advanceOf (l .station) m .answer ≡ Answer.Accepted)
-  went = by (l .active) refl (accepted-number (advAnswer l m) (ap (λ (x : Said). x .answer) e))
-    where
-      by : (b : Bool) → l .active ≡ b → advAnswer l m ≡ Answer.Accepted → (l .active ≡ true) × (advanceOf (l .station) m .answer ≡ Answer.Accepted)
-      by true j a = (j, ap (λ (b : Bool). pick b (advanceOf (l .station) m .answer) (Answer.Refused Refusal.NoStation)) (sym j) ∙ a)
-      by false j a = refused-never (ap (λ (b : Bool). pick b (advanceOf (l .station) m .answer) (Answer.Refused Refusal.NoStation)) (sym j) ∙ a)
-
-  after-went : advLister l m ≡ following l (advanceOf (l .station) m .station)
-  after-went = ap (λ (b : Bool). pick b (following l (advanceOf (l .station) m .station)) l) (went .0)
-
-module _ (l : Lister) (a b : ℕ) (few : a + b ≤ 65535) (e : advSaid l a ≡ wentOn) (f : advSaid (advLister l a) b ≡ wentOn) where
-  abbrev s : Station
-  s = advanceOf (l .station) a .station
-
-  second : advanceOf s b .answer ≡ Answer.Accepted
-  second = went (following l s) b (ap (λ (u : Lister). advSaid u b) (sym (after-went l a e)) ∙ f) .1
-
-  merged : advanceOf (l .station) (a + b) ≡ advanceOf s b
-  merged = advance-merged (l .station) a b (went l a e .1) second few
-
-  same-lister : advLister l (a + b) ≡ advLister (advLister l a) b
-  same-lister =
-      ap (λ (c : Bool). pick c (following l (advanceOf (l .station) (a + b) .station)) l) (went l a e .0)
-      ∙ ap (λ (x : Stepped). following l (x .station)) merged ∙ ap (λ (u : Lister). advLister u b) (sym (after-went l a e))
-
-  same-said : advSaid l (a + b) ≡ wentOn
-  same-said =
-      ap (λ (c : Bool). says Word.Advance (answerNumber (pick c (advanceOf (l .station) (a + b) .answer) (Answer.Refused Refusal.NoStation)))) (went l a e .0)
-      ∙ ap (λ (x : Stepped). says Word.Advance (answerNumber (x .answer))) merged ∙ ap (λ (r : Answer). says Word.Advance (answerNumber r)) second
-
-module _ (l : Lister) (one next both : Noting) (a b : ℕ) (few : a + b ≤ 65535) (is-one : Advances one a) (is-next : Advances next b) (is-both : Advances both (a + b)) (rest : Records) where
   abbrev last : Lister
-  last = advLister (advLister l a) b
+  last = following mid (advanceOf (mid .station) b .station)
 
   abbrev after : Spoken (λ n. recorded rest (withLines last n))
   after = recorded-spoken rest last
 
+  merged : advanceOf (l .station) (a + b) ≡ advanceOf (mid .station) b
+  merged = advance-merged (l .station) a b (went .1) (went .2) few
+
   -- the second of the two, and what follows
-  from-next : Spoken (λ n. recorded (beforeRecords next rest) (withLines (advLister l a) n))
+  from-next : Spoken (λ n. recorded (inFront next rest) (withLines mid n))
   unfolding adv-spoken
   from-next = record {
-    said = advSaid (advLister l a) b ∷ after .said;
+    said = wentOn ∷ after .said;
     base = after .base;
-    tells = λ n. recorded-by next (advancing b) is-next refl rest (withLines (advLister l a) n)
-        ∙ then-tells (λ m. noted (withLines (advLister l a) m) (advancing b)) (recorded rest) (adv-spoken (advLister l a) b) after n;
+    tells = λ n. recorded-by next (advancing b) is-next refl rest (withLines mid n)
+        ∙ then-tells (λ m. noted (withLines mid m) (advancing b)) (recorded rest) (adv-spoken mid b refl (went .2)) after n;
   }
 
-  here : Merging (λ n. recorded (beforeRecords one (beforeRecords next rest)) (withLines l n)) (λ n. recorded (beforeRecords both rest) (withLines l n)) 0
-  unfolding adv-spoken from-next
+  -- the one with their sum, and what follows
+  from-both : Spoken (λ n. recorded rest (withLines (following l (advanceOf (l .station) (a + b) .station)) n))
+  from-both = record {
+    said = after .said;
+    base = after .base;
+    tells = λ n. ap (λ (x : Stepped). recorded rest (withLines (following l (x .station)) n)) merged ∙ after .tells n;
+  }
+
+  here : Merged (λ n. recorded (inFront one (inFront next rest)) (withLines l n)) (λ n. recorded (inFront both rest) (withLines l n)) 0
+  unfolding adv-spoken from-next from-both
   here = record {
     lines-before = [];
-    one = advSaid l a;
-    next = advSaid (advLister l a) b;
     lines-after = after .said;
     base = after .base;
     placed = refl;
-    apart = λ n. recorded-by one (advancing a) is-one refl (beforeRecords next rest) (withLines l n)
-        ∙ then-tells (λ m. noted (withLines l m) (advancing a)) (recorded (beforeRecords next rest)) (adv-spoken l a) from-next n;
-    together = λ e f n. recorded-by both (advancing (a + b)) is-both refl rest (withLines l n)
-        ∙ then-tells (λ m. noted (withLines l m) (advancing (a + b))) (recorded rest) (adv-spoken l (a + b))
-        (record { said = after .said; base = after .base; tells = λ m. ap (λ (u : Lister). recorded rest (withLines u m)) (same-lister l a b few e f) ∙ after .tells m }) n
-        ∙ ap (λ (x : Said). toldFrom (after .base) (x ∷ after .said) n) (same-said l a b few e f);
+    apart = λ n. recorded-by one (advancing a) is-one refl (inFront next rest) (withLines l n)
+        ∙ then-tells (λ m. noted (withLines l m) (advancing a)) (recorded (inFront next rest)) (adv-spoken l a (went .0) (went .1)) from-next n;
+    together = λ n. recorded-by both (advancing (a + b)) is-both refl rest (withLines l n)
+        ∙ then-tells (λ m. noted (withLines l m) (advancing (a + b))) (recorded rest)
+        (adv-spoken l (a + b) (went .0) (ap (λ (x : Stepped). x .answer) merged ∙ went .2)) from-both n;
   }
 
 -- ---- after what is alike, and before it
 
-merging-after : (tell : ℕ → Told) (next next' : Lister → Told) (s : Spoken tell) (place : ℕ)
-    → Merging (λ n. next (withLines (s .base) n)) (λ n. next' (withLines (s .base) n)) place
-    → Merging (λ n. before (tell n .text) (next (tell n .lister))) (λ n. before (tell n .text) (next' (tell n .lister))) (length (s .said) + place)
-merging-after tell next next' s place m = record {
+merged-after : (tell : ℕ → Told) (next next' : Lister → Told) (s : Spoken tell) (many : ℕ)
+    → Merged (λ n. next (withLines (s .base) n)) (λ n. next' (withLines (s .base) n)) many
+    → Merged (λ n. before (tell n .text) (next (tell n .lister))) (λ n. before (tell n .text) (next' (tell n .lister))) (length (s .said) + many)
+merged-after tell next next' s many m = record {
   lines-before = s .said ++ m .lines-before;
-  one = m .one;
-  next = m .next;
   lines-after = m .lines-after;
   base = m .base;
   placed = length-append (s .said) (m .lines-before) ∙ ap (λ (k : ℕ). length (s .said) + k) (m .placed);
-  apart = λ n. then-tells tell next s (record { said = m .lines-before ++ (m .one ∷ m .next ∷ m .lines-after); base = m .base; tells = m .apart }) n
+  apart = λ n. then-tells tell next s (record { said = m .lines-before ++ (wentOn ∷ wentOn ∷ m .lines-after); base = m .base; tells = m .apart }) n
       ∙ ap (λ (xs : List Said). toldFrom (m .base) xs n) (sym (append-assoc (s .said) (m .lines-before) _));
-  together = λ e f n. then-tells tell next' s (record { said = m .lines-before ++ (wentOn ∷ m .lines-after); base = m .base; tells = m .together e f }) n
+  together = λ n. then-tells tell next' s (record { said = m .lines-before ++ (wentOn ∷ m .lines-after); base = m .base; tells = m .together }) n
       ∙ ap (λ (xs : List Said). toldFrom (m .base) xs n) (sym (append-assoc (s .said) (m .lines-before) _));
 }
 
-merging-before : (tell tell' : ℕ → Told) (next : Lister → Told) (place : ℕ) → (m : Merging tell tell' place) → Spoken (λ n. next (withLines (m .base) n))
-    → Merging (λ n. before (tell n .text) (next (tell n .lister))) (λ n. before (tell' n .text) (next (tell' n .lister))) place
-merging-before tell tell' next place m z = record {
+merged-before : (tell tell' : ℕ → Told) (next : Lister → Told) (many : ℕ) → (m : Merged tell tell' many) → Spoken (λ n. next (withLines (m .base) n))
+    → Merged (λ n. before (tell n .text) (next (tell n .lister))) (λ n. before (tell' n .text) (next (tell' n .lister))) many
+merged-before tell tell' next many m z = record {
   lines-before = m .lines-before;
-  one = m .one;
-  next = m .next;
   lines-after = m .lines-after ++ z .said;
   base = z .base;
   placed = m .placed;
-  apart = λ n. then-tells tell next (record { said = m .lines-before ++ (m .one ∷ m .next ∷ m .lines-after); base = m .base; tells = m .apart }) z n
-      ∙ ap (λ (xs : List Said). toldFrom (z .base) xs n) (append-assoc (m .lines-before) (m .one ∷ m .next ∷ m .lines-after) (z .said));
-  together = λ e f n. then-tells tell' next (record { said = m .lines-before ++ (wentOn ∷ m .lines-after); base = m .base; tells = m .together e f }) z n
+  apart = λ n. then-tells tell next (record { said = m .lines-before ++ (wentOn ∷ wentOn ∷ m .lines-after); base = m .base; tells = m .apart }) z n
+      ∙ ap (λ (xs : List Said). toldFrom (z .base) xs n) (append-assoc (m .lines-before) (wentOn ∷ wentOn ∷ m .lines-after) (z .said));
+  together = λ n. then-tells tell' next (record { said = m .lines-before ++ (wentOn ∷ m .lines-after); base = m .base; tells = m .together }) z n
       ∙ ap (λ (xs : List Said). toldFrom (z .base) xs n) (append-assoc (m .lines-before) (wentOn ∷ m .lines-after) (z .said));
 }
 
 -- along equal functions
-merging-as : (tell tell' told told' : ℕ → Told) (place place' : ℕ) → ((n : ℕ) → told n ≡ tell n) → ((n : ℕ) → told' n ≡ tell' n) → place ≡ place' → Merging tell tell' place → Merging told told' place'
-merging-as tell tell' told told' place place' same same' here m = record {
+merged-as : (tell tell' told told' : ℕ → Told) (many many' : ℕ) → ((n : ℕ) → told n ≡ tell n) → ((n : ℕ) → told' n ≡ tell' n) → many ≡ many' → Merged tell tell' many → Merged told told' many'
+merged-as tell tell' told told' many many' same same' here m = record {
   lines-before = m .lines-before;
-  one = m .one;
-  next = m .next;
   lines-after = m .lines-after;
   base = m .base;
   placed = m .placed ∙ here;
   apart = λ n. same n ∙ m .apart n;
-  together = λ e f n. same' n ∙ m .together e f n;
+  together = λ n. same' n ∙ m .together n;
 }
 
 -- ---- in a block, and in a file
 
-leading-merges : (first : List Noting) → NoneMalformed first → (one next both : Noting) (a b : ℕ) → a + b ≤ 65535 → Advances one a → Advances next b → Advances both (a + b)
-    → (rest : Records) (l : Lister)
-    → Merging (λ n. recorded (leading first (beforeRecords one (beforeRecords next rest))) (withLines l n)) (λ n. recorded (leading first (beforeRecords both rest)) (withLines l n)) (length first)
-unfolding leading NoneMalformed
-leading-merges [] sound one next both a b few is-one is-next is-both rest l = here l one next both a b few is-one is-next is-both rest
-leading-merges (x ∷ xs) sound one next both a b few is-one is-next is-both rest l =
-    let e = entryMeans (x .kind) (x .contents) in
-    let s = noted-spoken l e in
-    let rs = leading xs (beforeRecords one (beforeRecords next rest)) in
-    let rs' = leading xs (beforeRecords both rest) in
-    merging-as _ _ _ _ _ _ (λ n. recorded-by x e refl (sound .0) rs (withLines l n)) (λ n. recorded-by x e refl (sound .0) rs' (withLines l n))
-    (let more : length (s .said) + length xs ≡ suc (length xs) = omega (arith, noted-one l e) in more)
-    (merging-after (λ n. noted (withLines l n) e) (recorded rs) (recorded rs') s (length xs)
-    (leading-merges xs (sound .1) one next both a b few is-one is-next is-both rest (s .base)))
+module _ (one next both : RawRecord) (a b : ℕ) (few : a + b ≤ unitLimit) (is-one : entryOf one ≡ advancing a) (is-next : entryOf next ≡ advancing b) (is-both : entryOf both ≡ advancing (a + b)) (rest : Records) where
+  abbrev firstOf : List RawRecord → Records
+  firstOf xs = leading xs (inFront one (inFront next rest))
 
-records-merge : (rs rs' : Records) (m : MergedRecords rs rs') (l : Lister) → Merging (λ n. recorded rs (withLines l n)) (λ n. recorded rs' (withLines l n)) (length (m .first))
+  abbrev secondOf : List RawRecord → Records
+  secondOf xs = leading xs (inFront both rest)
+
+  leading-merges : (first : List RawRecord) → NoneMalformed first → (l : Lister)
+      → TellsMerged (pastRecords first) l a b (λ n. recorded (firstOf first) (withLines l n)) (λ n. recorded (secondOf first) (withLines l n)) (length first)
+  unfolding leading NoneMalformed pastRecords
+  leading-merges [] sound l = record { at = l; reached = λ n. (n, refl); lists = here l one next both a b few is-one is-next is-both rest }
+  leading-merges (x ∷ xs) sound l =
+      let s = noted-spoken l (entryOf x) in
+      let w = leading-merges xs (sound .1) (s .base) in
+      record {
+        at = w .at;
+        reached = λ n.
+            let z = w .reached (n + length (s .said)) in
+            (z .0, ap (λ (t : Told). pastRecords xs (t .lister)) (s .tells n) ∙ z .1);
+        lists = λ went.
+            merged-as _ _ _ _ _ _ (λ n. recorded-by x (entryOf x) refl (sound .0) (firstOf xs) (withLines l n)) (λ n. recorded-by x (entryOf x) refl (sound .0) (secondOf xs) (withLines l n))
+            (let more : length (s .said) + length xs ≡ suc (length xs) = omega (arith, noted-one l (entryOf x)) in more)
+            (merged-after (λ n. noted (withLines l n) (entryOf x)) (recorded (firstOf xs)) (recorded (secondOf xs)) s (length xs) (w .lists went));
+      }
+
+records-merge : (rs rs' : Records) (m : MergedRecords rs rs') (l : Lister)
+    → TellsMerged (pastRecords (m .first)) l (m .a) (m .b) (λ n. recorded rs (withLines l n)) (λ n. recorded rs' (withLines l n)) (length (m .first))
 records-merge rs rs' m l =
-    merging-as _ _ _ _ _ _ (λ n. ap (λ (x : Records). recorded x (withLines l n)) (m .apart)) (λ n. ap (λ (x : Records). recorded x (withLines l n)) (m .together)) refl
-    (leading-merges (m .first) (m .whole) (m .one) (m .next) (m .both) (m .a) (m .b) (m .few) (m .one-advances) (m .next-advances) (m .both-advances) (m .rest) l)
+    let w = leading-merges (m .one) (m .next) (m .both) (m .a) (m .b) (m .few) (m .one-advances) (m .next-advances) (m .both-advances) (m .rest) (m .first) (m .whole) l in
+    record {
+      at = w .at;
+      reached = w .reached;
+      lists = λ went.
+          merged-as _ _ _ _ _ _ (λ n. ap (λ (x : Records). recorded x (withLines l n)) (m .apart)) (λ n. ap (λ (x : Records). recorded x (withLines l n)) (m .together)) refl (w .lists went);
+    }
 
 undamaged-told : (b : List ℕ) → isDamaged b ≡ false → (l : Lister) → blockTold b l ≡ recorded (recordsIn (usedPart b)) (oneBlockMore l 0)
 unfolding blockTold blockMeans
 undamaged-told b sound l = ap (λ (d : Bool). judged (pick d Block.Damaged (Block.Used (usedLength b))) b l) sound
 
 module _ (block block' : List ℕ) (later : List (List ℕ)) (sound : isDamaged block ≡ false) (sound' : isDamaged block' ≡ false) (m : MergedRecords (recordsIn (usedPart block)) (recordsIn (usedPart block'))) where
+  abbrev reachThrough : List (List ℕ) → Lister → Lister
+  reachThrough earlier l = pastRecords (m .first) (oneBlockMore (pastBlocks earlier l) 0)
+
   blocks-merge : (earlier : List (List ℕ)) (l : Lister)
-      → Merging (λ n. blocksTold (earlier ++ (block ∷ later)) (withLines l n)) (λ n. blocksTold (earlier ++ (block' ∷ later)) (withLines l n)) (linesAmong earlier + length (m .first))
-  unfolding blocksTold linesAmong
+      → TellsMerged (reachThrough earlier) l (m .a) (m .b) (λ n. blocksTold (earlier ++ (block ∷ later)) (withLines l n)) (λ n. blocksTold (earlier ++ (block' ∷ later)) (withLines l n))
+      (linesAmong earlier + length (m .first))
+  unfolding blocksTold linesAmong pastBlocks
   blocks-merge [] l =
-      let w = merging-as _ _ (λ n. blockTold block (withLines l n)) (λ n. blockTold block' (withLines l n)) _ _ (λ n. undamaged-told block sound (withLines l n)) (λ n. undamaged-told block' sound' (withLines l n)) (let same : length (m .first) ≡ 0 + length (m .first) = omega arith in same)
-      (records-merge _ _ m (oneBlockMore l 0)) in
-      merging-before _ _ (blocksTold later) _ w (blocks-spoken later (w .base))
+      let w = records-merge _ _ m (oneBlockMore l 0) in
+      record {
+        at = w .at;
+        reached = w .reached;
+        lists = λ went.
+            let z =
+            merged-as _ _ (λ n. blockTold block (withLines l n)) (λ n. blockTold block' (withLines l n)) _ _ (λ n. undamaged-told block sound (withLines l n))
+            (λ n. undamaged-told block' sound' (withLines l n)) (let same : length (m .first) ≡ 0 + length (m .first) = omega arith in same) (w .lists went)
+            in
+            merged-before _ _ (blocksTold later) _ z (blocks-spoken later (z .base));
+      }
   blocks-merge (e ∷ es) l =
       let s = block-spoken e l in
-      merging-as _ _ _ _ _ _ (λ n. refl) (λ n. refl)
-      (let more : length (s .said) + (linesAmong es + length (m .first)) ≡ linesIn e + linesAmong es + length (m .first) = omega (arith, block-many e l) in more)
-      (merging-after (λ n. blockTold e (withLines l n)) (blocksTold (es ++ (block ∷ later))) (blocksTold (es ++ (block' ∷ later))) s _ (blocks-merge es (s .base)))
+      let w = blocks-merge es (s .base) in
+      record {
+        at = w .at;
+        reached = λ n.
+            let z = w .reached (n + length (s .said)) in
+            (z .0, ap (λ (t : Told). reachThrough es (t .lister)) (s .tells n) ∙ z .1);
+        lists = λ went.
+            merged-as _ _ _ _ _ _ (λ n. refl) (λ n. refl)
+            (let more : length (s .said) + (linesAmong es + length (m .first)) ≡ linesIn e + linesAmong es + length (m .first) = omega (arith, block-many e l) in more)
+            (merged-after (λ n. blockTold e (withLines l n)) (blocksTold (es ++ (block ∷ later))) (blocksTold (es ++ (block' ∷ later))) s _ (w .lists went));
+      }
 
 abbrev closedBy : Told → List ℕ
 closedBy t = t .text ++ closingOf (t .lister .blocks) (t .lister .damaged)
 
-pub lists-merge : (file file' : List ℕ) (m : MergedFiles file file') → ListsMerge file file' (placeOf m)
+-- the closing line is that of the first file's blocks
+closing-is : (file : List ℕ) (base : Lister) (said : List Said) → blocksTold (blocksIn file) fresh ≡ toldFrom base said 0 → closingOf (base .blocks) (base .damaged) ≡ closingLine file
+closing-is file base said e =
+    let w = blocks-counted (blocksIn file) fresh in
+    ap₂ closingOf
+    (ap (λ (t : Told). t .lister .blocks) (sym e) ∙ w .block-count ∙ omega arith)
+    (ap (λ (t : Told). t .lister .damaged) (sym e) ∙ w .damaged-count ∙ omega arith)
+
+pub lists-merge : (file file' : List ℕ) (m : MergedFiles file file') → BothAccepted m → ListsMerge file file' (linesBefore m)
 unfolding listOf
-lists-merge file file' m =
+lists-merge file file' m allowed =
     let w = blocks-merge (m .block) (m .block') (m .later) (m .undamaged) (m .undamaged') (m .merged) (m .earlier) fresh in
+    let at = w .reached 0 in
+    let z = w .lists (subst (λ (l : Lister). Went l (m .merged .a) (m .merged .b)) (at .1) (allowed .followed, allowed .first-accepted, allowed .second-accepted)) in
+    let whole : blocksTold (blocksIn file) fresh ≡ toldFrom (z .base) (z .lines-before ++ (wentOn ∷ wentOn ∷ z .lines-after)) 0 =
+    ap (λ (bs : List (List ℕ)). blocksTold bs fresh) (m .is-first) ∙ z .apart 0
+    in
+    let closing = closing-is file (z .base) (z .lines-before ++ (wentOn ∷ wentOn ∷ z .lines-after)) whole in
     record {
-      lines-before = w .lines-before;
-      one = w .one;
-      next = w .next;
-      lines-after = w .lines-after;
-      closing = closingOf (w .base .blocks) (w .base .damaged);
-      placed = w .placed;
-      first-list = ap (λ (bs : List (List ℕ)). closedBy (blocksTold bs fresh)) (m .is-first) ∙ ap closedBy (w .apart 0);
-      second-list = λ e f. ap (λ (bs : List (List ℕ)). closedBy (blocksTold bs fresh)) (m .is-second) ∙ ap closedBy (w .together e f 0);
+      lines-before = z .lines-before;
+      lines-after = z .lines-after;
+      placed = z .placed;
+      first-list = ap closedBy whole ∙ ap (λ (os : List ℕ). numberedFrom 0 (z .lines-before ++ (wentOn ∷ wentOn ∷ z .lines-after)) ++ os) closing;
+      second-list =
+          ap (λ (bs : List (List ℕ)). closedBy (blocksTold bs fresh)) (m .is-second) ∙ ap closedBy (z .together 0)
+          ∙ ap (λ (os : List ℕ). numberedFrom 0 (z .lines-before ++ (wentOn ∷ z .lines-after)) ++ os) closing;
     }

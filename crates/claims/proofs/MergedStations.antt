@@ -32,11 +32,18 @@ use Rattle.table.specs.Tables.{stepped as tableStepped, tickedTable, tickMeans,
 use Rattle.table.specs.Validity.{Holds, RowOf, ValidTable}
 use Rattle.table.specs.declared.Stepped.{Stepped as TableStepped}
 use Rattle.table.specs.declared.Table.{Table}
-use Rattle.claims.specs.MemberRuns.{MemberAdvances}
-use Rattle.claims.specs.Merging.{Steps, Merges}
-use Rattle.claims.specs.TableRuns.{tick, answered, Does}
-use Rattle.claims.proofs.Merged.{GoesOn, merges}
+use Rattle.capture_record.specs.declared.entry.Settings.{Settings}
+use Rattle.claims.specs.Histories.{frame, advance, ask, History, clockFrom}
+use Rattle.claims.specs.MemberRuns.{MemberAdvances, MemberRan}
+use Rattle.claims.specs.Merging.{StationAdvances, TableTicks, Merges}
+use Rattle.claims.specs.Runs.{Ran}
+use Rattle.claims.specs.TableHistories.{callsOf, advancesOf}
+use Rattle.claims.specs.TableRuns.{tick, answered, Made, TableRan}
+use Rattle.claims.proofs.Demand3.{arrives, agreed}
+use Rattle.claims.proofs.MemberDemand3.{arrives as memberArrives, agreed as memberAgreed}
+use Rattle.claims.proofs.Merged.{AddsUp, merges}
 use Rattle.claims.proofs.TableMeans.{answered-once, does-means}
+use Rattle.claims.proofs.TableStays.{reaches}
 
 -- an advance that is too far
 abbrev tooFar : ℕ → ℕ → Bool
@@ -146,7 +153,7 @@ gone-nowhere s v = ap (λ (t : ℕ). goneTo s t (s .pending)) (let e : s .clock 
         ap (λ (c : Bool). stepped s (advancedTo s (pick c (Advanced.Goes (s .clock)) (Advanced.Switches (s .clock) (x .channel)))) .station) (lt-ltb (s .clock) (x .at) (fits .0))
 
 -- what is accepted is not too far
-pub refused-never : {A : Type 0} {r : Refusal} → Answer.Refused r ≡ Answer.Accepted → A
+refused-never : {A : Type 0} {r : Refusal} → Answer.Refused r ≡ Answer.Accepted → A
 refused-never {A} {r} z = absurd (let f : _≡_ {A = ℕ} 0 1 = cc in omega arith)
 
 accepted-near : (t n : ℕ) (answer : Answer) → (tooFar t n ≡ true → answer ≡ Answer.Refused Refusal.PastClock) → answer ≡ Answer.Accepted → tooFar t n ≡ false
@@ -159,7 +166,7 @@ accepted-near t n answer far e =
 advance-near : (s : Station) (n : ℕ) → advanceOf s n .answer ≡ Answer.Accepted → tooFar (s .clock) n ≡ false
 advance-near s n e = accepted-near (s .clock) n (advanceOf s n .answer) (λ y. ap (λ (o : Outcome Station). stepped s o .answer) (far-refused s n y)) e
 
-station-goes : GoesOn Steps Valid (λ s. s .clock)
+station-goes : AddsUp StationAdvances Valid (λ s. s .clock)
 station-goes = record {
   gone = gone;
   adds = λ s v a b. gone-adds s a b;
@@ -176,8 +183,8 @@ station-goes = record {
       (sym told ∙ ap (λ (y : Stepped). y .answer) all, sym left ∙ ap (λ (y : Stepped). y .station) all);
 }
 
-pub station-merges : Merges Steps Valid (λ s. s .clock)
-station-merges = merges Steps Valid (λ s. s .clock) station-goes
+pub station-merges : Merges StationAdvances Valid (λ s. s .clock)
+station-merges = merges StationAdvances Valid (λ s. s .clock) station-goes
 
 -- the meanings alone, where both advances are accepted
 pub advance-merged : (s : Station) (a b : ℕ) → advanceOf s a .answer ≡ Answer.Accepted → advanceOf (advanceOf s a .station) b .answer ≡ Answer.Accepted → a + b ≤ 65535
@@ -224,7 +231,7 @@ member-by : (m : Member) (n : ℕ) (o : Outcome Station) → advanceMeans (m .st
 unfolding memberAdvances
 member-by m n o e = ap (λ (x : Outcome Station). memberStepped m (andThen x (λ s. accepted (memberOf s (ownerPast m n))))) e
 
-member-goes : GoesOn MemberAdvances ValidMember (λ m. m .station .clock)
+member-goes : AddsUp MemberAdvances ValidMember (λ m. m .station .clock)
 member-goes = record {
   gone = memberGone;
   adds = λ m v a b. ap₂ memberOf (gone-adds (m .station) a b) (owner-adds m (v .station-valid .interval-positive) a b);
@@ -321,10 +328,7 @@ module _ (t : Table) where
             ∙ ap (λ (ws : List Row). record { ap = t .ap; interval = t .interval; clock = t .clock + n; rows = ws }) (rows-tick n e (t .rows) (v .each)),
       )
 
-abbrev Ticks : Table → ℕ → Answer → Table → Type 0
-Ticks t n r next = Does t (tick n) (answered r) next
-
-table-goes : GoesOn Ticks ValidTable (λ t. t .clock)
+table-goes : AddsUp TableTicks ValidTable (λ t. t .clock)
 table-goes = record {
   gone = tableGone;
   adds = λ t v a b.
@@ -343,5 +347,35 @@ table-goes = record {
       (answered-once (m .answers) ∙ w .0, m .leaves ∙ w .1);
 }
 
-pub table-merges : Merges Ticks ValidTable (λ t. t .clock)
-table-merges = merges Ticks ValidTable (λ t. t .clock) table-goes
+pub table-merges : Merges TableTicks ValidTable (λ t. t .clock)
+table-merges = merges TableTicks ValidTable (λ t. t .clock) table-goes
+
+-- ---- what calls have reached has a clock within its limit, so zero changes nothing there
+
+clock-within : (t : ℕ) (h : History) → t ≤ clockLimit → clockFrom t h ≤ clockLimit
+unfolding clockFrom
+clock-within t [] within = within
+clock-within t (frame f ∷ h) within = clock-within t h within
+clock-within t (ask n ∷ h) within = clock-within t h within
+clock-within t (advance n ∷ h) within = by (tooFar (clockFrom t h) n) refl (clock-within t h within)
+  where
+    by : (far : Bool) → tooFar (clockFrom t h) n ≡ far → clockFrom t h ≤ clockLimit → pick far (clockFrom t h) (clockFrom t h + n) ≤ clockLimit
+    by true e rest = rest
+    by false e rest = near (clockFrom t h) n e .1
+
+pub station-zero : (s : Settings) (h : History) (x : Station) → Ran s h x → (r : Answer) (next : Station) → StationAdvances x 0 r next → (r ≡ Answer.Accepted) × (next ≡ x)
+station-zero s h x ran r next step =
+    let w = arrives s h x ran in
+    let clock = agreed s h x ran .as-heard .same-clock in
+    station-merges .zero-nothing x (w .1) (subst (λ (n : ℕ). n ≤ clockLimit) (sym clock) (clock-within 0 h (omega arith))) r next step
+
+pub member-zero : (s : Settings) (h : History) (x : Member) → MemberRan s h x → (r : Answer) (next : Member) → MemberAdvances x 0 r next → (r ≡ Answer.Accepted) × (next ≡ x)
+member-zero s h x ran r next step =
+    let w = memberArrives s h x ran in
+    let clock = memberAgreed s h x ran .as-heard .same-clock in
+    member-merges .zero-nothing x (w .1) (subst (λ (n : ℕ). n ≤ clockLimit) (sym clock) (clock-within 0 h (omega arith))) r next step
+
+pub table-zero : (ap' : List ℕ) (b : ℕ) (ms : List Made) (t : Table) → TableRan ap' b ms t → (r : Answer) (next : Table) → TableTicks t 0 r next → (r ≡ Answer.Accepted) × (next ≡ t)
+table-zero ap' b ms t ran r next step =
+    let w = reaches ap' b ms t ran in
+    table-merges .zero-nothing t (w .valid) (subst (λ (n : ℕ). n ≤ clockLimit) (sym (w .its-clock)) (clock-within 0 (advancesOf (callsOf ms)) (omega arith))) r next step
