@@ -39,7 +39,7 @@ use Rattle.claims.specs.TableHistories.{madeFor, historyOf, historyFor, 
 use Rattle.claims.specs.TableRuns.{take, question, TableAnswer, judged, asked, Made, Does}
 use Rattle.claims.proofs.TableDemand3.{row-arrives}
 use Rattle.claims.proofs.TableMeans.{askedAs, ap-kept, interval-kept, does-means}
-use Rattle.claims.proofs.TableRows.{hearing-keeps, unconcerned}
+use Rattle.claims.proofs.TableRows.{hearing-keeps, to-another}
 use Rattle.claims.proofs.WhoIsJoined.{heard-seats}
 
 -- ---- two rows changed in either order
@@ -142,7 +142,7 @@ module _ (t : Table) (v : ValidTable t) (f : List ℕ) (alone : toAll f ≡ fals
       let q = does-means mid (question own n) a last (m .valid) later in
       let q' = does-means t (question own n) a' mid' v other in
       let m' = does-means mid' (take f) x' last' (q' .valid) other-later in
-      let still : stationOf mid own ≡ stationOf t own = ap (λ (u : Table). stationOf u own) (m .leaves) ∙ unconcerned t v own (take f) (or-go (toAll f) alone ∙ two) in (
+      let still : stationOf mid own ≡ stationOf t own = ap (λ (u : Table). stationOf u own) (m .leaves) ∙ to-another t v own f (or-go (toAll f) alone ∙ two) in (
         m .answers ∙ ap (λ (u : Table). judged (takeOf u f .verdict)) (sym (q' .leaves)) ∙ sym (m' .answers),
         q .answers ∙ ap (λ (o : Outcome Station). asked (askedAs (andThen o (λ s. accepted (permissionOf s n))))) still ∙ sym (q' .answers),
         q .leaves ∙ m .leaves ∙ ap (λ (u : Table). takeOf u f .table) (sym (q' .leaves)) ∙ sym (m' .leaves),

@@ -141,15 +141,16 @@ module _ (m : ℕ) (ap' : List ℕ) (b : ℕ) (own : List ℕ) (channel : ℕ) w
       }
 
   -- another call
-  without-it : (x : Made) (ms : List Made) (before t : Table) → Followed ms before → Does before (x .call) (x .answer) t → concerns own (x .call) ≡ false → Followed (x ∷ ms) t
+  without-it : (x : Made) (ms : List Made) (before t : Table) → Followed ms before → Does before (x .call) (x .answer) t → concerns own (x .call) ≡ false
+      → (Leaves own (x .call) → ⊥) → Followed (x ∷ ms) t
   unfolding madeFor
-  without-it x ms before t f does n =
+  without-it x ms before t f does n stays =
       let e = does-means before (x .call) (x .answer) t (f .valid) does in
       let here : madeFor own (x ∷ ms) ≡ madeFor own ms = ap (λ (b : Bool). filtered b x ms) n in
       record {
         valid = e .valid;
         row =
-            ap (λ (u : Table). stationOf u own) (e .leaves) ∙ unconcerned before (f .valid) own (x .call) n ∙ f .row
+            ap (λ (u : Table). stationOf u own) (e .leaves) ∙ unconcerned before (f .valid) own (recordOf (callsFor own ms)) (f .row) (x .call) n stays ∙ f .row
             ∙ ap (λ (ns : List Made). accepted (recordOf (callsOf ns))) (sym here);
         told = here ∙ f .told ∙ ap (λ (ns : List Made). toldBy (callsOf ns)) (sym here);
       }
@@ -161,7 +162,7 @@ module _ (m : ℕ) (ap' : List ℕ) (b : ℕ) (own : List ℕ) (channel : ℕ) w
       let k = follows first f ms before rest (stays .1) in
       ⊎-elim
       (λ (y : concerns own (x .call) ≡ true). with-it x ms before t k does y (stays .0))
-      (λ (n : concerns own (x .call) ≡ false). without-it x ms before t k does n)
+      (λ (n : concerns own (x .call) ≡ false). without-it x ms before t k does n (stays .0))
       (either (concerns own (x .call)))
 
 module _ (ap' : List ℕ) (b : ℕ) (own : List ℕ) (channel : ℕ) (before after : List Made) (t : Table) (stay : Stay ap' b own channel before after t) where

@@ -12,10 +12,10 @@ use Rattle.table.specs.declared.Table.{Table}
 use Rattle.claims.specs.Histories.{frame, advance, ask, History, clockAfter}
 use Rattle.claims.specs.TableRuns.{TableCall, join, leave, tick, take, question, tpc, measurement, TableAnswer, answered, Made, Does, GoesOn, TableRan}
 
--- the call is one of these, for the station of this address
+-- the call is one of these, for the station of this address; that it joins again, which is refused, or that others join or leave, is none of them
 abbrev pub concerns : List ℕ → TableCall → Bool
-concerns own (join a channel) = same a own
-concerns own (leave a) = same a own
+concerns own (join a channel) = false
+concerns own (leave a) = false
 concerns own (tick n) = true
 concerns own (take f) = toAll f || same (da f) own
 concerns own (question a n) = same a own
