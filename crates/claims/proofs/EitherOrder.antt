@@ -3,7 +3,7 @@
 use mathlib.Core.Bool.{Bool, true, false}
 use mathlib.Core.List.{List, [], _∷_, _++_, map}
 use mathlib.Core.Logic.{⊎-elim}
-use mathlib.Core.Path.{_≡_, refl, sym, ap, ap₂, _∙_, subst}
+use mathlib.Core.Path.{_≡_, refl, sym, ap, ap₂, _∙_}
 use Prim.Native.Nat.{ℕ}
 use native.Mathlib.Omega.{arith}
 use lib.ListN.{replicate}
@@ -13,7 +13,7 @@ use Rattle.answer.specs.Faults.{Placed}
 use Rattle.action.specs.Openings.{opensWith}
 use Rattle.element.specs.ChannelSwitch.{switchMeans}
 use Rattle.frame.specs.Actions.{actionMeans}
-use Rattle.frame.specs.Frames.{Kind, Sent, frameMeans}
+use Rattle.frame.specs.Frames.{Sent, frameMeans}
 use Rattle.header.specs.Headers.{same, da, toAll, foreignHeader, foreignAddress, headerMeans, managementMeans, addressMeans}
 use Rattle.octets.specs.Elements.{fixed}
 use Rattle.row.specs.Rows.{isOf}
@@ -28,10 +28,9 @@ use Rattle.station.specs.declared.Station.{Station}
 use Rattle.table.proofs.Neighbours.{of-another}
 use Rattle.table.proofs.Readers.{sent-to-all}
 use Rattle.table.proofs.StaysApart.{some-same}
-use Rattle.table.specs.Tables.{withRows, onFirst, isJoined, stationOf, readerOf, hearing, heardRows, takeMeans, taken, takeOf, askMeans}
+use Rattle.table.specs.Tables.{withRows, onFirst, stationOf, readerOf, hearing, heardRows, takeMeans, taken, takeOf, askMeans}
 use Rattle.table.specs.Validity.{ValidTable}
 use Rattle.table.specs.declared.Table.{Table}
-use Rattle.table.specs.declared.taking.Taken.{Taken}
 use Rattle.claims.specs.Joinings.{verdictOf}
 use Rattle.claims.specs.Moments.{ours}
 use Rattle.claims.specs.Records.{recordFrom}

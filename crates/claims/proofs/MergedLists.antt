@@ -13,7 +13,7 @@ use Rattle.block.specs.Blocks.{usedLength, isDamaged, usedPart, blockMeans}
 use Rattle.block.specs.declared.Block.{Block}
 use Rattle.capture.specs.Lines.{closingOf}
 use Rattle.capture.specs.Listers.{fresh, withLines, without, following, oneBlockMore}
-use Rattle.capture.specs.Lists.{Told, nothing, responseNumber, responseOffset, refusal, answerLine, line, before, started, stepped, taken, noStation, badRecord, noted, isMalformed, recorded, damagedTold, judged, blockTold, blocksIn, blocksTold, listOf}
+use Rattle.capture.specs.Lists.{Told, responseNumber, responseOffset, refusal, answerLine, line, before, started, stepped, noStation, badRecord, noted, isMalformed, recorded, judged, blockTold, blocksIn, blocksTold, listOf}
 use Rattle.capture.specs.declared.lister.Lister.{Lister}
 use Rattle.capture.specs.declared.response.Response.{Response}
 use Rattle.capture.specs.declared.words.Word.{Word}
@@ -26,7 +26,6 @@ use Rattle.station.specs.Stations.{unitLimit}
 use Rattle.station.specs.Taking.{takeOf}
 use Rattle.station.specs.declared.Station.{Station}
 use Rattle.station.specs.declared.clock.Stepped.{Stepped}
-use Rattle.station.specs.declared.taking.Taken.{Taken}
 use Rattle.claims.specs.HistoryLines.{says}
 use Rattle.claims.specs.MergedCaptures.{RawRecord, entryOf, inFront, leading, NoneMalformed, MergedRecords, MergedFiles, pastBlocks, pastRecords, BothAccepted, linesBefore, wentOn, closingLine, ListsMerge}
 use Rattle.claims.specs.Numbered.{Said, numberedFrom, recordsCounted, linesIn, linesAmong}

@@ -3,11 +3,11 @@ use mathlib.Core.Bool.{Bool, true, false, _||_}
 use mathlib.Core.List.{List, [], _∷_, map}
 use mathlib.Core.Logic.{⊎-elim}
 use mathlib.Core.Path.{_≡_, refl, sym, ap, ap₂, _∙_, subst}
-use Prim.Native.Nat.{ℕ, zero, suc, _+_, _<_, _≤_, _/_}
+use Prim.Native.Nat.{ℕ, zero, suc, _+_, _≤_, _/_}
 use native.Mathlib.Omega.{arith}
-use borrow.Author.Tests.{ltb-true, ltb-false, lt-ltb, le-ltb}
+use borrow.Author.Tests.{ltb-false, lt-ltb, le-ltb}
 use lib.Dec.{ltb}
-use Rattle.answer.proofs.Booleans.{either, neither, clash, or-go, or-stop}
+use Rattle.answer.proofs.Booleans.{either, neither, or-go}
 use Rattle.answer.specs.Checks.{Outcome, refused, accepted, pick, andThen, checked}
 use Rattle.answer.specs.declared.Answer.{Answer}
 use Rattle.answer.specs.declared.Refusal.{Refusal}
@@ -22,7 +22,7 @@ use Rattle.owner.specs.declared.Owner.{Owner}
 use Rattle.pending.specs.declared.Pending.{Pending}
 use Rattle.row.specs.Rows.{seated, All, rowTicked, ticked}
 use Rattle.row.specs.declared.Row.{Row}
-use Rattle.station.specs.Clock.{stepped, switched, reached, clockAdvance, advancedTo, advanceMeans, advanceOf}
+use Rattle.station.specs.Clock.{stepped, reached, clockAdvance, advancedTo, advanceMeans, advanceOf}
 use Rattle.station.specs.Stations.{clockLimit, unitLimit, withClock}
 use Rattle.station.specs.Validity.{PendingFits, Valid}
 use Rattle.station.specs.declared.Station.{Station}

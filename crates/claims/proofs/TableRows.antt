@@ -1,6 +1,6 @@
 -- A call for the station of an address does to it, and answers, what document 01's station does and answers; any other call leaves it. Assumes nothing.
 use mathlib.Core.Bool.{Bool, true, false, _||_}
-use mathlib.Core.List.{List, [], _∷_, map}
+use mathlib.Core.List.{List, map}
 use mathlib.Core.Logic.{⊎-elim}
 use mathlib.Core.Path.{_≡_, refl, sym, ap, ap₂, _∙_, subst}
 use Prim.Native.Nat.{ℕ, _+_}
@@ -16,15 +16,13 @@ use Rattle.header.proofs.Addresses.{same-self, same-is}
 use Rattle.header.specs.Headers.{same, da, toAll}
 use Rattle.pending.specs.declared.Pending.{Pending}
 use Rattle.reply.specs.Replies.{tpcReply, measurementReply}
-use Rattle.row.specs.Rows.{free, seated, isOf, isFree, rowTicked, ticked}
+use Rattle.row.specs.Rows.{free, seated, isOf, isFree, rowTicked}
 use Rattle.row.specs.declared.Row.{Row}
-use Rattle.station.proofs.KeptThroughout.{Unchanged, heard-unchanged}
 use Rattle.station.specs.Asking.{permissionOf}
 use Rattle.station.specs.Clock.{stepped as stationStepped, reached, clockAdvance, advancedTo, advanceMeans, advanceOf}
 use Rattle.station.specs.Stations.{unitLimit, clockLimit}
 use Rattle.station.specs.Taking.{heard, taken as stationTaken, takeMeans as stationTakes, takeOf as stationTake}
 use Rattle.station.specs.declared.Station.{Station}
-use Rattle.station.specs.declared.asking.Permission.{Permission}
 use Rattle.station.specs.declared.clock.Advanced.{Advanced}
 use Rattle.station.specs.declared.clock.Stepped.{Stepped}
 use Rattle.station.specs.declared.taking.Taken.{Taken}

@@ -1,7 +1,7 @@
 -- A station that joined a table and has not left: from its joining on its row is the record that its own calls make of a fresh station, and each of these calls is
 -- answered by that record, whatever else is called. Assumes nothing.
-use mathlib.Core.Bool.{Bool, true, false, not}
-use mathlib.Core.List.{List, [], _∷_, map}
+use mathlib.Core.Bool.{Bool, true, false}
+use mathlib.Core.List.{List, [], _∷_}
 use mathlib.Core.Logic.{⊎-elim}
 use mathlib.Core.Path.{_≡_, refl, sym, ap, ap₂, _∙_, subst}
 use Prim.Native.Nat.{ℕ}
@@ -9,21 +9,19 @@ use native.Mathlib.Omega.{arith}
 use borrow.Author.Tests.{not-false}
 use Rattle.answer.proofs.Booleans.{either}
 use Rattle.answer.proofs.Judged.{passed, kept}
-use Rattle.answer.specs.Checks.{Outcome, refused, accepted, pick, checked}
+use Rattle.answer.specs.Checks.{Outcome, refused, accepted, pick}
 use Rattle.answer.specs.declared.Answer.{Answer}
-use Rattle.row.specs.Rows.{seated, isOf, isFree}
+use Rattle.row.specs.Rows.{seated, isFree}
 use Rattle.station.specs.Stations.{fresh, withClock}
 use Rattle.station.specs.declared.Station.{Station}
 use Rattle.table.proofs.Neighbours.{newcomer-found}
-use Rattle.table.specs.Tables.{withRows, someRow, onFirst, isJoined, stationOf, stepped, newcomer, joinMeans, joinOf}
+use Rattle.table.specs.Tables.{withRows, someRow, onFirst, stationOf, stepped, newcomer, joinMeans, joinOf}
 use Rattle.table.specs.Validity.{ValidTable}
-use Rattle.table.specs.declared.Stepped.{Stepped}
 use Rattle.table.specs.declared.Table.{Table}
-use Rattle.claims.specs.Histories.{History, clockFrom, clockAfter}
+use Rattle.claims.specs.Histories.{clockFrom, clockAfter}
 use Rattle.claims.specs.Records.{recordFrom}
-use Rattle.claims.specs.TableHistories.{concerns, madeFor, callsOf, callsFor, advancesOf, stationCall, historyOf, historyFor, Leaves, NeverLeaves, Stay, joinedAt, settingsOf}
+use Rattle.claims.specs.TableHistories.{concerns, madeFor, callsOf, callsFor, advancesOf, historyOf, Leaves, NeverLeaves, Stay, joinedAt, settingsOf}
 use Rattle.claims.specs.TableRuns.{TableCall, join, leave, tick, take, question, tpc, measurement, TableAnswer, answered, Made, Does, GoesOn, TableRan}
-use Rattle.claims.proofs.Same.{accepted-once}
 use Rattle.claims.proofs.TableMeans.{answered-once, does-means, ap-kept, interval-kept, clock-after, starts-empty}
 use Rattle.claims.proofs.TableRows.{rowAfter, rowAnswers, concerned, unconcerned}
 

@@ -1,5 +1,4 @@
 -- Single tables that shut out wrong ones which look right (02, Six): a definition so wrong would break one of these. Assumes nothing.
-use mathlib.Core.Bool.{Bool}
 use mathlib.Core.List.{List, [], _∷_, _++_}
 use mathlib.Core.Path.{_≡_, refl}
 use Prim.Native.Nat.{ℕ, zero, suc}
@@ -9,7 +8,6 @@ use Rattle.answer.specs.Checks.{Outcome, refused, accepted, checked}
 use Rattle.answer.specs.declared.Answer.{Answer}
 use Rattle.answer.specs.declared.Refusal.{Refusal}
 use Rattle.answer.specs.declared.Verdict.{Verdict}
-use Rattle.beacon.specs.Beacons.{elementMeans, takes, says, beaconMeans}
 use Rattle.element.specs.ChannelSwitch.{switchMeans}
 use Rattle.frame.specs.Actions.{actionMeans}
 use Rattle.frame.specs.Frames.{frameMeans}
@@ -18,7 +16,6 @@ use Rattle.octets.specs.Elements.{fixed}
 use Rattle.pending.specs.declared.Pending.{Pending}
 use Rattle.row.specs.Rows.{rowTicked}
 use Rattle.single_body.specs.Singles.{single}
-use Rattle.station.specs.Clock.{clockAdvance, advanceMeans}
 use Rattle.station.specs.Taking.{announced, informed}
 use Rattle.station.specs.declared.Station.{Station}
 use Rattle.table.specs.Tables.{someRow, onFirst, firstSuch, stationOf, empty, joinMeans, joinOf, leaveMeans, leaveOf, tickMeans, tickOf, readerOf, hearing, takeMeans, takeOf}

@@ -1,7 +1,7 @@
 -- Whoever is joined, by the calls of a table and their answers, has a latest joining and has not left since: so what is proved of a stay is proved of everybody who is
 -- joined (02, Six). Assumes nothing.
 use mathlib.Core.Bool.{Bool, true, false, not, _&&_}
-use mathlib.Core.List.{List, [], _∷_, _++_}
+use mathlib.Core.List.{List, [], _∷_}
 use mathlib.Core.Logic.{⊎-elim}
 use mathlib.Core.Path.{_≡_, refl, sym, ap, _∙_, subst}
 use Prim.Native.Nat.{ℕ}

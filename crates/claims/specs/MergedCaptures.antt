@@ -16,7 +16,6 @@ use Rattle.capture_record.specs.Entries.{Noted, advancing, entryMeans}
 use Rattle.capture_record.specs.Records.{Records, more, recordsIn}
 use Rattle.station.specs.Clock.{advanceOf}
 use Rattle.station.specs.Stations.{unitLimit}
-use Rattle.station.specs.declared.Station.{Station}
 use Rattle.claims.specs.HistoryLines.{says}
 use Rattle.claims.specs.Numbered.{Said, numberedFrom, linesAmong, damagedAmong}
 

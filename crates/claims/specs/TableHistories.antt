@@ -10,7 +10,7 @@ use Rattle.capture_record.specs.declared.entry.Settings.{Settings}
 use Rattle.header.specs.Headers.{same, da, toAll}
 use Rattle.table.specs.declared.Table.{Table}
 use Rattle.claims.specs.Histories.{frame, advance, ask, History, clockAfter}
-use Rattle.claims.specs.TableRuns.{TableCall, join, leave, tick, take, question, tpc, measurement, TableAnswer, answered, Made, Does, GoesOn, TableRan}
+use Rattle.claims.specs.TableRuns.{TableCall, join, leave, tick, take, question, tpc, measurement, answered, Made, Does, GoesOn, TableRan}
 
 -- the call is one of these, for the station of this address; that it joins again, which is refused, or that others join or leave, is none of them
 abbrev pub concerns : List ℕ → TableCall → Bool
