@@ -1,5 +1,6 @@
 pub mod Booleans
 pub mod Judged
 pub mod Placing
+pub mod RefusalNumbers
 pub mod Refusing
 pub mod Yielding

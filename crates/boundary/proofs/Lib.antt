@@ -5,7 +5,6 @@ pub mod OneOutcome
 pub mod PartsBuilt
 pub mod Passes
 pub mod QuietsByIndex
-pub mod RefusalNumbers
 pub mod SignedAnswers
 pub mod Unlaid
 pub mod Wholes

@@ -8,6 +8,7 @@ use borrow.Author.Tests.{ltb-false}
 use denote.Ref.{now}
 use lib.ListN.{length}
 use Rattle.answer.proofs.Judged.{passed, kept}
+use Rattle.answer.proofs.RefusalNumbers.{numbered, same-refusal}
 use Rattle.answer.specs.Checks.{Outcome, refused, accepted, andThen}
 use Rattle.answer.specs.Faults.{Placed}
 use Rattle.answer.specs.declared.Fault.{Fault}
@@ -23,7 +24,6 @@ use Rattle.frame.specs.Frames.{frameMeans}
 use Rattle.frame.specs.IbssFrames.{ibssFrameMeans}
 use Rattle.octets.specs.Writing.{room, wrote, after, left}
 use Rattle.reply.specs.Replies.{leftBy}
-use Rattle.boundary.proofs.RefusalNumbers.{numbered, same-refusal}
 use Rattle.boundary.specs.Codes.{codeOf, addressOf, Put, Given}
 use Rattle.boundary.specs.FaultOffsets.{offsetOr, faultOffset}
 use Rattle.boundary.specs.SignedAnswers.{IsNegative, InRange, Answers, EachAnswers}

@@ -7,7 +7,7 @@ use Prim.Native.Nat.{ℕ}
 use Rattle.answer.specs.Checks.{accepted}
 use Rattle.table.specs.Tables.{stationOf}
 use Rattle.table.specs.declared.Table.{Table}
-use Rattle.claims.specs.Histories.{History, clockAfter}
+use Rattle.claims.specs.Histories.{clockAfter}
 use Rattle.claims.specs.Records.{recordFrom}
 use Rattle.claims.specs.TableHistories.{madeFor, callsOf, callsFor, advancesOf, historyOf, Stay, joinedAt, settingsOf}
 use Rattle.claims.specs.TableRuns.{TableCall, Made}

@@ -1,9 +1,9 @@
 -- Rows by how many of them are joined, and by whom. Assumes nothing.
-use mathlib.Core.Bool.{Bool, true, false, not, _&&_, _||_}
+use mathlib.Core.Bool.{Bool, true, false, not, _||_}
 use mathlib.Core.List.{List, [], _∷_}
 use mathlib.Core.Logic.{⊎-elim}
 use mathlib.Core.Path.{_≡_, refl, sym, ap, ap₂, _∙_}
-use Prim.Native.Nat.{ℕ, suc, _+_, _<_, _≤_}
+use Prim.Native.Nat.{ℕ, suc, _+_, _≤_}
 use native.Mathlib.Omega.{arith}
 use lib.Dec.{eqb}
 use lib.ListN.{length}
@@ -16,8 +16,7 @@ use Rattle.header.specs.Headers.{same}
 use Rattle.row.specs.Rows.{free, seated, isOf, isFree}
 use Rattle.row.specs.declared.Row.{Row}
 use Rattle.station.specs.declared.Station.{Station}
-use Rattle.table.proofs.Neighbours.{stepFound}
-use Rattle.table.proofs.StaysApart.{SameSeat, SameSeats}
+use Rattle.table.proofs.StaysApart.{SameSeats}
 use Rattle.table.specs.Tables.{someRow, onFirst, firstSuch}
 use Rattle.table.specs.Validity.{Apart}
 

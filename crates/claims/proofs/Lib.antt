@@ -14,6 +14,7 @@ pub mod CoveredUnits
 pub mod Cut
 pub mod Demand3
 pub mod DueFrames
+pub mod EitherOrder
 pub mod Elements
 pub mod ElementsBefore
 pub mod ErrorReturns
@@ -32,6 +33,9 @@ pub mod MeasurementItems
 pub mod MeasurementsIgnored
 pub mod MemberDemand3
 pub mod MemberFollows
+pub mod Merged
+pub mod MergedLists
+pub mod MergedStations
 pub mod MomentsHold
 pub mod NoticeFields
 pub mod Numbers
@@ -82,4 +86,5 @@ pub mod TableWitnesses
 pub mod TakenOut
 pub mod TbttsPassed
 pub mod WhoIsJoined
+pub mod WhoStays
 pub mod Witnesses

@@ -1,12 +1,11 @@
 -- What a table answers by who is joined (02, Six): to a start, to a tick, to a frame and to a frame that a reply is asked for. Assumes nothing.
 use mathlib.Core.Bool.{Bool, true, false, not, _||_}
-use mathlib.Core.List.{List, [], _∷_}
+use mathlib.Core.List.{List, []}
 use mathlib.Core.Logic.{⊎-elim}
 use mathlib.Core.Path.{_≡_, refl, sym, ap, ap₂, _∙_}
 use Prim.Native.Nat.{ℕ, _≤_}
 use borrow.Author.Tests.{le-ltb}
-use lib.Dec.{ltb, eqb}
-use lib.ListN.{replicate}
+use lib.Dec.{eqb}
 use Rattle.answer.proofs.Booleans.{either}
 use Rattle.answer.specs.Checks.{Outcome, refused, accepted, pick, andThen, checked}
 use Rattle.answer.specs.Faults.{Placed, faultNowhere, nowhere, placedPast}
@@ -23,7 +22,7 @@ use Rattle.header.specs.declared.management.Subtype.{Subtype}
 use Rattle.measured_report.specs.declared.Readings.{Readings}
 use Rattle.octets.specs.Numbers.{bit, octet}
 use Rattle.octets.specs.declared.writing.Wrote.{Wrote}
-use Rattle.reply.specs.Due.{Owed, afterHeader, dueIn}
+use Rattle.reply.specs.Due.{afterHeader, dueIn}
 use Rattle.reply.specs.Replies.{owedTo, tpcAnswerTo, measurementAnswerTo, tpcReplyIn, measurementReplyIn}
 use Rattle.station.specs.Stations.{fresh}
 use Rattle.station.specs.Starting.{startForbids as stationForbids, startMeans as stationStarts}
@@ -33,10 +32,9 @@ use Rattle.table.specs.Tables.{withRows, isJoined, stepped, empty, started, sta
 use Rattle.table.specs.Validity.{ValidTable}
 use Rattle.table.specs.declared.Table.{Table}
 use Rattle.table.specs.declared.starting.Started.{Started}
-use Rattle.claims.specs.Histories.{tooFar, clockAfter}
+use Rattle.claims.specs.Histories.{tooFar}
 use Rattle.claims.specs.Joinings.{joinedIn, answerOf, verdictOf, tickAnswer, OnlyJoined}
 use Rattle.claims.specs.Runs.{Called}
-use Rattle.claims.specs.TableHistories.{callsOf, advancesOf}
 use Rattle.claims.specs.TableRuns.{tick, take, tpc, measurement, TableAnswer, answered, judged, replied, Made, Does, TableRan}
 use Rattle.claims.proofs.Same.{answer}
 use Rattle.claims.proofs.TableMeans.{repliedWith, does-means}

@@ -11,10 +11,9 @@ use Rattle.answer.specs.declared.Answer.{Answer}
 use Rattle.answer.specs.declared.Refusal.{Refusal}
 use Rattle.answer.specs.declared.Verdict.{Verdict}
 use Rattle.frame.specs.Frames.{Sent, frameMeans}
-use Rattle.octets.specs.Writing.{wroteTold, wrote}
+use Rattle.octets.specs.Writing.{wrote}
 use Rattle.octets.specs.declared.writing.Wrote.{Wrote}
 use Rattle.reply.specs.Replies.{leftBy, Replied}
-use Rattle.row.specs.Rows.{ticked}
 use Rattle.station.specs.Stations.{unitLimit, clockLimit}
 use Rattle.station.specs.declared.asking.Permission.{Permission}
 use Rattle.table.specs.Replies.{tpcReplyOf, measurementReplyOf}

@@ -1,6 +1,6 @@
 -- A call for the station of an address does to it, and answers, what document 01's station does and answers; any other call leaves it. Assumes nothing.
 use mathlib.Core.Bool.{Bool, true, false, _||_}
-use mathlib.Core.List.{List, [], _∷_, map}
+use mathlib.Core.List.{List, map}
 use mathlib.Core.Logic.{⊎-elim}
 use mathlib.Core.Path.{_≡_, refl, sym, ap, ap₂, _∙_, subst}
 use Prim.Native.Nat.{ℕ, _+_}
@@ -16,15 +16,13 @@ use Rattle.header.proofs.Addresses.{same-self, same-is}
 use Rattle.header.specs.Headers.{same, da, toAll}
 use Rattle.pending.specs.declared.Pending.{Pending}
 use Rattle.reply.specs.Replies.{tpcReply, measurementReply}
-use Rattle.row.specs.Rows.{free, seated, isOf, isFree, rowTicked, ticked}
+use Rattle.row.specs.Rows.{free, seated, isOf, isFree, rowTicked}
 use Rattle.row.specs.declared.Row.{Row}
-use Rattle.station.proofs.KeptThroughout.{Unchanged, heard-unchanged}
 use Rattle.station.specs.Asking.{permissionOf}
 use Rattle.station.specs.Clock.{stepped as stationStepped, reached, clockAdvance, advancedTo, advanceMeans, advanceOf}
 use Rattle.station.specs.Stations.{unitLimit, clockLimit}
 use Rattle.station.specs.Taking.{heard, taken as stationTaken, takeMeans as stationTakes, takeOf as stationTake}
 use Rattle.station.specs.declared.Station.{Station}
-use Rattle.station.specs.declared.asking.Permission.{Permission}
 use Rattle.station.specs.declared.clock.Advanced.{Advanced}
 use Rattle.station.specs.declared.clock.Stepped.{Stepped}
 use Rattle.station.specs.declared.taking.Taken.{Taken}
@@ -52,7 +50,7 @@ rowAfter r (question a n) = r
 rowAfter r (tpc f report buffer) = r
 rowAfter r (measurement f index readings buffer) = r
 
--- joining again is refused; of leaving nothing is said here
+-- of joining again and of leaving nothing is said here: neither is a call for it
 abbrev pub rowAnswers : Station → TableCall → TableAnswer
 rowAnswers r (tick n) = answered (advanceOf r n .answer)
 rowAnswers r (take f) = judged (stationTake r f .verdict)
@@ -93,10 +91,44 @@ pub hearing-station : (own : List ℕ) (k : Kind) (w : Row) → isOf own w ≡ t
 unfolding hearing
 hearing-station own k w y = ap (λ (b : Bool). pick b (seated (heard (w .station) k)) w .station) (both (w .joined) (same own (w .station .own)) y .0)
 
-hearing-keeps : (own : List ℕ) (k : Kind) (w : Row) → isOf own (hearing k w) ≡ isOf own w
+pub hearing-keeps : (own : List ℕ) (k : Kind) (w : Row) → isOf own (hearing k w) ≡ isOf own w
 hearing-keeps own k w = same-seat-of own w (hearing k w) (hearing-seat k w)
 
 module _ (t : Table) (v : ValidTable t) (own : List ℕ) where
+  -- ---- what is for others
+
+  newcomer-apart : (a : List ℕ) (channel : ℕ) → same a own ≡ false → stationOf (withRows t (onFirst isFree (λ w. seated (newcomer t a channel)) (t .rows))) own ≡ stationOf t own
+  newcomer-apart a channel n =
+      other-leaves (isOf own) isFree (λ w. seated (newcomer t a channel)) (λ w y. (free-of-none own w y, differ a own n)) (t .rows)
+
+  leaver-apart : (a : List ℕ) → same a own ≡ false → stationOf (withRows t (onFirst (isOf a) (λ w. free) (t .rows))) own ≡ stationOf t own
+  leaver-apart a n = other-leaves (isOf own) (isOf a) (λ w. free) (λ w y. (of-another own a n w y, refl)) (t .rows)
+
+  -- a frame to another is no frame to all ones
+  pub to-another : (f : List ℕ) → (toAll f || same (da f) own) ≡ false → stationOf (takeOf t f .table) own ≡ stationOf t own
+  unfolding takeMeans
+  to-another f e = by (frameMeans (readerOf t f) (t .ap) (t .interval) f) refl
+    where
+      off : (toAll f ≡ false) × (same (da f) own ≡ false)
+      off = neither (toAll f) (same (da f) own) e
+
+      by : (o : Placed Sent) → frameMeans (readerOf t f) (t .ap) (t .interval) f ≡ o
+          → stationOf (taken t (andThen o (λ x. accepted (withRows t (heardRows f x (t .rows))))) .table) own ≡ stationOf t own
+      by (refused x) g = refl
+      by (accepted x) g =
+          ap (λ (b : Bool). firstSuch (isOf own) (pick b (map (hearing (x .kind)) (t .rows)) (onFirst (isOf (da f)) (hearing (x .kind)) (t .rows))))
+          (sym (sent-to-all (readerOf t f) (t .ap) (t .interval) f x g) ∙ off .0)
+          ∙ other-leaves (isOf own) (isOf (da f)) (hearing (x .kind))
+          (λ w y. (of-another own (da f) (off .1) w y, hearing-keeps own (x .kind) w ∙ of-another own (da f) (off .1) w y)) (t .rows)
+
+  pub joined-apart : (a : List ℕ) (channel : ℕ) → same a own ≡ false → stationOf (tableAfter t (join a channel)) own ≡ stationOf t own
+  unfolding joinMeans
+  joined-apart a channel n = through-checks (λ u. stationOf u own ≡ stationOf t own) t _ refl (newcomer-apart a channel n) _
+
+  pub left-apart : (a : List ℕ) → same a own ≡ false → stationOf (tableAfter t (leave a)) own ≡ stationOf t own
+  unfolding leaveMeans
+  left-apart a n = through-checks (λ u. stationOf u own ≡ stationOf t own) t _ refl (leaver-apart a n) _
+
   -- ---- the station of an address
 
   module _ (r : Station) (is : stationOf t own ≡ accepted r) where
@@ -251,11 +283,8 @@ module _ (t : Table) (v : ValidTable t) (own : List ℕ) where
 
     pub concerned : (c : TableCall) → concerns own c ≡ true → (Leaves own c → ⊥) → Concerned c
     unfolding askMeans
-    concerned (join a channel) e stays = record {
-      answers = ap (λ (o : Outcome Table). answered (stepped t o .answer)) (again a channel e);
-      leaves = ap (λ (o : Outcome Table). stationOf (stepped t o .table) own) (again a channel e) ∙ is;
-    }
-    concerned (leave a) e stays = absurd (stays (same-is a own e))
+    concerned (join a channel) e stays = clash (sym e)
+    concerned (leave a) e stays = clash (sym e)
     concerned (tick n) e stays = record { answers = ap answered (ticked-answer n); leaves = ticked-row n }
     concerned (take f) e stays = let w = taken-alike f e in record { answers = w .0; leaves = w .1 }
     concerned (question a n) e stays = record {
@@ -275,38 +304,20 @@ module _ (t : Table) (v : ValidTable t) (own : List ℕ) where
       leaves = is;
     }
 
-  -- ---- any other call
-
-  newcomer-apart : (a : List ℕ) (channel : ℕ) → same a own ≡ false → stationOf (withRows t (onFirst isFree (λ w. seated (newcomer t a channel)) (t .rows))) own ≡ stationOf t own
-  newcomer-apart a channel n =
-      other-leaves (isOf own) isFree (λ w. seated (newcomer t a channel)) (λ w y. (free-of-none own w y, differ a own n)) (t .rows)
-
-  leaver-apart : (a : List ℕ) → same a own ≡ false → stationOf (withRows t (onFirst (isOf a) (λ w. free) (t .rows))) own ≡ stationOf t own
-  leaver-apart a n = other-leaves (isOf own) (isOf a) (λ w. free) (λ w y. (of-another own a n w y, refl)) (t .rows)
-
-  -- a frame to another is no frame to all ones
-  to-another : (f : List ℕ) → (toAll f || same (da f) own) ≡ false → stationOf (takeOf t f .table) own ≡ stationOf t own
-  unfolding takeMeans
-  to-another f e = by (frameMeans (readerOf t f) (t .ap) (t .interval) f) refl
-    where
-      off : (toAll f ≡ false) × (same (da f) own ≡ false)
-      off = neither (toAll f) (same (da f) own) e
-
-      by : (o : Placed Sent) → frameMeans (readerOf t f) (t .ap) (t .interval) f ≡ o
-          → stationOf (taken t (andThen o (λ x. accepted (withRows t (heardRows f x (t .rows))))) .table) own ≡ stationOf t own
-      by (refused x) g = refl
-      by (accepted x) g =
-          ap (λ (b : Bool). firstSuch (isOf own) (pick b (map (hearing (x .kind)) (t .rows)) (onFirst (isOf (da f)) (hearing (x .kind)) (t .rows))))
-          (sym (sent-to-all (readerOf t f) (t .ap) (t .interval) f x g) ∙ off .0)
-          ∙ other-leaves (isOf own) (isOf (da f)) (hearing (x .kind))
-          (λ w y. (of-another own (da f) (off .1) w y, hearing-keeps own (x .kind) w ∙ of-another own (da f) (off .1) w y)) (t .rows)
-
-  pub unconcerned : (c : TableCall) → concerns own c ≡ false → stationOf (tableAfter t c) own ≡ stationOf t own
-  unfolding joinMeans leaveMeans
-  unconcerned (join a channel) e = through-checks (λ u. stationOf u own ≡ stationOf t own) t _ refl (newcomer-apart a channel e) _
-  unconcerned (leave a) e = through-checks (λ u. stationOf u own ≡ stationOf t own) t _ refl (leaver-apart a e) _
-  unconcerned (tick n) e = clash e
-  unconcerned (take f) e = to-another f e
-  unconcerned (question a n) e = refl
-  unconcerned (tpc f report buffer) e = refl
-  unconcerned (measurement f index readings buffer) e = refl
+    -- any other call leaves its row, its own joining again among them
+    pub unconcerned : (c : TableCall) → concerns own c ≡ false → (Leaves own c → ⊥) → stationOf (tableAfter t c) own ≡ stationOf t own
+    unconcerned (join a channel) e stays =
+        ⊎-elim
+        (λ (y : same a own ≡ true). ap (λ (o : Outcome Table). stationOf (stepped t o .table) own) (again a channel y))
+        (λ (n : same a own ≡ false). joined-apart a channel n)
+        (either (same a own))
+    unconcerned (leave a) e stays =
+        ⊎-elim
+        (λ (y : same a own ≡ true). absurd (stays (same-is a own y)))
+        (λ (n : same a own ≡ false). left-apart a n)
+        (either (same a own))
+    unconcerned (tick n) e stays = clash e
+    unconcerned (take f) e stays = to-another f e
+    unconcerned (question a n) e stays = refl
+    unconcerned (tpc f report buffer) e stays = refl
+    unconcerned (measurement f index readings buffer) e stays = refl

@@ -1,7 +1,7 @@
 -- A station that joined a table and has not left: from its joining on its row is the record that its own calls make of a fresh station, and each of these calls is
 -- answered by that record, whatever else is called. Assumes nothing.
-use mathlib.Core.Bool.{Bool, true, false, not}
-use mathlib.Core.List.{List, [], _∷_, map}
+use mathlib.Core.Bool.{Bool, true, false}
+use mathlib.Core.List.{List, [], _∷_}
 use mathlib.Core.Logic.{⊎-elim}
 use mathlib.Core.Path.{_≡_, refl, sym, ap, ap₂, _∙_, subst}
 use Prim.Native.Nat.{ℕ}
@@ -9,21 +9,19 @@ use native.Mathlib.Omega.{arith}
 use borrow.Author.Tests.{not-false}
 use Rattle.answer.proofs.Booleans.{either}
 use Rattle.answer.proofs.Judged.{passed, kept}
-use Rattle.answer.specs.Checks.{Outcome, refused, accepted, pick, checked}
+use Rattle.answer.specs.Checks.{Outcome, refused, accepted, pick}
 use Rattle.answer.specs.declared.Answer.{Answer}
-use Rattle.row.specs.Rows.{seated, isOf, isFree}
+use Rattle.row.specs.Rows.{seated, isFree}
 use Rattle.station.specs.Stations.{fresh, withClock}
 use Rattle.station.specs.declared.Station.{Station}
 use Rattle.table.proofs.Neighbours.{newcomer-found}
-use Rattle.table.specs.Tables.{withRows, someRow, onFirst, isJoined, stationOf, stepped, newcomer, joinMeans, joinOf}
+use Rattle.table.specs.Tables.{withRows, someRow, onFirst, stationOf, stepped, newcomer, joinMeans, joinOf}
 use Rattle.table.specs.Validity.{ValidTable}
-use Rattle.table.specs.declared.Stepped.{Stepped}
 use Rattle.table.specs.declared.Table.{Table}
-use Rattle.claims.specs.Histories.{History, clockFrom, clockAfter}
+use Rattle.claims.specs.Histories.{clockFrom, clockAfter}
 use Rattle.claims.specs.Records.{recordFrom}
-use Rattle.claims.specs.TableHistories.{concerns, madeFor, callsOf, callsFor, advancesOf, stationCall, historyOf, historyFor, Leaves, NeverLeaves, Stay, joinedAt, settingsOf}
+use Rattle.claims.specs.TableHistories.{concerns, madeFor, callsOf, callsFor, advancesOf, historyOf, Leaves, NeverLeaves, Stay, joinedAt, settingsOf}
 use Rattle.claims.specs.TableRuns.{TableCall, join, leave, tick, take, question, tpc, measurement, TableAnswer, answered, Made, Does, GoesOn, TableRan}
-use Rattle.claims.proofs.Same.{accepted-once}
 use Rattle.claims.proofs.TableMeans.{answered-once, does-means, ap-kept, interval-kept, clock-after, starts-empty}
 use Rattle.claims.proofs.TableRows.{rowAfter, rowAnswers, concerned, unconcerned}
 
@@ -141,15 +139,16 @@ module _ (m : ℕ) (ap' : List ℕ) (b : ℕ) (own : List ℕ) (channel : ℕ) w
       }
 
   -- another call
-  without-it : (x : Made) (ms : List Made) (before t : Table) → Followed ms before → Does before (x .call) (x .answer) t → concerns own (x .call) ≡ false → Followed (x ∷ ms) t
+  without-it : (x : Made) (ms : List Made) (before t : Table) → Followed ms before → Does before (x .call) (x .answer) t → concerns own (x .call) ≡ false
+      → (Leaves own (x .call) → ⊥) → Followed (x ∷ ms) t
   unfolding madeFor
-  without-it x ms before t f does n =
+  without-it x ms before t f does n stays =
       let e = does-means before (x .call) (x .answer) t (f .valid) does in
       let here : madeFor own (x ∷ ms) ≡ madeFor own ms = ap (λ (b : Bool). filtered b x ms) n in
       record {
         valid = e .valid;
         row =
-            ap (λ (u : Table). stationOf u own) (e .leaves) ∙ unconcerned before (f .valid) own (x .call) n ∙ f .row
+            ap (λ (u : Table). stationOf u own) (e .leaves) ∙ unconcerned before (f .valid) own (recordOf (callsFor own ms)) (f .row) (x .call) n stays ∙ f .row
             ∙ ap (λ (ns : List Made). accepted (recordOf (callsOf ns))) (sym here);
         told = here ∙ f .told ∙ ap (λ (ns : List Made). toldBy (callsOf ns)) (sym here);
       }
@@ -161,7 +160,7 @@ module _ (m : ℕ) (ap' : List ℕ) (b : ℕ) (own : List ℕ) (channel : ℕ) w
       let k = follows first f ms before rest (stays .1) in
       ⊎-elim
       (λ (y : concerns own (x .call) ≡ true). with-it x ms before t k does y (stays .0))
-      (λ (n : concerns own (x .call) ≡ false). without-it x ms before t k does n)
+      (λ (n : concerns own (x .call) ≡ false). without-it x ms before t k does n (stays .0))
       (either (concerns own (x .call)))
 
 module _ (ap' : List ℕ) (b : ℕ) (own : List ℕ) (channel : ℕ) (before after : List Made) (t : Table) (stay : Stay ap' b own channel before after t) where

@@ -1,5 +1,4 @@
 -- Single tables that shut out wrong ones which look right (02, Six): a definition so wrong would break one of these. Assumes nothing.
-use mathlib.Core.Bool.{Bool}
 use mathlib.Core.List.{List, [], _∷_, _++_}
 use mathlib.Core.Path.{_≡_, refl}
 use Prim.Native.Nat.{ℕ, zero, suc}
@@ -9,7 +8,6 @@ use Rattle.answer.specs.Checks.{Outcome, refused, accepted, checked}
 use Rattle.answer.specs.declared.Answer.{Answer}
 use Rattle.answer.specs.declared.Refusal.{Refusal}
 use Rattle.answer.specs.declared.Verdict.{Verdict}
-use Rattle.beacon.specs.Beacons.{elementMeans, takes, says, beaconMeans}
 use Rattle.element.specs.ChannelSwitch.{switchMeans}
 use Rattle.frame.specs.Actions.{actionMeans}
 use Rattle.frame.specs.Frames.{frameMeans}
@@ -18,11 +16,11 @@ use Rattle.octets.specs.Elements.{fixed}
 use Rattle.pending.specs.declared.Pending.{Pending}
 use Rattle.row.specs.Rows.{rowTicked}
 use Rattle.single_body.specs.Singles.{single}
-use Rattle.station.specs.Clock.{clockAdvance, advanceMeans}
 use Rattle.station.specs.Taking.{announced, informed}
 use Rattle.station.specs.declared.Station.{Station}
 use Rattle.table.specs.Tables.{someRow, onFirst, firstSuch, stationOf, empty, joinMeans, joinOf, leaveMeans, leaveOf, tickMeans, tickOf, readerOf, hearing, takeMeans, takeOf}
 use Rattle.table.specs.declared.Table.{Table}
+use Rattle.table.specs.declared.taking.Taken.{Taken}
 use Rattle.walk.specs.Elements.{elementsAfter, elementsIn}
 use Rattle.walk.specs.Handed.{passing, handing}
 use Rattle.walk.specs.Required.{required, nothingLeft}
@@ -86,3 +84,22 @@ channel-first = refl
 pub room-again : joinOf (leaveOf (crowd 16) (address 7) .table) (address 16) 36 .answer ≡ Answer.Accepted
 unfolding crowd joinMeans leaveMeans someRow onFirst checked
 room-again = refl
+
+-- of two frames to one station the later one counts, so their order matters: a switch at once to one channel, and then to another
+abbrev switching : ℕ → List ℕ
+switching channel = (208 ∷ 0 ∷ 0 ∷ 0 ∷ []) ++ address 0 ++ ours .ap ++ ours .ap ++ (0 ∷ 0 ∷ 0 ∷ 4 ∷ 37 ∷ 3 ∷ 0 ∷ channel ∷ 0 ∷ [])
+
+abbrev channelIn : Outcome Station → ℕ
+channelIn (refused r) = 0
+channelIn (accepted s) = s .channel
+
+abbrev switchedTwice : ℕ → ℕ → Taken
+switchedTwice first second = takeOf (takeOf (crowd 1) (switching first) .table) (switching second)
+
+pub later-counts : (channelIn (stationOf (switchedTwice 44 48 .table) (address 0)) ≡ 48) × (channelIn (stationOf (switchedTwice 48 44 .table) (address 0)) ≡ 44)
+unfolding crowd joinMeans someRow onFirst firstSuch checked takeMeans readerOf hearing frameMeans headerMeans managementMeans addressMeans foreignHeader foreignAddress toAll elementsIn elementsAfter switchMeans fixed actionMeans opensWith required handing passing nothingLeft single announced informed
+later-counts = (refl, refl)
+
+pub both-accepted : (switchedTwice 44 48 .verdict ≡ Verdict.Accepted) × (switchedTwice 48 44 .verdict ≡ Verdict.Accepted)
+unfolding crowd joinMeans someRow onFirst firstSuch checked takeMeans readerOf hearing frameMeans headerMeans managementMeans addressMeans foreignHeader foreignAddress toAll elementsIn elementsAfter switchMeans fixed actionMeans opensWith required handing passing nothingLeft single announced informed
+both-accepted = (refl, refl)

@@ -1,5 +1,5 @@
 -- Who is joined, and so exactly which calls are refused with 24, 25 and 26, by the calls of a table and their answers alone (02, Six). Assumes nothing.
-use mathlib.Core.Bool.{Bool, true, false, not, _&&_, _||_}
+use mathlib.Core.Bool.{Bool, true, false, not, _&&_}
 use mathlib.Core.List.{List, [], _∷_, map}
 use mathlib.Core.Logic.{_↔_, ⊎-elim}
 use mathlib.Core.Path.{_≡_, refl, sym, ap, ap₂, _∙_, subst}
@@ -34,7 +34,7 @@ use Rattle.claims.specs.Joinings.{accepts, comes, goes, joinedAfter, joi
 use Rattle.claims.specs.TableRuns.{TableCall, join, leave, tick, take, question, tpc, measurement, TableAnswer, answered, asked, Made, Does, GoesOn, TableRan}
 use Rattle.claims.proofs.JoinedRows.{some-found, isIn, not-found, none-left, seats, seats-within, seats-same, one-more, one-less, none-free}
 use Rattle.claims.proofs.TableMeans.{askedAs, tableAnswers, tableAfter, through-checks, through-take, Meant, does-means, ap-kept, interval-kept, starts-empty}
-use Rattle.claims.proofs.TableRows.{unconcerned}
+use Rattle.claims.proofs.TableRows.{joined-apart, left-apart}
 use Rattle.claims.proofs.TableStays.{run-kept, reaches, join-seats}
 
 -- ---- one call
@@ -70,7 +70,7 @@ module _ (t : Table) (v : ValidTable t) where
             ∙ ap (λ (b : Bool). pick b true (isJoined t own)) (sym y))
             (λ (n : same a own ≡ false).
             some-found (isOf own) (next .rows)
-            ∙ ap isIn (ap (λ (o : Outcome Table). stationOf (stepped t o .table) own) (sym e) ∙ unconcerned t v own (join a channel) n)
+            ∙ ap isIn (ap (λ (o : Outcome Table). stationOf (stepped t o .table) own) (sym e) ∙ joined-apart t v own a channel n)
             ∙ sym (some-found (isOf own) (t .rows)) ∙ ap (λ (b : Bool). pick b true (isJoined t own)) (sym n))
             (either (same a own))
 
@@ -91,7 +91,7 @@ module _ (t : Table) (v : ValidTable t) where
             ∙ ap (λ (b : Bool). pick b false (isJoined t own)) (sym y))
             (λ (n : same a own ≡ false).
             some-found (isOf own) (next .rows)
-            ∙ ap isIn (ap (λ (o : Outcome Table). stationOf (stepped t o .table) own) (sym e) ∙ unconcerned t v own (leave a) n)
+            ∙ ap isIn (ap (λ (o : Outcome Table). stationOf (stepped t o .table) own) (sym e) ∙ left-apart t v own a n)
             ∙ sym (some-found (isOf own) (t .rows)) ∙ ap (λ (b : Bool). pick b false (isJoined t own)) (sym n))
             (either (same a own))
 

@@ -4,7 +4,7 @@ use mathlib.Core.List.{List, [], _∷_}
 use mathlib.Core.Path.{_≡_}
 use Prim.Native.Nat.{ℕ, suc, _+_}
 use lib.Dec.{eqb}
-use Rattle.answer.specs.Checks.{Result, Outcome, refused, accepted, pick, _⇒_, judged}
+use Rattle.answer.specs.Checks.{Outcome, refused, accepted, pick, _⇒_, judged}
 use Rattle.answer.specs.Faults.{Placed}
 use Rattle.answer.specs.declared.Answer.{Answer}
 use Rattle.answer.specs.declared.Refusal.{Refusal}

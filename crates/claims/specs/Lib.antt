@@ -13,6 +13,8 @@ pub mod IbssReplies
 pub mod Joinings
 pub mod MemberRecords
 pub mod MemberRuns
+pub mod MergedCaptures
+pub mod Merging
 pub mod Moments
 pub mod Naming
 pub mod Numbered

@@ -1,7 +1,7 @@
 -- One station's part in the calls of a table (02, Six): "Two runs that agree on the table's start, a station's joining, the advances, the frames to all ones and the
 -- frames, questions and readings for that station, in one order". Nothing here names a row.
 use mathlib.Core.Bool.{Bool, true, false, _||_}
-use mathlib.Core.List.{List, [], _∷_, map}
+use mathlib.Core.List.{List, [], _∷_, _++_, map}
 use mathlib.Core.Path.{_≡_}
 use Prim.Native.Nat.{ℕ}
 use Rattle.answer.specs.Checks.{pick}
@@ -10,12 +10,12 @@ use Rattle.capture_record.specs.declared.entry.Settings.{Settings}
 use Rattle.header.specs.Headers.{same, da, toAll}
 use Rattle.table.specs.declared.Table.{Table}
 use Rattle.claims.specs.Histories.{frame, advance, ask, History, clockAfter}
-use Rattle.claims.specs.TableRuns.{TableCall, join, leave, tick, take, question, tpc, measurement, TableAnswer, answered, Made, Does, GoesOn, TableRan}
+use Rattle.claims.specs.TableRuns.{TableCall, join, leave, tick, take, question, tpc, measurement, answered, Made, Does, GoesOn, TableRan}
 
--- the call is one of these, for the station of this address
+-- the call is one of these, for the station of this address; that it joins again, which is refused, or that others join or leave, is none of them
 abbrev pub concerns : List ℕ → TableCall → Bool
-concerns own (join a channel) = same a own
-concerns own (leave a) = same a own
+concerns own (join a channel) = false
+concerns own (leave a) = false
 concerns own (tick n) = true
 concerns own (take f) = toAll f || same (da f) own
 concerns own (question a n) = same a own
@@ -85,6 +85,14 @@ pub record Stay (ap : List ℕ) (b : ℕ) (own : List ℕ) (channel : ℕ) (befo
   pub joins : Does joining (join own channel) (answered Answer.Accepted) joined
   pub goes-on : GoesOn joined after t
   pub never-leaves : NeverLeaves own after
+
+-- the calls of a run, with the latest joining of a station among them, which has not left since
+pub record StaySince (ap : List ℕ) (b : ℕ) (own : List ℕ) (ms : List Made) (t : Table) : Type 0 where
+  pub channel : ℕ
+  pub before : List Made
+  pub after : List Made
+  pub stay : Stay ap b own channel before after t
+  pub all : ms ≡ after ++ (record { call = join own channel; answer = answered Answer.Accepted } ∷ before)
 
 -- the clock at its joining, by the advances until then: the beginning of its history
 abbrev pub joinedAt : List Made → ℕ

@@ -5,7 +5,6 @@ use Prim.Native.Nat.{ℕ}
 use Rattle.answer.specs.Checks.{pick}
 use Rattle.frame.specs.declared.Received.{Received}
 use Rattle.station.specs.Clock.{advanceOf}
-use Rattle.station.specs.Starting.{blank}
 use Rattle.station.specs.Taking.{heardOf}
 use Rattle.station.specs.Validity.{Valid}
 use Rattle.station.specs.declared.Station.{Station}

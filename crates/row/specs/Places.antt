@@ -1,7 +1,7 @@
 -- The first row of those that are sought (02, Six), by how many stand before it.
 use mathlib.Core.Bool.{Bool}
 use mathlib.Core.List.{List, [], _∷_}
-use Prim.Native.Nat.{ℕ, suc}
+use Prim.Native.Nat.{suc}
 use Rattle.answer.specs.Checks.{pick}
 use Rattle.row.specs.declared.Row.{Row}
 use Rattle.row.specs.declared.places.Place.{Place}

@@ -3,17 +3,15 @@ use mathlib.Core.Bool.{Bool, true, false, _||_}
 use mathlib.Core.List.{List, [], _∷_}
 use mathlib.Core.Logic.{⊎-elim}
 use mathlib.Core.Path.{_≡_, refl, sym, ap, _∙_, subst}
-use Prim.Native.Nat.{ℕ, zero, suc, _<_}
-use native.Mathlib.Nat.{not-suc-le-zero, le-of-suc-le-suc}
+use Prim.Native.Nat.{ℕ, suc, _<_}
 use native.Mathlib.Omega.{arith}
 use lib.ListN.{length, getD, set}
 use Rattle.answer.proofs.Booleans.{either}
-use Rattle.answer.specs.Checks.{Outcome, refused, accepted, pick}
+use Rattle.answer.specs.Checks.{refused, accepted, pick}
 use Rattle.answer.specs.declared.Refusal.{Refusal}
 use Rattle.row.specs.Places.{further, placeOf}
 use Rattle.row.specs.declared.Row.{Row}
 use Rattle.row.specs.declared.places.Place.{Place}
-use Rattle.station.specs.declared.Station.{Station}
 use Rattle.table.specs.Tables.{someRow, onFirst, firstSuch}
 
 nowhere-at : {A : Type 0} {i : ℕ} → Place.Nowhere ≡ Place.At i → A

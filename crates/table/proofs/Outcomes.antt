@@ -1,23 +1,23 @@
 -- Each way out of a call is what the call means, and leaves a valid table. Assumes nothing.
 use mathlib.Core.Bool.{Bool, true, false, not, _||_}
-use mathlib.Core.List.{List, [], _∷_, map}
+use mathlib.Core.List.{List, map}
 use mathlib.Core.Path.{_≡_, refl, sym, ap, _∙_, subst}
-use Prim.Native.Nat.{ℕ, _+_, _-_, _<_, _≤_}
+use Prim.Native.Nat.{ℕ, _+_, _-_, _<_}
 use native.Mathlib.Omega.{arith}
 use borrow.Author.Tests.{ne-eqb}
 use lib.Dec.{ltb, eqb}
-use lib.ListN.{length, getD, set, replicate}
-use Rattle.answer.proofs.Booleans.{both, or-go, or-stop}
-use Rattle.answer.proofs.Judged.{never, past, stop, done}
-use Rattle.answer.specs.Checks.{Outcome, refused, accepted, pick, _⇒_, checked, andThen}
+use lib.ListN.{getD, set}
+use Rattle.answer.proofs.Booleans.{both, or-go}
+use Rattle.answer.proofs.Judged.{past, stop, done}
+use Rattle.answer.specs.Checks.{Outcome, refused, accepted, pick, checked, andThen}
 use Rattle.answer.specs.Faults.{Placed}
 use Rattle.answer.specs.declared.Fault.{Fault}
 use Rattle.answer.specs.declared.Refusal.{Refusal}
 use Rattle.channel.specs.Centres.{highest}
 use Rattle.frame.proofs.Allowing.{frame-allowed}
 use Rattle.frame.specs.Allowed.{KindAllowed}
-use Rattle.frame.specs.Frames.{Kind, Sent, frameMeans}
-use Rattle.frame.specs.Laid.{frameLaid, frameOf}
+use Rattle.frame.specs.Frames.{Sent, frameMeans}
+use Rattle.frame.specs.Laid.{frameLaid}
 use Rattle.frame.specs.declared.Frame.{Frame}
 use Rattle.frame.specs.declared.Reading.{Reading}
 use Rattle.header.specs.Headers.{same, da, toAll}
@@ -30,19 +30,17 @@ use Rattle.row.specs.declared.places.Place.{Place}
 use Rattle.station.proofs.Received.{laid-means}
 use Rattle.station.specs.Starting.{startForbids as stationForbids}
 use Rattle.station.specs.Stations.{clockLimit, unitLimit}
-use Rattle.station.specs.Taking.{taken as stationTaken, heard}
+use Rattle.station.specs.Taking.{taken as stationTaken}
 use Rattle.station.specs.declared.Station.{Station}
 use Rattle.table.specs.CodeTerms.Hearing.{PlaceWithin, rowsAfter}
 use Rattle.table.specs.CodeTerms.Seating.{seatAmong, seatMeans}
-use Rattle.table.specs.Tables.{withRows, someRow, onFirst, isJoined, stationOf, stepped, newcomer, joinForbids, joinMeans, joinOf, leaveMeans, leaveOf, tickMeans, tickOf, readerOf, hearing, heardRows, takeMeans, taken, takeOf}
+use Rattle.table.specs.Tables.{withRows, someRow, onFirst, isJoined, stepped, newcomer, joinForbids, joinMeans, joinOf, leaveMeans, leaveOf, tickMeans, tickOf, readerOf, hearing, heardRows, takeMeans}
 use Rattle.table.specs.Validity.{Sits, Holds, RowOf, ValidTable}
-use Rattle.table.specs.declared.Stepped.{Stepped}
 use Rattle.table.specs.declared.Table.{Table}
 use Rattle.table.specs.declared.joining.Seat.{Seat}
-use Rattle.table.specs.declared.taking.Taken.{Taken}
 use Rattle.table.proofs.FirstRow.{found-at, none-such}
 use Rattle.table.proofs.Readers.{sent-to-all, to-all-ones, single-alone}
-use Rattle.table.proofs.Readers.{reader-joined, reader-else}
+use Rattle.table.proofs.Readers.{reader-else}
 use Rattle.table.proofs.StaysValid.{newcomer-sits, valid-joined, valid-left, valid-all, valid-one, valid-ticked}
 
 -- ---- the row at the place of an address

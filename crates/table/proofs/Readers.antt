@@ -6,11 +6,11 @@ use mathlib.Core.Path.{_≡_, refl, sym, ap, _∙_}
 use Prim.Native.Nat.{ℕ}
 use borrow.Author.Tests.{not-false}
 use lib.ListN.{replicate}
-use Rattle.answer.proofs.Booleans.{clash, either, both, neither, or-go, or-stop}
+use Rattle.answer.proofs.Booleans.{clash, either, neither}
 use Rattle.answer.proofs.Judged.{passed, kept, followed}
 use Rattle.answer.proofs.Placing.{nowhere-value}
 use Rattle.answer.specs.Checks.{Outcome, accepted, pick, _⇒_, judged, andThen}
-use Rattle.answer.specs.Faults.{Placed, nowhere, placedPast}
+use Rattle.answer.specs.Faults.{nowhere, placedPast}
 use Rattle.answer.specs.declared.Refusal.{Refusal}
 use Rattle.frame.specs.Frames.{Sent, kindOf, sent, frameMeans}
 use Rattle.header.proofs.Addresses.{same-is}
@@ -21,7 +21,7 @@ use Rattle.row.specs.Places.{placeOf}
 use Rattle.row.specs.Rows.{isOf}
 use Rattle.row.specs.declared.places.Place.{Place}
 use Rattle.table.specs.CodeTerms.Hearing.{readerAt}
-use Rattle.table.specs.Tables.{someRow, isJoined, readerOf}
+use Rattle.table.specs.Tables.{isJoined, readerOf}
 use Rattle.table.specs.declared.Table.{Table}
 use Rattle.table.proofs.FirstRow.{found-at, none-such}
 

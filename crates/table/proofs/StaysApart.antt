@@ -5,7 +5,7 @@ use mathlib.Core.Logic.{⊎-elim}
 use mathlib.Core.Path.{_≡_, refl, sym, ap, ap₂, _∙_, subst}
 use Prim.Native.Nat.{ℕ, suc}
 use lib.ListN.{length}
-use Rattle.answer.proofs.Booleans.{clash, either, both, neither, and-go, or-go}
+use Rattle.answer.proofs.Booleans.{clash, either, neither, and-go, or-go}
 use Rattle.answer.specs.Checks.{pick}
 use Rattle.header.proofs.Addresses.{same-self, same-is}
 use Rattle.header.specs.Headers.{same}

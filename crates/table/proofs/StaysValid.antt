@@ -1,34 +1,33 @@
 -- What the calls leave is a valid table. Assumes nothing.
 use mathlib.Core.Bool.{Bool, true, false, _||_}
-use mathlib.Core.List.{List, [], _∷_, map}
-use mathlib.Core.Logic.{⊎-elim}
-use mathlib.Core.Path.{_≡_, refl, sym, ap, ap₂, _∙_, subst}
-use Prim.Native.Nat.{ℕ, zero, suc, _+_, _≤_}
+use mathlib.Core.List.{List, map}
+use mathlib.Core.Path.{_≡_, refl, sym, ap, _∙_, subst}
+use Prim.Native.Nat.{ℕ, zero, suc, _+_}
 use native.Mathlib.Omega.{arith}
-use borrow.Author.Tests.{eqb-false, ne-eqb, ltb-false}
+use borrow.Author.Tests.{eqb-false, ne-eqb}
 use lib.Dec.{ltb, eqb}
 use lib.ListN.{length, replicate, length-map}
-use Rattle.answer.proofs.Booleans.{clash, either, both, neither, or-go}
+use Rattle.answer.proofs.Booleans.{clash, neither, or-go}
 use Rattle.answer.specs.Checks.{pick}
 use Rattle.channel.specs.Centres.{highest}
 use Rattle.frame.specs.Allowed.{KindAllowed}
 use Rattle.frame.specs.Frames.{Kind}
 use Rattle.frame.specs.Laid.{frameOf, quietsOf}
 use Rattle.octets.specs.Numbers.{bit, octet}
-use Rattle.row.specs.Rows.{rowCount, free, seated, isOf, isFree, All, Occupied, ValidRow, ValidRows, rowTicked, ticked}
+use Rattle.row.specs.Rows.{rowCount, free, seated, isFree, All, Occupied, ValidRow, ValidRows, rowTicked}
 use Rattle.row.specs.declared.Row.{Row}
 use Rattle.station.proofs.KeptThroughout.{Unchanged, heard-unchanged, KeptThroughout, advance-keeps}
 use Rattle.station.proofs.StaysValid.{valid-fresh, advanced, valid-changed}
 use Rattle.pending.specs.declared.Pending.{Pending}
 use Rattle.station.specs.Clock.{stepped as stationStepped, reached, clockAdvance, advancedTo, advanceMeans, advanceOf}
-use Rattle.station.specs.Starting.{blank, startForbids as stationForbids}
+use Rattle.station.specs.Starting.{startForbids as stationForbids}
 use Rattle.station.specs.Stations.{clockLimit, unitLimit, fresh, withClock}
 use Rattle.station.specs.Taking.{heard}
 use Rattle.station.specs.Validity.{PendingFits, Valid}
 use Rattle.station.specs.declared.Station.{Station}
 use Rattle.station.specs.declared.clock.Advanced.{Advanced}
 use Rattle.station.specs.declared.clock.Stepped.{Stepped}
-use Rattle.table.specs.Tables.{tickedTable, withRows, someRow, onFirst, isJoined, empty, startForbids, newcomer, joinForbids, hearing}
+use Rattle.table.specs.Tables.{tickedTable, withRows, onFirst, isJoined, empty, startForbids, newcomer, joinForbids, hearing}
 use Rattle.table.specs.Validity.{Sits, Holds, RowOf, Apart, ValidTable}
 use Rattle.table.specs.declared.Table.{Table}
 use Rattle.table.proofs.StaysApart.{all-map, all-kept, all-on-first, length-on-first, SameSeat, apart-same, seats-map, seats-on-first, apart-left, apart-joined}

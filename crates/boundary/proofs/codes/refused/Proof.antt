@@ -2,9 +2,9 @@
 -- Assumes nothing.
 use native.Mathlib.Omega.{arith}
 use borrow.Author.Needs.{needs}
+use Rattle.answer.proofs.RefusalNumbers.{numbered}
 use Rattle.boundary.proofs.codes.refused.Statement.{statement}
 use Rattle.boundary.proofs.codes.refused.Tie as tie
-use Rattle.boundary.proofs.RefusalNumbers.{numbered}
 
 sub-result : tie.Need-sub-result
 sub-result c = omega (arith, numbered (c .before .args .refusal), c .number .ensures)

@@ -3,7 +3,6 @@ use mathlib.Core.Path.{ap}
 use borrow.Author.Needs.{needs}
 use Rattle.station.specs.declared.Station.{Station}
 use mathlib.Core.Bool.{false}
-use Rattle.row.specs.declared.Row.{Row}
 use Rattle.row.proofs.Row.free.Statement.{statement}
 use Rattle.row.proofs.Row.free.Tie as tie
 

@@ -36,7 +36,7 @@ use denote.Slice.{sliceTy, sliceVal, MutSlice, heres, Room, slice-vals, mut-slic
 use denote.Lend.{Held}
 use denote.Index.{place-is, row, elem-out, elem-put, opens-slice, closes-slice}
 use denote.Signature.{plain}
-use denote.Steps.{only, owned, peeks, heard, nothing}
+use denote.Steps.{owned, peeks, heard, nothing}
 use denote.Struct.Laws as LL
 use denote.Triple.Entry.{onEntry}
 use denote.Triple.Spec.{Meets, tripleOf}

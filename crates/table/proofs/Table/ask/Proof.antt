@@ -1,9 +1,9 @@
 -- `Table::ask` meets its contract: the address is not joined, or its station answers. Assumes nothing.
 use mathlib.Core.Path.{_≡_, sym, ap, _∙_}
-use Prim.Native.Nat.{_*_, _<_, _^_}
+use Prim.Native.Nat.{_<_}
 use native.Mathlib.Omega.{arith}
 use borrow.Author.Needs.{needs}
-use lib.ListN.{length, getD}
+use lib.ListN.{length}
 use Rattle.answer.specs.Checks.{Outcome, accepted, andThen}
 use Rattle.station.specs.Asking.{permissionOf}
 use Rattle.station.specs.declared.Station.{Station}

@@ -1,10 +1,9 @@
 -- `Table::heard` meets its contract: the row at the place hears what was read, or all of them do. Assumes nothing.
-use mathlib.Core.List.{List}
-use mathlib.Core.Path.{_≡_, sym, ap, _∙_, subst}
+use mathlib.Core.Path.{sym, ap, _∙_, subst}
 use Prim.Native.Nat.{_<_}
 use native.Mathlib.Omega.{arith}
 use borrow.Author.Needs.{needs}
-use lib.ListN.{length, getD, set}
+use lib.ListN.{length, set}
 use Rattle.row.proofs.InTurn.{within-reads, all-at}
 use Rattle.row.specs.Rows.{rowCount, free, ValidRow, rowHeard}
 use Rattle.row.specs.declared.Row.{Row}

@@ -1,10 +1,9 @@
 -- `Table::reader_of` meets its contract. Assumes nothing.
 use mathlib.Core.List.{List}
-use mathlib.Core.Path.{_≡_, refl, sym, ap, ap₂, _∙_}
+use mathlib.Core.Path.{refl, ap, _∙_}
 use Prim.Native.Nat.{ℕ}
 use denote.Ref.{now}
 use borrow.Author.Needs.{needs}
-use Rattle.header.specs.Headers.{da}
 use Rattle.row.specs.Places.{placeOf}
 use Rattle.row.specs.Rows.{isOf}
 use Rattle.table.specs.CodeTerms.Hearing.{readerAt}

@@ -1,20 +1,18 @@
 -- `Table::take` meets its contract, and the table stays valid: the frame is read once, and goes where it was sent to. Assumes nothing.
 use mathlib.Core.List.{List}
-use mathlib.Core.Path.{_≡_, refl, sym, ap, _∙_, subst}
+use mathlib.Core.Path.{_≡_, sym, ap, _∙_, subst}
 use Prim.Native.Nat.{ℕ}
 use denote.Ref.{now}
 use borrow.Author.Needs.{needs}
-use Rattle.answer.specs.Checks.{accepted}
-use Rattle.answer.specs.Faults.{Placed}
 use Rattle.answer.specs.declared.Verdict.{Verdict}
-use Rattle.frame.specs.Frames.{Sent, frameMeans}
+use Rattle.frame.specs.Frames.{frameMeans}
 use Rattle.frame.specs.Laid.{frameLaid}
 use Rattle.frame.specs.declared.Received.{Received}
 use Rattle.header.specs.Headers.{da}
 use Rattle.row.specs.Places.{placeOf}
 use Rattle.row.specs.Rows.{isOf}
 use Rattle.row.specs.declared.places.Place.{Place}
-use Rattle.table.specs.CodeTerms.Hearing.{readerAt, PlaceWithin, rowsAfter}
+use Rattle.table.specs.CodeTerms.Hearing.{readerAt, rowsAfter}
 use Rattle.table.specs.Tables.{withRows, readerOf, taken}
 use Rattle.table.specs.Validity.{ValidTable}
 use Rattle.table.specs.declared.Table.{Table}
