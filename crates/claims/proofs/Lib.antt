@@ -44,6 +44,7 @@ pub mod OneOutcomeCaptures
 pub mod OneOutcomeElements
 pub mod OneOutcomeFrames
 pub mod OneOutcomeLeaves
+pub mod OneOutcomeLent
 pub mod OneOutcomeMembers
 pub mod OneOutcomeOwners
 pub mod OneOutcomeTables

@@ -2,4 +2,3 @@ pub mod Cells
 pub mod InTurn
 pub mod PlaceLaws
 pub mod RowLaws
-pub mod Says

@@ -54,7 +54,7 @@ use Rattle.row.proofs.Row.advance as advance
 use Rattle.row.proofs.Row.advance.Symbol as advance-def
 use Rattle.row.proofs.Row.advance.Symbol.{name as #advance}
 use Rattle.row.proofs.Row.advance.Met as advance-thm
-use Rattle.row.proofs.Says.{says-both}
+use Rattle.answer.proofs.SayingBoth.{says-both}
 use Rattle.row.proofs.InTurn as turns
 use Rattle.row.proofs.ticking.tick.Key.{name as #tick}
 use Rattle.row.proofs.ticking.tick as tick

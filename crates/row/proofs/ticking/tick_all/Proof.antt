@@ -47,7 +47,7 @@ use Rattle.row.specs.declared.Row.{Row}
 use Rattle.row.specs.Rows.{ValidRows, ticked}
 use Rattle.row.proofs.Row as S
 use Rattle.row.proofs.Row.Laws as S′
-use Rattle.row.proofs.Says.{says-both}
+use Rattle.answer.proofs.SayingBoth.{says-both}
 use Rattle.row.proofs.Cells.{Rows, rows-mir, spell-rows, mach-rows, rows-tell, room, rows-make, rows-in, rows-out}
 use Rattle.row.proofs.ticking.tick as tick
 use Rattle.row.proofs.ticking.tick.Symbol as tick-def
