@@ -33,13 +33,13 @@ as-it-was l t d = ap (λ (zs : List Row). getD zs (l .loop .i) d) (l .loop .inv 
 hear-requires : tie.Need-hear-requires Inv-loop μ-loop
 hear-requires c κs =
     let l = c .before .before in
-    let within = here l (c .before .loop-test .taken) in
-    subst ValidRow (sym (as-it-was l (c .before .loop-test .taken) _)) (all-at ValidRow _ (l .loop .i) _ within (l .before .pre .each))
+    let t : l .loop .i < rowCount = omega (arith, c .before .loop-test .taken) in
+    subst ValidRow (sym (as-it-was l t _)) (all-at ValidRow _ (l .loop .i) _ (here l t) (l .before .pre .each))
 
 loop-again : tie.Need-loop-again Inv-loop μ-loop
 loop-again c =
     let l = c .before .before .before in
-    let t = c .before .before .loop-test .taken in (
+    let t : l .loop .i < rowCount = omega (arith, c .before .before .loop-test .taken) in (
       omega (arith, t),
       ap (λ (w : Row). set (l .loop .next) (l .loop .i) w) (c .hear .ensures .0)
           ∙ ap (λ (zs : List Row). set zs (l .loop .i) (rowHeard (l .before .args .received) (getD zs (l .loop .i) _))) (l .loop .inv .1)
