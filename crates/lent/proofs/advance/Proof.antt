@@ -26,7 +26,7 @@ use denote.Laws.{Is, shows}
 use denote.Memory.{mem}
 use denote.Plain.{uint-vals, uint-tells, uint-makes}
 use denote.Builtin.{u32}
-use denote.Ref.{RefT, MutRef, ptr-vals, mut-tells}
+use denote.Ref.{MutRef, ptr-vals, mut-tells}
 use denote.Signature.{plain}
 use denote.Steps.{only, opens, closes, owned, peeks, heard, nothing}
 use denote.Enum.Laws as EL
@@ -56,6 +56,7 @@ use Rattle.station.proofs.Station.advance.Symbol as advance-def
 use Rattle.station.proofs.Station.advance.Symbol.{name as #advance}
 use Rattle.station.proofs.Station.advance.Met as advance-thm
 use Rattle.answer.proofs.SayingBoth.{says-both}
+use Rattle.lent.proofs.Lending.{spell, mach, given, given-at, passed, passed-at}
 use Rattle.lent.proofs.advance.Key.{name as #lent}
 use Rattle.lent.proofs.advance as lent
 use Rattle.lent.proofs.advance.Statement as stated
@@ -63,9 +64,6 @@ use Rattle.lent.proofs.advance.Code as code
 
 abbrev stayed : Stays (lent.ended .signature .params) (lent.ended .kept)
 stayed = (stay-ref (0 ∷ []) tt (plain (λ _. T.the-row)), (stay-none (λ _. u32) yes, tt))
-
-abbrev spell : Station → List Val
-spell = LL.vals T.the-type T′.the-laws
 
 abbrev say : Answer → List Val
 say = EL.vals N.the-type N′.the-laws
@@ -78,31 +76,19 @@ module _ {M : Type 1} (𝓤 : URA M) (H : Heap 𝓤) (A : Atoms 𝓤) (at-mem : 
   abbrev Advance : Contract 𝓤
   Advance = tripleOf 𝓤 H A advance.signature (advance.spec 𝓤 H A at-mem run)
 
-  advance-of : (h : Station) (n : ℕ) (r : Stepped) → ent 𝓤 (ensured 𝓤 H A advance.ended (advance.clauses 𝓤 H A at-mem run) tt (h, (n, tt)) tt r) (sep 𝓤 (fact 𝓤 (r ≡ advanceOf h n)) (fact 𝓤 (Valid (r .station))))
-  advance-of h n r = exE 𝓤 _ (λ ws. snd∗ 𝓤 (sem 𝓤 H A (lasts advance.ended tt (h, (n, tt)) ws)) (sep 𝓤 (fact 𝓤 (r ≡ advanceOf h n)) (fact 𝓤 (Valid (r .station)))))
+  advance-of : (h : Station) (n : ℕ) (r : Stepped) → ent 𝓤 (ensured 𝓤 H A advance.ended (advance.clauses 𝓤 H A at-mem run) tt (passed h n) tt r) (sep 𝓤 (fact 𝓤 (r ≡ advanceOf h n)) (fact 𝓤 (Valid (r .station))))
+  advance-of h n r = exE 𝓤 _ (λ ws. snd∗ 𝓤 (sem 𝓤 H A (lasts advance.ended tt (passed h n) ws)) (sep 𝓤 (fact 𝓤 (r ≡ advanceOf h n)) (fact 𝓤 (Valid (r .station)))))
 
 module _ {M : Type 1} (𝓤 : URA M) (H : Heap 𝓤) (A : Atoms 𝓤) (W : Given 𝓤 H A) (at-mem : Memory → SProp 𝓤) (run : Routine → Fun 𝓤) (κ : Lft) (q : Share) (b o : ℕ) (γ : GName) (h : Station) (n : ℕ) (n-fits : n < 2 ^ 32) (ok : Valid h) where
-  abbrev Arg : Type 0
-  Arg = RefT Station × (ℕ × Unit {0})
-
-  abbrev x : Arg
-  x = (record { ptr = (b, o); name = γ; now = h }, (n, tt))
-
-  abbrev at : List Val × (List Val × Unit {0})
-  at = (vptr b o ∷ [], (vint w32 n ∷ [], tt))
-
-  abbrev mach : Val
-  mach = LL.val T.the-type T′.the-laws h
-
   abbrev Post : Val → SProp 𝓤
-  Post = walkOf 𝓤 H A lent.ended stayed (lent.clauses 𝓤 H A at-mem run) .post (((κ, tt), (q, tt), tt, x, at), tt)
+  Post = walkOf 𝓤 H A lent.ended stayed (lent.clauses 𝓤 H A at-mem run) .post (((κ, tt), (q, tt), tt, given b o γ h n, given-at b o n), tt)
 
   abbrev to-advance : Advance 𝓤 H A at-mem run .Ghost
-  to-advance = ((tt, tt, tt, (h, (n, tt)), (mach ∷ [], (vint w32 n ∷ [], tt))), tt)
+  to-advance = ((tt, tt, tt, passed h n, passed-at h n), tt)
 
-  goes-advance : ent 𝓤 (sem 𝓤 H A (T.the-row .own h (mach ∷ []))) (Advance 𝓤 H A at-mem run .pre to-advance)
+  goes-advance : ent 𝓤 (sem 𝓤 H A (T.the-row .own h (mach h ∷ []))) (Advance 𝓤 H A at-mem run .pre to-advance)
   goes-advance =
-      qed W (‵ (T.the-row .own h (mach ∷ [])) ∷ []) ∵ says ! ok $ nothing ! $ frame ! $
+      qed W (‵ (T.the-row .own h (mach h ∷ [])) ∷ []) ∵ says ! ok $ nothing ! $ frame ! $
       nothing ! $ owned ! u32 (Is u32) (uint-makes 𝓤 H A W w32) n _ (refl, n-fits) $ fjoin ! $ move ! (1 ∷ 0 ∷ []) $ fjoin ! $ done !
 
   -- what whoever holds a Stepped knows of its fields
@@ -116,29 +102,29 @@ module _ {M : Type 1} (𝓤 : URA M) (H : Heap 𝓤) (A : Atoms 𝓤) (W : Given
       → ent 𝓤 (⋆ 𝓤 H A (‵ (fobs γ (T.the-row .coded .code (r .station))) ∷ ‵ (fbor κ (Body (mem T.the-row) b o γ)) ∷ ‵ (flft κ q) ∷ [])) (Post (told (r .answer)))
   exits r e kept is =
       qed W (‵ (fobs γ (T.the-row .coded .code (r .station))) ∷ ‵ (fbor κ (Body (mem T.the-row) b o γ)) ∷ ‵ (flft κ q) ∷ []) ∵
-      suffices ! _ (ends-at 𝓤 H A lent.ended stayed (lent.clauses 𝓤 H A at-mem run) W (((κ, tt), (q, tt), tt, x, at), tt) (told (r .answer)) (r .answer) (r .station, (tt, tt)) (tt, (tt, tt))) $
+      suffices ! _ (ends-at 𝓤 H A lent.ended stayed (lent.clauses 𝓤 H A at-mem run) W (((κ, tt), (q, tt), tt, given b o γ h n, given-at b o n), tt) (told (r .answer)) (r .answer) (r .station, (tt, tt)) (tt, (tt, tt))) $
       says-both ! (ap (λ (a : Stepped). a .answer) e, ap (λ (a : Stepped). a .station) e) kept $ nothing ! $ move ! (3 ∷ 0 ∷ []) $ join ! $
       frame ! $ feqI ! (List Val) (vptr b o ∷ []) (vptr b o ∷ []) refl $ fjoin3 ! $ nothing ! $ owned ! u32 (Is u32) (uint-makes 𝓤 H A W w32) n _ (refl, n-fits) $ fjoin ! $ move ! (1 ∷ 0 ∷ []) $ fjoin ! $
       owned ! N.the-row (Is N.the-row) (EL.makes N.the-type N′.the-plain 𝓤 H A) (r .answer) _ is $ move ! (1 ∷ 0 ∷ []) $ done !
 
   module _ (C : Calls 𝓤 H) (Λ : Loops 𝓤 H) (fm : FmC 𝓤 H (W .laws) C) (known : Triple 𝓤 (C #advance) (Advance 𝓤 H A at-mem run)) where
-    walk : ent 𝓤 (onEntry 𝓤 H A lent.signature (κ, tt) (q, tt) x at) (WpFn 𝓤 H C Λ code.function (vptr b o ∷ vint w32 n ∷ []) Post)
+    walk : ent 𝓤 (onEntry 𝓤 H A lent.signature (κ, tt) (q, tt) (given b o γ h n) (given-at b o n)) (WpFn 𝓤 H C Λ code.function (vptr b o ∷ vint w32 n ∷ []) Post)
     walk =
-        qed W ((‵ (flft κ q) ⊛ ‵ ftrue) ∷ ‵ (owns (MutRef (named 0) κ T.the-row ∷ u32 ∷ []) x at) ∷ []) ∵ enter ! C Λ code.function (vptr b o ∷ vint w32 n ∷ []) _ $
+        qed W ((‵ (flft κ q) ⊛ ‵ ftrue) ∷ ‵ (owns (MutRef (named 0) κ T.the-row ∷ u32 ∷ []) (given b o γ h n) (given-at b o n)) ∷ []) ∵ enter ! C Λ code.function (vptr b o ∷ vint w32 n ∷ []) _ $
         alloc1 ! (λ l₀. alloc1 ! (λ l₁. alloc1 ! (λ l₂. alloc1 ! (λ l₃. alloc1 ! (λ l₄. alloc0 ! $ params1 ! $ pass1 ! (init ! 6 refl (tt, tt)) $ pass1 ! (init ! 4 refl (tt, record { fits = n-fits })) $ pass0 ! $
         move ! (11 ∷ []) $ fsplit ! $ fsplit3 ! $ drop ! $ move ! (13 ∷ []) $ split ! $ move ! (2 ∷ 3 ∷ 0 ∷ []) $
         opens ! tt T.the-row {h = h} b o (λ vs. spelt ! T.the-row (Is T.the-row) (shows 𝓤 H A T.the-row) spell (LL.tells T.the-type T′.the-laws) fullShare h vs b o $
-        move ! (1 ∷ []) $ peeks ! T.the-row (Is T.the-row) (shows 𝓤 H A T.the-row) h (mach ∷ []) (λ is. move ! (1 ∷ 0 ∷ []) $
+        move ! (1 ∷ []) $ peeks ! T.the-row (Is T.the-row) (shows 𝓤 H A T.the-row) h (mach h ∷ []) (λ is. move ! (1 ∷ 0 ∷ []) $
         -- [the station's cell; what a Station owns; the open borrow; obs; auth; true; n's; _4; …; _3; …; _2; …; _1; …; room for _0; …]
         assigns ! (of-opd ! (load ! (from ! (hop ! (look ! 13 refl) (stop !))) (look-raw ! 0 refl))) (from ! (stop !)) (init ! 7 refl (LL.lawful T.the-type T′.the-laws 𝓤 H A W .typed h _ is .0)) $
         -- [what `advance` asks; the station's cell; the open borrow; obs; auth; true; n's; _4; …; _3; …; _2; …; _1; …; room for _0; …]
         move ! (1 ∷ []) $ use1 W (raw (Advance 𝓤 H A at-mem run .pre to-advance)) goes-advance $
         calls-at ! fm (Advance 𝓤 H A at-mem run) known to-advance (and-then ! (load ! (from ! (stop !)) (look ! 7 refl)) (and-then ! (load ! (from ! (stop !)) (look ! 11 refl)) (no-more !))) (λ v.
-        use1 W (later (some (λ (r : Stepped). (‵ ftrue ⊛ ‵ (R.the-row .own r (v ∷ []))) ⊛ raw (ensured 𝓤 H A advance.ended (advance.clauses 𝓤 H A at-mem run) tt (h, (n, tt)) tt r)))) (id⊢ 𝓤 _) $ await ! tt $ pick ! (λ r.
+        use1 W (later (some (λ (r : Stepped). (‵ ftrue ⊛ ‵ (R.the-row .own r (v ∷ []))) ⊛ raw (ensured 𝓤 H A advance.ended (advance.clauses 𝓤 H A at-mem run) tt (passed h n) tt r)))) (id⊢ 𝓤 _) $ await ! tt $ pick ! (λ r.
         split ! $ move ! (1 ∷ []) $ use1 W (raw (fact 𝓤 (r ≡ advanceOf h n)) ⊛ raw (fact 𝓤 (Valid (r .station)))) (advance-of 𝓤 H A at-mem run h n r) $ split ! $
         heard ! (r ≡ advanceOf h n) (λ e. heard ! (Valid (r .station)) (λ kept. split ! $ drop ! $
         peeks ! R.the-row (Is R.the-row) (shows 𝓤 H A R.the-row) r (v ∷ []) (λ is′.
-        -- [what an Stepped owns; the station's cell; the open borrow; obs; auth; true; n's; _4; …; _3; …; _2; …; _1; …; room for _0; …]
+        -- [what a Stepped owns; the station's cell; the open borrow; obs; auth; true; n's; _4; …; _3; …; _2; …; _1; …; room for _0; …]
         land ! (from ! (stop !)) (init ! 9 refl (LL.lawful R.the-type R′.the-laws 𝓤 H A W .typed r _ is′ .0)) $
         rewrite ! 9 (λ (u : Val). ‵ (fat fullShare R′.mir l₃ 0 u)) (ap only (LL.tells R.the-type R′.the-laws r _ is′)) refl $
         assigns ! (of-opd ! (load ! (from ! (fld ! refl (stop !))) (look-in ! 9 (sub ! 1 refl (whole !))))) (from ! (hop ! (look ! 13 refl) (stop !)))

@@ -25,7 +25,7 @@ use denote.Laws.{Is, shows}
 use denote.Memory.{mem}
 use denote.Plain.{uint-vals, uint-tells, uint-makes}
 use denote.Builtin.{u32}
-use denote.Ref.{RefT, MutRef, ptr-vals, mut-tells}
+use denote.Ref.{MutRef, ptr-vals, mut-tells}
 use denote.Signature.{plain}
 use denote.Steps.{opens, closes, owned, peeks, heard, nothing}
 use denote.Enum.Laws as EL
@@ -51,6 +51,7 @@ use Rattle.station.proofs.Station.ask as ask
 use Rattle.station.proofs.Station.ask.Symbol as ask-def
 use Rattle.station.proofs.Station.ask.Symbol.{name as #ask}
 use Rattle.station.proofs.Station.ask.Met as ask-thm
+use Rattle.lent.proofs.Lending.{spell, mach, given, given-at, passed, passed-at}
 use Rattle.lent.proofs.ask.Key.{name as #lent}
 use Rattle.lent.proofs.ask as lent
 use Rattle.lent.proofs.ask.Statement as stated
@@ -59,62 +60,47 @@ use Rattle.lent.proofs.ask.Code as code
 abbrev stayed : Stays (lent.ended .signature .params) (lent.ended .kept)
 stayed = (stay-ref (0 ∷ []) tt (plain (λ _. T.the-row)), (stay-none (λ _. u32) yes, tt))
 
-abbrev spell : Station → List Val
-spell = LL.vals T.the-type T′.the-laws
-
 module _ {M : Type 1} (𝓤 : URA M) (H : Heap 𝓤) (A : Atoms 𝓤) (at-mem : Memory → SProp 𝓤) (run : Routine → Fun 𝓤) where
   -- the contract that the proof cites, and its clause alone
   abbrev Ask : Contract 𝓤
   Ask = tripleOf 𝓤 H A ask.signature (ask.spec 𝓤 H A at-mem run)
 
-  ask-of : (h : Station) (n : ℕ) (r : Permission) → ent 𝓤 (ensured 𝓤 H A ask.ended (ask.clauses 𝓤 H A at-mem run) tt (h, (n, tt)) tt r) (fact 𝓤 (r ≡ permissionOf h n))
-  ask-of h n r = exE 𝓤 _ (λ ws. snd∗ 𝓤 (sem 𝓤 H A (lasts ask.ended tt (h, (n, tt)) ws)) (fact 𝓤 (r ≡ permissionOf h n)))
+  ask-of : (h : Station) (n : ℕ) (r : Permission) → ent 𝓤 (ensured 𝓤 H A ask.ended (ask.clauses 𝓤 H A at-mem run) tt (passed h n) tt r) (fact 𝓤 (r ≡ permissionOf h n))
+  ask-of h n r = exE 𝓤 _ (λ ws. snd∗ 𝓤 (sem 𝓤 H A (lasts ask.ended tt (passed h n) ws)) (fact 𝓤 (r ≡ permissionOf h n)))
 
 module _ {M : Type 1} (𝓤 : URA M) (H : Heap 𝓤) (A : Atoms 𝓤) (W : Given 𝓤 H A) (at-mem : Memory → SProp 𝓤) (run : Routine → Fun 𝓤) (κ : Lft) (q : Share) (b o : ℕ) (γ : GName) (h : Station) (n : ℕ) (n-fits : n < 2 ^ 32) (ok : Valid h) where
-  abbrev Arg : Type 0
-  Arg = RefT Station × (ℕ × Unit {0})
-
-  abbrev x : Arg
-  x = (record { ptr = (b, o); name = γ; now = h }, (n, tt))
-
-  abbrev at : List Val × (List Val × Unit {0})
-  at = (vptr b o ∷ [], (vint w32 n ∷ [], tt))
-
-  abbrev mach : Val
-  mach = LL.val T.the-type T′.the-laws h
-
   abbrev Post : Val → SProp 𝓤
-  Post = walkOf 𝓤 H A lent.ended stayed (lent.clauses 𝓤 H A at-mem run) .post (((κ, tt), (q, tt), tt, x, at), tt)
+  Post = walkOf 𝓤 H A lent.ended stayed (lent.clauses 𝓤 H A at-mem run) .post (((κ, tt), (q, tt), tt, given b o γ h n, given-at b o n), tt)
 
   abbrev to-ask : Ask 𝓤 H A at-mem run .Ghost
-  to-ask = ((tt, tt, tt, (h, (n, tt)), (mach ∷ [], (vint w32 n ∷ [], tt))), tt)
+  to-ask = ((tt, tt, tt, passed h n, passed-at h n), tt)
 
-  goes-ask : ent 𝓤 (sem 𝓤 H A (T.the-row .own h (mach ∷ []))) (Ask 𝓤 H A at-mem run .pre to-ask)
+  goes-ask : ent 𝓤 (sem 𝓤 H A (T.the-row .own h (mach h ∷ []))) (Ask 𝓤 H A at-mem run .pre to-ask)
   goes-ask =
-      qed W (‵ (T.the-row .own h (mach ∷ [])) ∷ []) ∵ says ! ok $ nothing ! $ frame ! $
+      qed W (‵ (T.the-row .own h (mach h ∷ [])) ∷ []) ∵ says ! ok $ nothing ! $ frame ! $
       nothing ! $ owned ! u32 (Is u32) (uint-makes 𝓤 H A W w32) n _ (refl, n-fits) $ fjoin ! $ move ! (1 ∷ 0 ∷ []) $ fjoin ! $ done !
 
   exits : (r : Permission) (v : Val) → r ≡ permissionOf h n → ent 𝓤 (⋆ 𝓤 H A (‵ (fobs γ (T.the-row .coded .code h)) ∷ ‵ (fbor κ (Body (mem T.the-row) b o γ)) ∷ ‵ (flft κ q) ∷ ‵ (P.the-row .own r (v ∷ [])) ∷ [])) (Post v)
   exits r v e =
       qed W (‵ (fobs γ (T.the-row .coded .code h)) ∷ ‵ (fbor κ (Body (mem T.the-row) b o γ)) ∷ ‵ (flft κ q) ∷ ‵ (P.the-row .own r (v ∷ [])) ∷ []) ∵
-      suffices ! _ (ends-at 𝓤 H A lent.ended stayed (lent.clauses 𝓤 H A at-mem run) W (((κ, tt), (q, tt), tt, x, at), tt) v r (h, (tt, tt)) (tt, (tt, tt))) $ says ! (e, refl) $ nothing ! $ move ! (3 ∷ 0 ∷ []) $ join ! $
+      suffices ! _ (ends-at 𝓤 H A lent.ended stayed (lent.clauses 𝓤 H A at-mem run) W (((κ, tt), (q, tt), tt, given b o γ h n, given-at b o n), tt) v r (h, (tt, tt)) (tt, (tt, tt))) $ says ! (e, refl) $ nothing ! $ move ! (3 ∷ 0 ∷ []) $ join ! $
       frame ! $ feqI ! (List Val) (vptr b o ∷ []) (vptr b o ∷ []) refl $ fjoin3 ! $ nothing ! $ owned ! u32 (Is u32) (uint-makes 𝓤 H A W w32) n _ (refl, n-fits) $ fjoin ! $ move ! (1 ∷ 0 ∷ []) $ fjoin ! $ done !
 
   module _ (C : Calls 𝓤 H) (Λ : Loops 𝓤 H) (fm : FmC 𝓤 H (W .laws) C) (known : Triple 𝓤 (C #ask) (Ask 𝓤 H A at-mem run)) where
-    walk : ent 𝓤 (onEntry 𝓤 H A lent.signature (κ, tt) (q, tt) x at) (WpFn 𝓤 H C Λ code.function (vptr b o ∷ vint w32 n ∷ []) Post)
+    walk : ent 𝓤 (onEntry 𝓤 H A lent.signature (κ, tt) (q, tt) (given b o γ h n) (given-at b o n)) (WpFn 𝓤 H C Λ code.function (vptr b o ∷ vint w32 n ∷ []) Post)
     walk =
-        qed W ((‵ (flft κ q) ⊛ ‵ ftrue) ∷ ‵ (owns (MutRef (named 0) κ T.the-row ∷ u32 ∷ []) x at) ∷ []) ∵ enter ! C Λ code.function (vptr b o ∷ vint w32 n ∷ []) _ $
+        qed W ((‵ (flft κ q) ⊛ ‵ ftrue) ∷ ‵ (owns (MutRef (named 0) κ T.the-row ∷ u32 ∷ []) (given b o γ h n) (given-at b o n)) ∷ []) ∵ enter ! C Λ code.function (vptr b o ∷ vint w32 n ∷ []) _ $
         alloc1 ! (λ l₀. alloc1 ! (λ l₁. alloc1 ! (λ l₂. alloc1 ! (λ l₃. alloc0 ! $ params1 ! $ pass1 ! (init ! 4 refl (tt, tt)) $ pass1 ! (init ! 2 refl (tt, record { fits = n-fits })) $ pass0 ! $
         move ! (9 ∷ []) $ fsplit ! $ fsplit3 ! $ drop ! $ move ! (11 ∷ []) $ split ! $ move ! (2 ∷ 3 ∷ 0 ∷ []) $
         opens ! tt T.the-row {h = h} b o (λ vs. spelt ! T.the-row (Is T.the-row) (shows 𝓤 H A T.the-row) spell (LL.tells T.the-type T′.the-laws) fullShare h vs b o $
-        move ! (1 ∷ []) $ peeks ! T.the-row (Is T.the-row) (shows 𝓤 H A T.the-row) h (mach ∷ []) (λ is. move ! (1 ∷ 0 ∷ []) $
+        move ! (1 ∷ []) $ peeks ! T.the-row (Is T.the-row) (shows 𝓤 H A T.the-row) h (mach h ∷ []) (λ is. move ! (1 ∷ 0 ∷ []) $
         -- [the station's cell; what a Station owns; the open borrow; obs; auth; true; n's; _3; …; _2; …; _1; …; room for _0; …]
         assigns ! (of-opd ! (load ! (from ! (hop ! (look ! 11 refl) (stop !))) (look-raw ! 0 refl))) (from ! (stop !)) (init ! 7 refl (LL.lawful T.the-type T′.the-laws 𝓤 H A W .typed h _ is .0)) $
-        closes ! tt T.the-row h (mach ∷ []) b o $
-        owned ! T.the-row (Is T.the-row) (LL.makes T.the-type T′.the-plain 𝓤 H A) h (mach ∷ []) is $ use1 W (raw (Ask 𝓤 H A at-mem run .pre to-ask)) goes-ask $
+        closes ! tt T.the-row h (mach h ∷ []) b o $
+        owned ! T.the-row (Is T.the-row) (LL.makes T.the-type T′.the-plain 𝓤 H A) h (mach h ∷ []) is $ use1 W (raw (Ask 𝓤 H A at-mem run .pre to-ask)) goes-ask $
         -- [what `ask` asks; obs; the borrow; the token; true; n's; _3; …; _2; …; _1; …; room for _0; …]
         calls-at ! fm (Ask 𝓤 H A at-mem run) known to-ask (and-then ! (load ! (from ! (stop !)) (look ! 6 refl)) (and-then ! (load ! (from ! (stop !)) (look ! 8 refl)) (no-more !))) (λ v.
-        use1 W (later (some (λ (r : Permission). (‵ ftrue ⊛ ‵ (P.the-row .own r (v ∷ []))) ⊛ raw (ensured 𝓤 H A ask.ended (ask.clauses 𝓤 H A at-mem run) tt (h, (n, tt)) tt r)))) (id⊢ 𝓤 _) $ await ! tt $ pick ! (λ r.
+        use1 W (later (some (λ (r : Permission). (‵ ftrue ⊛ ‵ (P.the-row .own r (v ∷ []))) ⊛ raw (ensured 𝓤 H A ask.ended (ask.clauses 𝓤 H A at-mem run) tt (passed h n) tt r)))) (id⊢ 𝓤 _) $ await ! tt $ pick ! (λ r.
         split ! $ move ! (1 ∷ []) $ use1 W (raw (fact 𝓤 (r ≡ permissionOf h n))) (ask-of 𝓤 H A at-mem run h n r) $ heard ! (r ≡ permissionOf h n) (λ e. split ! $ drop ! $
         peeks ! P.the-row (Is P.the-row) (shows 𝓤 H A P.the-row) r (v ∷ []) (λ is′.
         land ! (from ! (stop !)) (init ! 12 refl (EL.lawful P.the-type P′.the-laws 𝓤 H A W tt .typed r _ is′ .0)) $
