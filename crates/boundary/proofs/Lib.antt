@@ -2,7 +2,6 @@ pub mod Coded
 pub mod FieldLengths
 pub mod IbssParts
 pub mod OneOutcome
-pub mod PartsBuilt
 pub mod Passes
 pub mod QuietsByIndex
 pub mod SignedAnswers

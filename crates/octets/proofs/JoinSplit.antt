@@ -5,7 +5,7 @@ use Prim.Native.Nat.{ℕ, zero, suc, _+_, _*_, _/_, _%_, _<_, _≤_, _^_}
 use native.Mathlib.Nat.{pow-succ'}
 use native.Mathlib.Numerals.{add-one}
 use native.Mathlib.Omega.{arith}
-use lib.ListN.{length, take, drop, List·getD-eq-default}
+use lib.ListN.{length, take, drop, replicate, List·getD-eq-default}
 use lib.Seq.{drop-cons, take-all}
 use Rattle.octets.specs.Numbers.{Octets, join, split, octet, octetsFrom, number}
 
@@ -48,12 +48,18 @@ pub number-bound : (k i : ℕ) (os : List ℕ) → Octets os → number k i os <
 number-bound k i os o = rw (length-from k i os) at (join-bound (octetsFrom k i os) (from-octets k i os o))
 
 -- past the end there is nothing
-pub number-past : (k i : ℕ) (os : List ℕ) → length os ≤ i → number k i os ≡ 0
-number-past zero i os h = refl
-number-past (suc k) i os h =
-    simp (List·getD-eq-default os 0 {n = i} h, number-past k (i + 1) os (omega arith))
+pub from-past : (k i : ℕ) (os : List ℕ) → length os ≤ i → octetsFrom k i os ≡ replicate k 0
+from-past zero i os h = refl
+from-past (suc k) i os h = simp (List·getD-eq-default os 0 {n = i} h, from-past k (i + 1) os (omega arith))
 
-take-from : (k i : ℕ) (os : List ℕ) → i + k ≤ length os → take k (drop i os) ≡ octetsFrom k i os
+nothing-joined : (k : ℕ) → join (replicate k 0) ≡ 0
+nothing-joined zero = refl
+nothing-joined (suc k) = omega (arith, nothing-joined k)
+
+pub number-past : (k i : ℕ) (os : List ℕ) → length os ≤ i → number k i os ≡ 0
+number-past k i os h = ap join (from-past k i os h) ∙ nothing-joined k
+
+pub take-from : (k i : ℕ) (os : List ℕ) → i + k ≤ length os → take k (drop i os) ≡ octetsFrom k i os
 take-from zero i os h = refl
 take-from (suc k) i os h =
     rw (drop-cons os i 0 (omega arith), ← (add-one i)) (ap (λ (r : List ℕ). octet i os ∷ r) (take-from k (i + 1) os (omega arith)))

@@ -1,0 +1,10 @@
+pub mod Heads
+pub mod Holding
+pub mod InPlace
+pub mod Layouts
+pub mod Lengths
+pub mod Outcomes
+pub mod Overlaid
+pub mod SlotBySlot
+pub mod Slots
+pub mod Sound
