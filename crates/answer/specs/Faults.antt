@@ -48,6 +48,10 @@ placedPast n (accepted a) = accepted a
 
 -- ---- where the value stands beside it
 
+abbrev pub verdictOf : {A : Type 0} → Placed A → Verdict
+verdictOf (refused x) = Verdict.Refused x
+verdictOf (accepted a) = Verdict.Accepted
+
 abbrev pub verdictOffset : Verdict → Offset
 verdictOffset Verdict.Accepted = Offset.Absent
 verdictOffset (Verdict.Refused x) = x .offset

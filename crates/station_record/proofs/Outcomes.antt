@@ -8,11 +8,16 @@ use lib.Dec.{ltb}
 use lib.ListN.{length}
 use Rattle.answer.proofs.Judged.{past, stop, done}
 use Rattle.answer.specs.Checks.{Outcome, refused, accepted, _⇒_, judged, andThen}
+use Rattle.answer.specs.Faults.{Placed}
 use Rattle.answer.specs.declared.Answer.{Answer}
+use Rattle.answer.specs.declared.Fault.{Fault}
 use Rattle.answer.specs.declared.Refusal.{Refusal}
+use Rattle.answer.specs.declared.Verdict.{Verdict}
 use Rattle.station.specs.Starting.{started, startMeans}
+use Rattle.station.specs.Taking.{taken}
 use Rattle.station.specs.declared.Station.{Station}
 use Rattle.station.specs.declared.starting.Started.{Started}
+use Rattle.station.specs.declared.taking.Taken.{Taken}
 use Rattle.station_record.specs.Calls.{startedIn}
 use Rattle.station_record.specs.Records.{size}
 
@@ -25,6 +30,18 @@ pub told-accepted : (o : Outcome Station) (x : Started) → x ≡ started o → 
 told-accepted (refused q) x e f =
     absurd (let other : Answer.Refused q ≡ Answer.Accepted = ap (λ (y : Started). y .answer) (sym e) ∙ f in let z : _≡_ {A = ℕ} 0 1 = cc in omega arith)
 told-accepted (accepted s) x e f = ap accepted (ap (λ (y : Started). y .station) (sym e))
+
+-- ---- the same of a frame
+
+pub judged-refused : (s : Station) (o : Placed Station) (x : Taken) (y : Fault) → x ≡ taken s o → x .verdict ≡ Verdict.Refused y → o ≡ refused y
+judged-refused s (refused q) x y e f = ap refused (let same : Verdict.Refused q ≡ Verdict.Refused y = ap (λ (t : Taken). t .verdict) (sym e) ∙ f in cc)
+judged-refused s (accepted next) x y e f =
+    absurd (let other : Verdict.Accepted ≡ Verdict.Refused y = ap (λ (t : Taken). t .verdict) (sym e) ∙ f in let z : _≡_ {A = ℕ} 0 1 = cc in omega arith)
+
+pub judged-accepted : (s : Station) (o : Placed Station) (x : Taken) → x ≡ taken s o → x .verdict ≡ Verdict.Accepted → o ≡ accepted (x .station)
+judged-accepted s (refused q) x e f =
+    absurd (let other : Verdict.Refused q ≡ Verdict.Accepted = ap (λ (t : Taken). t .verdict) (sym e) ∙ f in let z : _≡_ {A = ℕ} 0 1 = cc in omega arith)
+judged-accepted s (accepted next) x e f = ap accepted (ap (λ (t : Taken). t .station) (sym e))
 
 -- ---- a start into octets, by what the start means and by the room
 

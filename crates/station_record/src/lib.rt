@@ -8,15 +8,9 @@ mod stepping;
 pub use reading::read;
 pub use stepping::advance;
 ghost use mathlib.Core.Path.{_≡_};
-ghost use Rattle.answer.specs.Faults.{faultNowhere};
-ghost use Rattle.answer.specs.declared.Answer.{Answer};
-ghost use Rattle.answer.specs.declared.Verdict.{Verdict};
-ghost use Rattle.station.specs.Asking.{permissionOf};
-ghost use Rattle.station.specs.Starting.{startMeans};
-ghost use Rattle.station.specs.Taking.{takeOf};
-ghost use Rattle.station_record.specs.Calls.{byHeld, relaid, startedIn};
-ghost use Rattle.station_record.specs.Held.{heldIn};
-ghost use Rattle.station_record.specs.declared.Asked.{Asked};
+ghost use Rattle.answer.specs.Checks.{answerOf};
+ghost use Rattle.answer.specs.Faults.{verdictOf};
+ghost use Rattle.station_record.specs.Calls.{relaid, startedIn, takenIn, askedTold, askedIn};
 use answer::Answer;
 use answer::Fault;
 use answer::Refusal;
@@ -62,8 +56,8 @@ pub enum Asked {
 
 // A station at moment 0 that has heard nothing, into octets that need hold nothing yet.
 pub fn start(own: [u8; 6], ap: [u8; 6], interval: u16, channel: u8, memory: &mut [u8]) -> Answer
-    ensures { λ r. ⌜ r ≡ byHeld Answer.Refused (λ _. Answer.Accepted) (startedIn own ap interval channel (now (memory .entry))) ⌝ }
-    ensures { λ _. ⌜ now (memory .exit) ≡ relaid (λ s. s) (now (memory .entry)) (startedIn own ap interval channel (now (memory .entry))) ⌝ }
+    ensures { λ r. ⌜ r ≡ answerOf (startedIn own ap interval channel (now (memory .entry))) ⌝ }
+    ensures { λ _. ⌜ now (memory .exit) ≡ relaid (now (memory .entry)) (startedIn own ap interval channel (now (memory .entry))) ⌝ }
 {
     let started = Station::start(own, ap, interval, channel);
     let answer = started.answer;
@@ -80,10 +74,10 @@ pub fn start(own: [u8; 6], ap: [u8; 6], interval: u16, channel: u8, memory: &mut
     }
 }
 
-// A frame. A frame that is refused leaves every octet.
+// A frame. One that is refused leaves every octet.
 pub fn take(memory: &mut [u8], frame: &[u8]) -> Verdict
-    ensures { λ r. ⌜ r ≡ byHeld (λ e. Verdict.Refused (faultNowhere e)) (λ s. takeOf s (now (frame .entry)) .verdict) (heldIn (now (memory .entry))) ⌝ }
-    ensures { λ _. ⌜ now (memory .exit) ≡ relaid (λ s. takeOf s (now (frame .entry)) .station) (now (memory .entry)) (heldIn (now (memory .entry))) ⌝ }
+    ensures { λ r. ⌜ r ≡ verdictOf (takenIn (now (frame .entry)) (now (memory .entry))) ⌝ }
+    ensures { λ _. ⌜ now (memory .exit) ≡ relaid (now (memory .entry)) (takenIn (now (frame .entry)) (now (memory .entry))) ⌝ }
 {
     let held = reading::read(memory);
     let answer = held.answer;
@@ -94,15 +88,20 @@ pub fn take(memory: &mut [u8], frame: &[u8]) -> Verdict
             let taken = station.take(frame);
             let verdict = taken.verdict;
             let next = taken.station;
-            laying::lay(next, memory);
-            verdict
+            match verdict {
+                Verdict::Refused(_) => verdict,
+                Verdict::Accepted => {
+                    laying::lay(next, memory);
+                    Verdict::Accepted
+                }
+            }
         }
     }
 }
 
 // A question: nothing of the record changes by it.
 pub fn ask(memory: &[u8], units: u32) -> Asked
-    ensures { λ r. ⌜ r ≡ byHeld Asked.Refused (λ s. Asked.Is (permissionOf s units)) (heldIn (now (memory .entry))) ⌝ }
+    ensures { λ r. ⌜ askedTold r ≡ askedIn units (now (memory .entry)) ⌝ }
 {
     let held = reading::read(memory);
     let answer = held.answer;

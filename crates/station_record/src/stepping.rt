@@ -3,14 +3,12 @@ ghost use mathlib.Core.List.{_∷_, []};
 ghost use mathlib.Core.Path.{_≡_};
 ghost use Prim.Native.Nat.{_≤_};
 ghost use lib.ListN.{length};
-ghost use Rattle.answer.specs.declared.Answer.{Answer};
+ghost use Rattle.answer.specs.Checks.{answerOf};
 ghost use Rattle.beacon.specs.declared.MaybePower.{MaybePower};
 ghost use Rattle.octets.specs.Numbers.{split};
 ghost use Rattle.octets.specs.Writing.{over};
 ghost use Rattle.pending.specs.declared.Pending.{Pending};
-ghost use Rattle.station.specs.Clock.{advanceOf};
-ghost use Rattle.station_record.specs.Calls.{byHeld, relaid};
-ghost use Rattle.station_record.specs.Held.{heldIn};
+ghost use Rattle.station_record.specs.Calls.{relaid, advancedIn};
 ghost use Rattle.station_record.specs.Records.{size, stateOctets};
 use crate::judging;
 use crate::laying;
@@ -43,8 +41,8 @@ fn switch(channel: u8, memory: &mut [u8])
 
 // An advance. Where it is refused every octet stays.
 pub fn advance(memory: &mut [u8], units: u32) -> Answer
-    ensures { λ r. ⌜ r ≡ byHeld Answer.Refused (λ s. advanceOf s units .answer) (heldIn (now (memory .entry))) ⌝ }
-    ensures { λ _. ⌜ now (memory .exit) ≡ relaid (λ s. advanceOf s units .station) (now (memory .entry)) (heldIn (now (memory .entry))) ⌝ }
+    ensures { λ r. ⌜ r ≡ answerOf (advancedIn units (now (memory .entry))) ⌝ }
+    ensures { λ _. ⌜ now (memory .exit) ≡ relaid (now (memory .entry)) (advancedIn units (now (memory .entry))) ⌝ }
 {
     if judging::is_broken(memory) {
         return Answer::Refused(Refusal::Impossible);

@@ -3,13 +3,10 @@
 use mathlib.Core.Path.{_≡_, sym, ap, _∙_}
 use borrow.Author.Needs.{needs}
 use denote.Ref.{now}
-use Rattle.answer.specs.Checks.{Outcome}
+use Rattle.answer.specs.Checks.{Outcome, accepted, andThen}
 use Rattle.station.specs.Asking.{permissionOf}
 use Rattle.station.specs.declared.Station.{Station}
-use Rattle.station.specs.declared.asking.Permission.{Permission}
-use Rattle.station_record.specs.Calls.{byHeld}
 use Rattle.station_record.specs.Held.{heldIn}
-use Rattle.station_record.specs.declared.Asked.{Asked}
 use Rattle.station_record.proofs.Outcomes.{told-refused, told-accepted}
 use Rattle.station_record.proofs.ask.Statement.{statement}
 use Rattle.station_record.proofs.ask.Tie as tie
@@ -21,16 +18,14 @@ returns : tie.Need-returns
 returns c =
     let k = c .before .before .before .before in
     let a = k .before .before .args in
-    ap (byHeld Asked.Refused (λ s. Asked.Is (permissionOf s (a .units))))
-    (sym (told-refused (heldIn (now (a .memory))) (k .read .result) _ (k .read .ensures .0) (c .before .answer .given .1)))
+    sym (ap (λ (o : Outcome Station). andThen o (λ s. accepted (permissionOf s (a .units)))) (told-refused (heldIn (now (a .memory))) (k .read .result) _ (k .read .ensures .0) (c .before .answer .given .1)))
 
 returns-2 : tie.Need-returns-2
 returns-2 c =
     let k = c .before .before .before .before in
     let a = k .before .before .args in
-    ap Asked.Is (c .ask .ensures)
-    ∙ ap (byHeld Asked.Refused (λ s. Asked.Is (permissionOf s (a .units))))
-    (sym (told-accepted (heldIn (now (a .memory))) (k .read .result) (k .read .ensures .0) (c .before .enum-told .given .1)))
+    ap accepted (c .ask .ensures)
+    ∙ sym (ap (λ (o : Outcome Station). andThen o (λ s. accepted (permissionOf s (a .units)))) (told-accepted (heldIn (now (a .memory))) (k .read .result) (k .read .ensures .0) (c .before .enum-told .given .1)))
 
 pub ask-spec : {M : Type 1} → statement M
 ask-spec =

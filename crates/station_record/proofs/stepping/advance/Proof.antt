@@ -8,23 +8,21 @@ use native.Mathlib.Omega.{arith}
 use borrow.Author.Needs.{needs}
 use denote.Ref.{now}
 use lib.ListN.{length}
+use Rattle.answer.specs.Checks.{Outcome, refused, andThen, answerOf}
 use Rattle.answer.specs.declared.Answer.{Answer}
 use Rattle.answer.specs.declared.Refusal.{Refusal}
 use Rattle.beacon.specs.declared.MaybePower.{MaybePower}
 use Rattle.octets.specs.Numbers.{Octets, split}
-use Rattle.octets.specs.Writing.{over, filled}
+use Rattle.octets.specs.Writing.{over}
 use Rattle.pending.specs.declared.Pending.{Pending}
-use Rattle.station.proofs.StaysValid.{advanced}
-use Rattle.station.specs.Clock.{clockAdvance, stepped, advancedTo, advanceOf}
+use Rattle.station.specs.Clock.{clockAdvance, advancedTo, advanceMeans}
 use Rattle.station.specs.declared.Station.{Station}
 use Rattle.station.specs.declared.clock.Advanced.{Advanced}
-use Rattle.station.specs.declared.clock.Stepped.{Stepped}
-use Rattle.station_record.specs.Calls.{byHeld, relaid}
-use Rattle.station_record.specs.Held.{stationAt, noRecord, heldIn}
-use Rattle.station_record.specs.Records.{size, stateOctets, recordOf}
-use Rattle.station_record.proofs.Holding.{held-none, held-some, on-none, on-some}
+use Rattle.station_record.specs.Calls.{relaid, advancedIn}
+use Rattle.station_record.specs.Held.{stationAt, noRecord}
+use Rattle.station_record.specs.Records.{size, stateOctets}
+use Rattle.station_record.proofs.Holding.{held-none, held-some, comes-to}
 use Rattle.station_record.proofs.InPlace.{told-in-place, switched-in-place}
-use Rattle.station_record.proofs.Layouts.{held-valid, held-filled}
 use Rattle.station_record.proofs.Overlaid.{over-length}
 use Rattle.station_record.proofs.Sound.{sound}
 use Rattle.station_record.proofs.stepping.advance.Statement.{statement}
@@ -34,8 +32,8 @@ returns : tie.Need-returns
 returns c =
     let a = c .before .before .before .before .args in
     let os = now (a .memory) in
-    on-none Answer.Refused (λ s. advanceOf s (a .units) .answer) (λ s. advanceOf s (a .units) .station) os (heldIn os) Refusal.Impossible
-    (held-none os (sym (c .before .is-broken .ensures) ∙ c .if1 .taken))
+    comes-to answerOf os (advancedIn (a .units) os) (refused Refusal.Impossible)
+    (ap (λ (o : Outcome Station). andThen o (λ s. advanceMeans s (a .units))) (held-none os (sym (c .before .is-broken .ensures) ∙ c .if1 .taken))) refl refl
 
 -- ---- the octets hold a station, whose clock is judged
 
@@ -54,19 +52,20 @@ each c i = omega (arith, c .before .before .before .before .before .before .befo
 roomy : (c : tie.After-advance-clock) → size ≤ length (octets c)
 roomy c = sound (octets c) (holds c) .roomy
 
--- what that makes of the station, of which the record is left
-does : (c : tie.After-advance-clock) (k : Advanced) {exit : List ℕ} (x : Stepped) → let s = stationAt (octets c) in c .advance-clock .result ≡ k
-    → stepped s (advancedTo s k) ≡ x → exit ≡ filled (recordOf (x .station)) (octets c)
-    → let n = begun c .args .units in
-    (x .answer ≡ byHeld Answer.Refused (λ s. advanceOf s n .answer) (heldIn (octets c))) × (exit ≡ relaid (λ s. advanceOf s n .station) (octets c) (heldIn (octets c)))
-does c k x told e left =
+-- what that makes of the station is what the call comes to
+means : (s : Station) (n : ℕ) (k : Advanced) → clockAdvance (s .clock) (s .pending) n ≡ k → advanceMeans s n ≡ advancedTo s k
+unfolding advanceMeans
+means s n k e = ap (advancedTo s) e
+
+does : (c : tie.After-advance-clock) (k : Advanced) {answer : Answer} {exit : List ℕ} → c .advance-clock .result ≡ k
+    → let o = advancedTo (stationAt (octets c)) k in answer ≡ answerOf o → exit ≡ relaid (octets c) o
+    → let p = advancedIn (begun c .args .units) (octets c) in (answer ≡ answerOf p) × (exit ≡ relaid (octets c) p)
+does c k told says left =
     let os = octets c in
-    let s = stationAt os in
     let n = begun c .args .units in
     let judged = ap₂ (λ (t : ℕ) (p : Pending). clockAdvance t p n) (sym (c .before .before .before .number32 .ensures)) (sym (c .before .pending-in .ensures)) ∙ sym (c .advance-clock .ensures) ∙ told in
-    let same : x ≡ advanceOf s n = sym e ∙ advanced s n k judged (held-valid os (holds c)) .0 in
-    on-some Answer.Refused (λ s. advanceOf s n .answer) (λ s. advanceOf s n .station) os (heldIn os) s (held-some os (holds c))
-    (ap (λ (y : Stepped). y .answer) same) (left ∙ ap (λ (y : Stepped). filled (recordOf (y .station)) os) same)
+    comes-to answerOf os (advancedIn n os) _
+    (ap (λ (o : Outcome Station). andThen o (λ s. advanceMeans s n)) (held-some os (holds c)) ∙ means (stationAt os) n k judged) says left
 
 tell-requires : tie.Need-tell-requires
 tell-requires c κs = roomy (c .before .before .before .before)
@@ -81,16 +80,14 @@ switch-requires c κs =
     omega (arith, roomy k, ap length (t .tell2 .ensures), over-length (octets k) 4 (split 4 (t .before .before .before .moment2 .given .0 .0)) (omega (arith, roomy k)))
 
 returns-2 : tie.Need-returns-2
-returns-2 c =
-    let k = c .before .before in
-    does k Advanced.Refused (record { answer = Answer.Refused Refusal.PastClock; station = stationAt (octets k) }) (c .enum-told .given .1) refl (sym (held-filled (octets k) (each k) (holds k)))
+returns-2 c = does (c .before .before) Advanced.Refused (c .enum-told .given .1) refl refl
 
 returns-3 : tie.Need-returns-3
 returns-3 c =
     let t = c .before .before in
     let m = t .before .before .before in
     let k = m .before .before in
-    does k (Advanced.Goes (m .moment .given .0 .0)) _ (m .moment .given .1) refl (t .tell .ensures ∙ told-in-place (octets k) (each k) (holds k) (m .moment .given .0 .0))
+    does k (Advanced.Goes (m .moment .given .0 .0)) (m .moment .given .1) refl (t .tell .ensures ∙ told-in-place (octets k) (each k) (holds k) (m .moment .given .0 .0))
 
 returns-4 : tie.Need-returns-4
 returns-4 c =
@@ -100,7 +97,7 @@ returns-4 c =
     let k = m .before .before in
     let moment = m .moment2 .given .0 .0 in
     let channel = m .moment2 .given .0 .1 .0 in
-    does k (Advanced.Switches moment channel) _ (m .moment2 .given .1) refl
+    does k (Advanced.Switches moment channel) (m .moment2 .given .1) refl
     (w .switch .ensures
     ∙ ap (λ (b : List ℕ). over (over b 1 (channel ∷ [])) 20 (stateOctets MaybePower.Absent Pending.Nothing 0 0)) (t .tell2 .ensures)
     ∙ switched-in-place (octets k) (each k) (holds k) moment channel)
