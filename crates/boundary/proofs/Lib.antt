@@ -1,6 +1,7 @@
 pub mod Coded
 pub mod FieldLengths
 pub mod IbssParts
+pub mod OnStations
 pub mod OneOutcome
 pub mod Passes
 pub mod QuietsByIndex
