@@ -1,6 +1,6 @@
 -- Calls made in either way meet the meanings of the calls by value (02, Eight: "both give the same station and answer"), and octets in which a station was started hold one after any
 -- calls. Assumes nothing.
-use mathlib.Core.List.{List, [], _∷_, _++_}
+use mathlib.Core.List.{List, [], _∷_}
 use mathlib.Core.Path.{_≡_, refl, sym, ap, ap₂, _∙_, subst}
 use Prim.Native.Nat.{ℕ, _≤_}
 use native.Mathlib.Omega.{arith}

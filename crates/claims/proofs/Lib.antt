@@ -51,6 +51,7 @@ pub mod OneOutcomeLeaves
 pub mod OneOutcomeLent
 pub mod OneOutcomeMembers
 pub mod OneOutcomeOwners
+pub mod OneOutcomeRecords
 pub mod OneOutcomeTables
 pub mod OneOutcomeWalk
 pub mod OneRecord

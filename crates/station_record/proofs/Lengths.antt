@@ -1,8 +1,7 @@
 -- How many octets the parts of a record have. Assumes nothing.
 use mathlib.Core.List.{List}
-use mathlib.Core.Path.{_≡_, refl, _∙_}
+use mathlib.Core.Path.{_≡_, refl}
 use Prim.Native.Nat.{ℕ}
-use native.Mathlib.Omega.{arith}
 use lib.ListN.{length, length-append}
 use Rattle.beacon.specs.declared.MaybePower.{MaybePower}
 use Rattle.pending.specs.declared.Pending.{Pending}

@@ -1,10 +1,10 @@
 -- Schedules one after the other, each read or laid where those before it end. Assumes nothing.
 use mathlib.Core.List.{List, [], _∷_, _++_, append-assoc}
-use mathlib.Core.Path.{_≡_, refl, sym, ap, ap₂, _∙_}
+use mathlib.Core.Path.{_≡_, refl, sym, ap, _∙_}
 use Prim.Native.Nat.{ℕ, zero, suc, _+_, _*_, _-_, _<_}
 use native.Mathlib.Numerals.{add-one}
 use native.Mathlib.Omega.{arith}
-use lib.ListN.{length, take, getD, replicate, set, length-append}
+use lib.ListN.{length, take, getD, set}
 use lib.Seq.{take-suc}
 use Rattle.beacon.proofs.Slots.{next-slot}
 use Rattle.beacon.specs.Beacons.{quietLimit}

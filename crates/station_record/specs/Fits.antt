@@ -1,7 +1,7 @@
 -- A station whose fields fit the types that the code has for them, as every station in a program does.
 use mathlib.Core.List.{List, [], _∷_}
 use mathlib.Core.Path.{_≡_}
-use Prim.Native.Nat.{ℕ, _<_, _^_}
+use Prim.Native.Nat.{_<_, _^_}
 use lib.ListN.{length}
 use Rattle.beacon.specs.declared.MaybePower.{MaybePower}
 use Rattle.octets.specs.Numbers.{Octets}

@@ -1,6 +1,6 @@
 -- `ask` meets its contract: the refusal of octets that hold no station, or what the station answers.
 -- Assumes nothing.
-use mathlib.Core.Path.{_≡_, sym, ap, _∙_}
+use mathlib.Core.Path.{sym, ap, _∙_}
 use borrow.Author.Needs.{needs}
 use denote.Ref.{now}
 use Rattle.answer.specs.Checks.{Outcome, accepted, andThen}

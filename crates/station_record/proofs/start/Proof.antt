@@ -1,7 +1,6 @@
 -- `start` meets its contract: a start that is refused, octets that are too few, or the fresh station's record.
 -- Assumes nothing.
-use mathlib.Core.List.{List}
-use mathlib.Core.Path.{_≡_, refl, ap, _∙_}
+use mathlib.Core.Path.{_≡_, refl, ap}
 use borrow.Author.Needs.{needs}
 use denote.Ref.{now}
 use Rattle.answer.specs.Checks.{Outcome, accepted, answerOf}

@@ -1,7 +1,7 @@
 -- `oneiralth_station_start` meets its contract: the answer of what it calls, as a number.
 -- Assumes nothing.
 use mathlib.Core.List.{List}
-use mathlib.Core.Path.{_≡_, ap₂, subst}
+use mathlib.Core.Path.{ap₂, subst}
 use Prim.Native.Nat.{ℕ}
 use borrow.Author.Needs.{needs}
 use denote.Ref.{now}

@@ -1,8 +1,6 @@
 -- `address_at` meets its contract, octet by octet.
-use mathlib.Core.List.{[], _∷_}
 use mathlib.Core.Path.{sym}
 use native.Mathlib.Nat.{add-assoc}
-use native.Mathlib.Omega.{arith}
 use borrow.Author.Needs.{needs}
 use Rattle.octets.proofs.JoinSplit.{from-past}
 use Rattle.octets.proofs.numbers.address_at.Statement.{statement}

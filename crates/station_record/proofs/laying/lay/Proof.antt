@@ -6,12 +6,11 @@ use Prim.Native.Nat.{ℕ, _≤_}
 use native.Mathlib.Omega.{arith}
 use borrow.Author.Needs.{needs}
 use denote.Ref.{now}
-use lib.ListN.{length, take}
+use lib.ListN.{length}
 use Rattle.octets.proofs.PartsBuilt.{Built, none-built, part-built}
 use Rattle.octets.proofs.Storing.{same-room, filled-front}
 use Rattle.octets.specs.Writing.{filled}
 use Rattle.station.specs.Stations.{inUse}
-use Rattle.station.specs.declared.Station.{Station}
 use Rattle.station_record.specs.Records.{size, headLength, slotsOf, headOf}
 use Rattle.station_record.proofs.Lengths.{settings-length, state-length}
 use Rattle.station_record.proofs.Overlaid.{filled-again}

@@ -1,18 +1,16 @@
 -- `lay_slots` meets its contract. The invariant: after the octets in front the first i schedules are laid.
 -- Assumes nothing.
-use mathlib.Core.List.{List, [], _++_}
-use mathlib.Core.Path.{_≡_, refl, sym, ap, _∙_, subst₂}
+use mathlib.Core.List.{_++_}
+use mathlib.Core.Path.{_≡_, refl, ap, _∙_, subst₂}
 use Prim.Native.Nat.{ℕ, _+_, _*_, _-_, _≤_}
 use native.Mathlib.Omega.{arith}
 use borrow.Author.Needs.{needs}
 use denote.Ref.{now}
-use lib.ListN.{length, take, getD}
+use lib.ListN.{length, take}
 use Rattle.octets.proofs.PartsBuilt.{Built, part-built}
 use Rattle.octets.proofs.Storing.{same-room}
 use Rattle.octets.specs.Writing.{filled}
-use Rattle.schedule.specs.declared.Schedule.{Schedule}
-use Rattle.station.specs.Stations.{noSchedule}
-use Rattle.station_record.specs.Records.{headLength, slotLength, slotOctets, slotsOf}
+use Rattle.station_record.specs.Records.{headLength, slotLength, slotsOf}
 use Rattle.station_record.proofs.Overlaid.{front-built}
 use Rattle.station_record.proofs.SlotBySlot.{next-laid}
 use Rattle.station_record.proofs.laying.lay_slots.Statement.{statement}

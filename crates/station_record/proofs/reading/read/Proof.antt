@@ -1,21 +1,19 @@
 -- `read` meets its contract: nothing is held, or each field is read where it stands.
 -- Assumes nothing.
-use mathlib.Core.Bool.{true, false}
+use mathlib.Core.Bool.{false}
 use mathlib.Core.List.{List}
-use mathlib.Core.Path.{_≡_, sym, ap, ap₂, _∙_, subst}
+use mathlib.Core.Path.{_≡_, sym, ap, _∙_, subst}
 use Prim.Native.Nat.{ℕ}
 use native.Mathlib.Omega.{arith}
 use borrow.Author.Needs.{needs}
 use denote.Ref.{now}
 use Rattle.answer.specs.declared.Answer.{Answer}
 use Rattle.answer.specs.declared.Refusal.{Refusal}
-use Rattle.beacon.specs.Beacons.{quietLimit}
-use Rattle.octets.specs.Numbers.{octet}
 use Rattle.station.specs.Starting.{started}
 use Rattle.station.specs.Stations.{slotted}
 use Rattle.station.specs.Validity.{Valid}
 use Rattle.station.specs.declared.Station.{Station}
-use Rattle.station_record.specs.Held.{schedulesFrom, stationAt, noRecord}
+use Rattle.station_record.specs.Held.{schedulesFrom, noRecord}
 use Rattle.station_record.specs.Records.{headLength}
 use Rattle.station_record.proofs.Holding.{held-none, held-some}
 use Rattle.station_record.proofs.Layouts.{held-valid, same-station}

@@ -1,6 +1,5 @@
 -- `tell` meets its contract: the clock's octets are put over those that stand there.
 -- Assumes nothing.
-use mathlib.Core.Path.{_≡_}
 use native.Mathlib.Omega.{arith}
 use borrow.Author.Needs.{needs}
 use denote.Ref.{now}
