@@ -91,7 +91,7 @@ static int64_t on_time_unit(void) {
     return oneiralth_station_ask(station, sizeof station, 1);
 }
 
-/* A beacon with one Quiet element: 10 TU, from 20 after the next TBTT on. */
+/* A beacon with one Quiet element: 10 TU, from 20 after the next TBTT on. A probe holds its interrupt off while the station takes a frame. */
 static int64_t take_quiet_beacon(void) {
     uint8_t body[20] = {0, 0, 0, 0, 0, 0, 0, 0, 100, 0, 0, 0};
     uint8_t frame[64];

@@ -3,7 +3,7 @@
  *
  * Nothing is kept between calls; a station lives in octets that its caller keeps. Every function takes every input, always ends, and gives back a number
  * of 0 or more, or minus a refusal's number (-1 to -22, the scope document's table; -23 is given by no function yet). A refused call leaves every octet of
- * the buffer as it was; an accepted one leaves every octet past those that it says it wrote as it was.
+ * the buffer as it was; an accepted one leaves every octet past those that it says it wrote as it was, and of a station every octet after its record.
  *
  * An octet range is a pointer and a length; the length may be 0, the pointer is then any that is not null. What is lent for writing must not overlap
  * what is read. */
@@ -235,7 +235,7 @@ int64_t oneiralth_reply_to_measurement_request(const uint8_t *frame, size_t fram
                                                uint32_t t5, uint32_t t6, uint32_t t7, uint8_t *out, size_t out_length);
 
 /* ---- a station, in ONEIRALTH_STATION_SIZE octets that its caller keeps, and changed there. Octets that hold none, since none was started in them, they were
- * spoilt or they are too few, give ONEIRALTH_IMPOSSIBLE, and stay as they are. */
+ * spoilt or they are too few, give ONEIRALTH_IMPOSSIBLE, and stay as they are. No call may interrupt another on the same station. */
 
 /* ONEIRALTH_STATION_SIZE as the library has it. */
 int64_t oneiralth_station_size(void);
@@ -247,7 +247,7 @@ int64_t oneiralth_station_take(uint8_t *station, size_t station_length, const ui
 int64_t oneiralth_station_advance(uint8_t *station, size_t station_length, uint32_t units);
 /* Asks whether the station may send for so many TU from now on: ONEIRALTH_ASK_GRANTED or what stands against it. */
 int64_t oneiralth_station_ask(const uint8_t *station, size_t station_length, uint32_t units);
-/* As the functions of these names above, with the station's own address, AP and clock. */
+/* As oneiralth_reply_to_tpc_request and oneiralth_reply_to_measurement_request above, with the station's own address, AP and clock. */
 int64_t oneiralth_station_reply_to_tpc_request(const uint8_t *station, size_t station_length, const uint8_t *frame, size_t frame_length, uint8_t power,
                                                uint8_t margin, uint8_t *out, size_t out_length);
 int64_t oneiralth_station_reply_to_measurement_request(const uint8_t *station, size_t station_length, const uint8_t *frame, size_t frame_length,

@@ -1,5 +1,4 @@
-// A station in the caller's own memory (document 02, Eight), thin over `station_record`. A range that holds no station is refused with 16, so that
-// nothing is asked of the caller.
+// A station in the caller's own memory (document 02, Eight), thin over `station_record`. A range that holds no station is refused with 16.
 ghost use mathlib.Core.List.{_∷_, []};
 ghost use mathlib.Core.Path.{_≡_};
 ghost use Rattle.answer.specs.Checks.{accepted, andThen};

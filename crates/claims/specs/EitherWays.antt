@@ -63,9 +63,9 @@ abbrev pub StationTakes : Station → List ℕ → Verdict → Station → Type 
 StationTakes before f v r = Called 1 Take.Kinds.ps Take.Kinds.r Take.Reads.Post (λ κs a x. (a .0 ≡ before) × (now (a .1 .0) ≡ f) × (x .verdict ≡ v) × (x .station ≡ r))
 
 module _ {M : Type 1} (𝓤 : URA M) (H : Heap 𝓤) (A : Atoms 𝓤) (at-mem : Memory → SProp 𝓤) (run : Routine → Fun 𝓤) where
-  -- a promise about memory was kept: whatever fact follows from it holds
+  -- a promise about memory was kept: whatever fact follows from it holds. A fact of the program logic says that there is a proof and not which, and so does this
   abbrev pub WasKept : SProp 𝓤 → Type 1
-  WasKept promise = (P : Type 0) → ent 𝓤 promise (fact 𝓤 P) → P
+  WasKept promise = (P : Type 0) → ent 𝓤 promise (fact 𝓤 P) → ∥ P ∥₁
 
   -- `lent::advance` was called on a station that was lent, gave this answer and left this station there
   abbrev pub LentAdvances : Station → ℕ → Answer → Station → Type 1

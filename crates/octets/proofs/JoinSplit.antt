@@ -1,12 +1,12 @@
 -- Numbers and their octets: joined and split undo each other at every width, by one induction each. Assumes nothing.
-use mathlib.Core.Path.{_≡_, refl, sym, ap, _∙_}
-use mathlib.Core.List.{List, [], _∷_}
+use mathlib.Core.Path.{_≡_, refl, sym, ap, ap₂, _∙_}
+use mathlib.Core.List.{List, [], _∷_, _++_}
 use Prim.Native.Nat.{ℕ, zero, suc, _+_, _*_, _/_, _%_, _<_, _≤_, _^_}
-use native.Mathlib.Nat.{pow-succ'}
+use native.Mathlib.Nat.{pow-succ', zero-add, add-zero, suc-add}
 use native.Mathlib.Numerals.{add-one}
 use native.Mathlib.Omega.{arith}
 use lib.ListN.{length, take, drop, replicate, List·getD-eq-default}
-use lib.Seq.{drop-cons, take-all}
+use lib.Seq.{drop-cons, take-all, getD-append-add}
 use Rattle.octets.specs.Numbers.{Octets, join, split, octet, octetsFrom, number}
 
 pub join-split : (k x : ℕ) → x < 256 ^ k → join (split k x) ≡ x
@@ -38,6 +38,23 @@ from-octets (suc k) i os o (suc j) = from-octets k (i + 1) os o j
 pub length-from : (k i : ℕ) (os : List ℕ) → length (octetsFrom k i os) ≡ k
 length-from zero i os = refl
 length-from (suc k) i os = ap suc (length-from k (i + 1) os)
+
+-- two runs one after the other are one run
+pub from-add : (j k i : ℕ) (os : List ℕ) → octetsFrom (j + k) i os ≡ octetsFrom j i os ++ octetsFrom k (i + j) os
+from-add zero k i os = ap₂ (λ (n p : ℕ). octetsFrom n p os) (zero-add k) (sym (add-zero i))
+from-add (suc j) k i os =
+    let later : i + 1 + j ≡ i + suc j = omega arith in
+    ap (λ (n : ℕ). octetsFrom n i os) (suc-add j k)
+    ∙ ap (λ (r : List ℕ). octet i os ∷ r) (from-add j k (i + 1) os ∙ ap (λ (p : ℕ). octetsFrom j (i + 1) os ++ octetsFrom k p os) later)
+
+-- past what stands in front, they are those of the rest
+pub from-after : (k i : ℕ) (xs ys : List ℕ) → octetsFrom k (length xs + i) (xs ++ ys) ≡ octetsFrom k i ys
+from-after zero i xs ys = refl
+from-after (suc k) i xs ys =
+    let next : length xs + i + 1 ≡ length xs + (i + 1) = omega arith in
+    ap₂ (λ (o : ℕ) (r : List ℕ). o ∷ r)
+    (getD-append-add xs ys i 0)
+    (ap (λ (p : ℕ). octetsFrom k p (xs ++ ys)) next ∙ from-after k (i + 1) xs ys)
 
 -- the octets of a number that was read are those that were read
 pub split-number : (k i : ℕ) (os : List ℕ) → Octets os → split k (number k i os) ≡ octetsFrom k i os

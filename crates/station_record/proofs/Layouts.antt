@@ -1,7 +1,7 @@
 -- A record and its station (02, Eight: "both give the same station and answer"): octets that are not refused are the record of the station that is
 -- read from them, which is valid, and a valid station is read from its record. Assumes nothing.
 use mathlib.Core.Bool.{true, false}
-use mathlib.Core.List.{List, _++_, append-assoc}
+use mathlib.Core.List.{List, [], _∷_, _++_, append-assoc}
 use mathlib.Core.Logic.{⊎-elim}
 use mathlib.Core.Path.{_≡_, sym, ap, ap₂, _∙_, subst}
 use Prim.Native.Nat.{ℕ, _+_, _-_, _*_, _≤_}
@@ -9,27 +9,28 @@ use native.Mathlib.Omega.{arith}
 use borrow.Author.Tests.{ltb-false, le-ltb, eqb-false, ne-eqb}
 use lib.Dec.{ltb, eqb}
 use lib.ListN.{length, take, drop, replicate, length-append, length-replicate, take-append-drop}
-use lib.Seq.{length-take-le, take-at, drop-at}
+use lib.Seq.{take-at, drop-at}
 use Rattle.answer.proofs.Booleans.{either, neither, or-go}
-use Rattle.answer.proofs.Judged.{past, done}
-use Rattle.answer.specs.Checks.{accepted}
+use Rattle.answer.proofs.Judged.{passed, kept, past, done}
+use Rattle.answer.specs.Checks.{accepted, _⇒_, judged}
+use Rattle.answer.specs.declared.Refusal.{Refusal}
 use Rattle.beacon.specs.Beacons.{quietLimit}
 use Rattle.beacon.specs.declared.MaybePower.{MaybePower}
 use Rattle.channel.specs.Centres.{highest}
-use Rattle.octets.proofs.JoinSplit.{from-octets, length-from, number-bound, take-from}
+use Rattle.octets.proofs.JoinSplit.{from-octets, length-from, number-bound, take-from, from-add}
 use Rattle.octets.specs.Numbers.{Octets, bit, octet, number}
-use Rattle.octets.specs.Writing.{filled}
 use Rattle.pending.specs.declared.Pending.{Pending}
 use Rattle.schedule.specs.declared.Schedule.{Schedule}
+use Rattle.station.proofs.InUse.{in-use-length, in-use-slotted}
 use Rattle.station.specs.Starting.{startForbids}
 use Rattle.station.specs.Stations.{noSchedule, slotted, inUse}
 use Rattle.station.specs.Validity.{Valid}
 use Rattle.station.specs.declared.Station.{Station}
 use Rattle.station_record.proofs.Heads.{head-length, head-lies, pending-at-allowed, Shows, head-shows, power-told, power-fine, pending-told, switch-fine}
-use Rattle.station_record.proofs.Slots.{from-add, read-length, slots-length, slots-lie, slots-fit, read-after, slots-read}
+use Rattle.station_record.proofs.Slots.{read-length, slots-length, slots-lie, slots-fit, read-after, slots-read}
 use Rattle.station_record.proofs.Sound.{Sound, sound, not-refused}
 use Rattle.station_record.specs.Fits.{PowerFits, MomentFits, AllFit, Fits}
-use Rattle.station_record.specs.Held.{powerAt, pendingAt, schedulesFrom, stationAt, noRecord, heldIn}
+use Rattle.station_record.specs.Held.{powerAt, pendingAt, schedulesFrom, stationAt, noRecord, heldIn, Holds}
 use Rattle.station_record.specs.Records.{size, headLength, slotLength, headOf, slotsOf, recordOf}
 
 -- ---- how many octets
@@ -53,10 +54,6 @@ module _ (os : List ℕ) where
   held-length =
       record-length (stationAt os) (length-from 6 8 os) (length-from 6 14 os)
       ∙ ap (λ (n : ℕ). headLength + slotLength * n) (ap length held-in-use ∙ read-length (octet 41 os) headLength os)
-
-  -- which the octets have room for
-  pub record-inside : noRecord os ≡ false → length (recordOf (stationAt os)) ≤ length os
-  record-inside e = let w = sound os e in omega (arith, held-length, w .roomy, w .few)
 
   -- the station that was read is valid
   pub held-valid : noRecord os ≡ false → Valid (stationAt os)
@@ -98,10 +95,6 @@ module _ (os : List ℕ) where
       let n = length (recordOf (stationAt os)) in
       sym (ap (λ (front : List ℕ). front ++ drop n os) (held-front o e) ∙ take-append-drop n os)
 
-  -- and laying it again changes nothing
-  pub held-filled : Octets os → noRecord os ≡ false → filled (recordOf (stationAt os)) os ≡ os
-  held-filled o e = sym (held-lies o e)
-
   -- a Power Constraint that was read fits its octet, and a moment its eight
   power-held-fits : Octets os → PowerFits (powerAt os)
   power-held-fits o = ⊎-elim
@@ -142,17 +135,6 @@ pub same-station : {o o′ a a′ : List ℕ} {i i′ c c′ h h′ : ℕ} {p p�
 same-station o a i c h p w xs n u = cc
 
 module _ (s : Station) (v : Valid s) where
-  -- as many schedules are in use as it counts
-  in-use-length : length (inUse s) ≡ s .count
-  in-use-length = length-take-le (s .count) (s .schedules) (omega (arith, v .slots, v .few))
-
-  -- the schedules in use and blank ones are all its schedules
-  in-use-slotted : slotted (inUse s) ≡ s .schedules
-  in-use-slotted =
-      ap (λ (n : ℕ). inUse s ++ replicate (quietLimit - n) noSchedule) in-use-length
-      ∙ ap (λ (xs : List Schedule). inUse s ++ xs) (sym (v .rest-blank))
-      ∙ take-append-drop (s .count) (s .schedules)
-
   -- it may be started
   valid-startable : startForbids (s .own) (s .ap) (s .interval) (s .channel) ≡ false
   valid-startable =
@@ -202,3 +184,26 @@ module _ (s : Station) (v : Valid s) (f : Fits s) (rest : List ℕ) where
       let w : Shows (recordOf s ++ rest) s = subst (λ (os : List ℕ). Shows os s) (sym parts) (head-shows s f (slotsOf (inUse s) ++ rest)) in
       let same = shown-station v f w (ap (schedulesFrom (s .count) headLength) parts ∙ laid-schedules) in
       sym (past _ _ _ (not-refused (recordOf s ++ rest) (shown-sound v f w h)) (ap accepted (sym same) ∙ done _))
+
+-- ---- both ways at once
+
+-- octets give a station exactly where they begin with its record
+pub holds-exactly : (os : List ℕ) → Octets os → (s : Station) → (heldIn os ≡ accepted s → Holds os s) × (Holds os s → heldIn os ≡ accepted s)
+unfolding heldIn
+holds-exactly os o s = (there, back)
+  where
+    there : judged (noRecord os ⇒ Refusal.Impossible ∷ []) (stationAt os) ≡ accepted s → Holds os s
+    there e =
+        let p = passed _ _ _ e in
+        subst (Holds os) (kept (stationAt os) (p .1))
+        (record {
+          valid = held-valid os (p .0);
+          fits = held-fits os o (p .0);
+          roomy = sound os (p .0) .roomy;
+          begins = (drop (length (recordOf (stationAt os))) os, held-lies os o (p .0));
+        })
+
+    back : Holds os s → judged (noRecord os ⇒ Refusal.Impossible ∷ []) (stationAt os) ≡ accepted s
+    back h =
+        let same = h .begins .1 in
+        ap heldIn same ∙ laid-reads s (h .valid) (h .fits) (h .begins .0) (subst (λ (x : List ℕ). size ≤ length x) same (h .roomy))

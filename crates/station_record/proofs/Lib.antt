@@ -4,7 +4,6 @@ pub mod InPlace
 pub mod Layouts
 pub mod Lengths
 pub mod Outcomes
-pub mod Overlaid
 pub mod SlotBySlot
 pub mod Slots
 pub mod Sound

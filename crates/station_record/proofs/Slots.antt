@@ -2,35 +2,14 @@
 use mathlib.Core.List.{List, [], _∷_, _++_}
 use mathlib.Core.Path.{_≡_, refl, sym, ap, ap₂, _∙_}
 use Prim.Native.Nat.{ℕ, zero, suc, _+_, _*_}
-use native.Mathlib.Nat.{zero-add, add-zero, suc-add}
 use native.Mathlib.Omega.{arith}
 use lib.ListN.{length, length-append}
-use lib.Seq.{getD-append-add}
-use Rattle.octets.proofs.JoinSplit.{join-split, split-number, number-bound}
-use Rattle.octets.specs.Numbers.{Octets, join, octet, octetsFrom, number}
+use Rattle.octets.proofs.JoinSplit.{join-split, split-number, number-bound, from-add, from-after}
+use Rattle.octets.specs.Numbers.{Octets, join, octetsFrom, number}
 use Rattle.schedule.specs.declared.Schedule.{Schedule}
 use Rattle.station_record.specs.Fits.{ScheduleFits, AllFit}
 use Rattle.station_record.specs.Held.{scheduleAt, schedulesFrom}
 use Rattle.station_record.specs.Records.{slotLength, slotOctets, slotsOf}
-
--- ---- octets from a place on
-
--- two runs one after the other are one run
-pub from-add : (j k i : ℕ) (os : List ℕ) → octetsFrom (j + k) i os ≡ octetsFrom j i os ++ octetsFrom k (i + j) os
-from-add zero k i os = ap₂ (λ (n p : ℕ). octetsFrom n p os) (zero-add k) (sym (add-zero i))
-from-add (suc j) k i os =
-    let later : i + 1 + j ≡ i + suc j = omega arith in
-    ap (λ (n : ℕ). octetsFrom n i os) (suc-add j k)
-    ∙ ap (λ (r : List ℕ). octet i os ∷ r) (from-add j k (i + 1) os ∙ ap (λ (p : ℕ). octetsFrom j (i + 1) os ++ octetsFrom k p os) later)
-
--- past what stands in front, they are those of the rest
-pub from-after : (k i : ℕ) (xs ys : List ℕ) → octetsFrom k (length xs + i) (xs ++ ys) ≡ octetsFrom k i ys
-from-after zero i xs ys = refl
-from-after (suc k) i xs ys =
-    let next : length xs + i + 1 ≡ length xs + (i + 1) = omega arith in
-    ap₂ (λ (o : ℕ) (r : List ℕ). o ∷ r)
-    (getD-append-add xs ys i 0)
-    (ap (λ (p : ℕ). octetsFrom k p (xs ++ ys)) next ∙ from-after k (i + 1) xs ys)
 
 -- ---- how many
 

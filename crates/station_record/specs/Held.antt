@@ -1,8 +1,9 @@
--- The station that a record holds (02, Eight): each field is read where `recordOf` puts it. Octets that are the record of no valid station hold
--- none; `Layouts` in the proofs says that these are all the others.
+-- Which octets hold a station (02, Eight): those that begin with the record of a valid one. Each field is read where `recordOf` puts it, and the octets
+-- are judged by tests; `holds-exactly` in the proofs says that a station is read exactly where it is held.
 use mathlib.Core.Bool.{Bool, not, _||_}
-use mathlib.Core.List.{List, [], _∷_}
-use Prim.Native.Nat.{ℕ, zero, suc, _+_}
+use mathlib.Core.List.{List, [], _∷_, _++_}
+use mathlib.Core.Path.{_≡_}
+use Prim.Native.Nat.{ℕ, zero, suc, _+_, _≤_}
 use lib.Dec.{ltb, eqb}
 use lib.ListN.{length}
 use Rattle.answer.specs.Checks.{Outcome, _⇒_, judged, pick}
@@ -16,8 +17,10 @@ use Rattle.pending.specs.declared.Switch.{Switch}
 use Rattle.schedule.specs.declared.Schedule.{Schedule}
 use Rattle.station.specs.Starting.{startForbids}
 use Rattle.station.specs.Stations.{slotted}
+use Rattle.station.specs.Validity.{Valid}
 use Rattle.station.specs.declared.Station.{Station}
-use Rattle.station_record.specs.Records.{version, size, headLength, slotLength}
+use Rattle.station_record.specs.Fits.{Fits}
+use Rattle.station_record.specs.Records.{version, size, headLength, slotLength, recordOf}
 
 -- ---- what is absent has a 0 in front
 
@@ -77,3 +80,12 @@ noRecord os =
 
 unfoldable pub heldIn : List ℕ → Outcome Station
 heldIn os = judged (noRecord os ⇒ Refusal.Impossible ∷ []) (stationAt os)
+
+-- ---- what that means
+
+-- the octets begin with the record of this station, which is valid
+pub record Holds (os : List ℕ) (s : Station) : Type 0 where
+  pub valid : Valid s
+  pub fits : Fits s
+  pub roomy : size ≤ length os
+  pub begins : (rest : List ℕ) × (os ≡ recordOf s ++ rest)

@@ -41,7 +41,7 @@ fn is_switch_broken(switch: Switch, flag: u8, clock: u32) -> bool
     Station::CHANNEL_LIMIT < switch.channel
 }
 
-// Too few octets, another version, settings that no station is started with, or a state that none has.
+// Too few octets, another version, settings that no station is started with, or a state that no valid station has.
 pub fn is_broken(memory: &[u8]) -> bool
     ensures { λ r. ⌜ r ≡ noRecord (now (memory .entry)) ⌝ }
 {

@@ -49,16 +49,17 @@ pub fn advance(memory: &mut [u8], units: u32) -> Answer
     }
     let clock = octets::number32(memory, crate::CLOCK);
     let pending = reading::pending_in(memory);
+    let accepted = Answer::Accepted;
     match station::advance_clock(clock, pending, units) {
         Advanced::Refused => Answer::Refused(Refusal::PastClock),
         Advanced::Goes(moment) => {
             tell(moment, memory);
-            Answer::Accepted
+            accepted
         }
         Advanced::Switches { moment, channel } => {
             tell(moment, memory);
             switch(channel, memory);
-            Answer::Accepted
+            accepted
         }
     }
 }

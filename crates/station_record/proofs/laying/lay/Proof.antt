@@ -8,12 +8,11 @@ use borrow.Author.Needs.{needs}
 use denote.Ref.{now}
 use lib.ListN.{length}
 use Rattle.octets.proofs.PartsBuilt.{Built, none-built, part-built}
-use Rattle.octets.proofs.Storing.{same-room, filled-front}
+use Rattle.octets.proofs.Storing.{same-room, filled-front, filled-again}
 use Rattle.octets.specs.Writing.{filled}
 use Rattle.station.specs.Stations.{inUse}
 use Rattle.station_record.specs.Records.{size, headLength, slotsOf, headOf}
 use Rattle.station_record.proofs.Lengths.{settings-length, state-length}
-use Rattle.station_record.proofs.Overlaid.{filled-again}
 use Rattle.station_record.proofs.laying.lay.Statement.{statement}
 use Rattle.station_record.proofs.laying.lay.Tie as tie
 

@@ -7,11 +7,10 @@ use native.Mathlib.Omega.{arith}
 use borrow.Author.Needs.{needs}
 use denote.Ref.{now}
 use lib.ListN.{length, take}
-use Rattle.octets.proofs.PartsBuilt.{Built, part-built}
+use Rattle.octets.proofs.PartsBuilt.{Built, front-built, part-built}
 use Rattle.octets.proofs.Storing.{same-room}
 use Rattle.octets.specs.Writing.{filled}
 use Rattle.station_record.specs.Records.{headLength, slotLength, slotsOf}
-use Rattle.station_record.proofs.Overlaid.{front-built}
 use Rattle.station_record.proofs.SlotBySlot.{next-laid}
 use Rattle.station_record.proofs.laying.lay_slots.Statement.{statement}
 use Rattle.station_record.proofs.laying.lay_slots.Tie as tie

@@ -12,6 +12,7 @@ use Rattle.answer.specs.Checks.{Outcome, refused, andThen, answerOf}
 use Rattle.answer.specs.declared.Answer.{Answer}
 use Rattle.answer.specs.declared.Refusal.{Refusal}
 use Rattle.beacon.specs.declared.MaybePower.{MaybePower}
+use Rattle.octets.proofs.Storing.{over-length}
 use Rattle.octets.specs.Numbers.{Octets, split}
 use Rattle.octets.specs.Writing.{over}
 use Rattle.pending.specs.declared.Pending.{Pending}
@@ -23,7 +24,6 @@ use Rattle.station_record.specs.Held.{stationAt, noRecord}
 use Rattle.station_record.specs.Records.{size, stateOctets}
 use Rattle.station_record.proofs.Holding.{held-none, held-some, comes-to}
 use Rattle.station_record.proofs.InPlace.{told-in-place, switched-in-place}
-use Rattle.station_record.proofs.Overlaid.{over-length}
 use Rattle.station_record.proofs.Sound.{sound}
 use Rattle.station_record.proofs.stepping.advance.Statement.{statement}
 use Rattle.station_record.proofs.stepping.advance.Tie as tie

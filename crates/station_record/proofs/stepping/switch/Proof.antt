@@ -8,10 +8,10 @@ use borrow.Author.Needs.{needs}
 use denote.Ref.{now}
 use lib.ListN.{length}
 use Rattle.beacon.specs.declared.MaybePower.{MaybePower}
+use Rattle.octets.proofs.Storing.{put-at, over-length}
 use Rattle.octets.specs.Writing.{over}
 use Rattle.pending.specs.declared.Pending.{Pending}
 use Rattle.station_record.specs.Records.{stateOctets}
-use Rattle.station_record.proofs.Overlaid.{put-over, over-length}
 use Rattle.station_record.proofs.stepping.switch.Statement.{statement}
 use Rattle.station_record.proofs.stepping.switch.Tie as tie
 
@@ -22,8 +22,8 @@ returns c =
     let p = o .before .before .before in
     let s = p .before .before .before .before in
     let m = now (s .args .memory) in
-    let first = put-over 1 m refl (omega (arith, s .pre)) (p .put .ensures .leaves) in
-    put-over 20 _ (o .state-octets .ensures) (omega (arith, s .pre, ap length first, over-length m 1 (s .args .channel ∷ []) (omega (arith, s .pre)))) (k .put2 .ensures .leaves)
+    let first = put-at 1 m refl (omega (arith, s .pre)) (p .put .ensures .leaves) in
+    put-at 20 _ (o .state-octets .ensures) (omega (arith, s .pre, ap length first, over-length m 1 (s .args .channel ∷ []) (omega (arith, s .pre)))) (k .put2 .ensures .leaves)
     ∙ ap (λ (b : List ℕ). over b 20 (stateOctets MaybePower.Absent Pending.Nothing 0 0)) first
 
 pub switch-spec : {M : Type 1} → statement M
