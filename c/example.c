@@ -1,4 +1,5 @@
-/* Reads an announcement, a beacon and a beacon of an IBSS, replies to a TPC Request and makes the list of a capture of one block, each by the proved library. Writes what came out. */
+/* Reads an announcement, a beacon and a beacon of an IBSS, replies to a TPC Request, steps a station as a probe's interrupt routine does and makes the list of a capture of one
+ * block, each by the proved library. Writes what came out. */
 #include "oneiralth.h"
 
 #include <stdio.h>
@@ -80,6 +81,40 @@ static void show_reply(void) {
            (int)oneiralth_reply_to_tpc_request(frame, length, oneiralth_address(OWN), oneiralth_address(AP), 0, 0, reply, 30));
 }
 
+/* The probe's station, at one address for as long as the probe runs. */
+static uint8_t station[ONEIRALTH_STATION_SIZE];
+
+/* The probe's interrupt routine, once per TU: the clock goes on where it lies, and the answer says whether the unit that begins may be used. */
+static int64_t on_time_unit(void) {
+    int64_t answer = oneiralth_station_advance(station, sizeof station, 1);
+    if (answer < 0) return answer;
+    return oneiralth_station_ask(station, sizeof station, 1);
+}
+
+/* A beacon with one Quiet element: 10 TU, from 20 after the next TBTT on. A probe holds its interrupt off while the station takes a frame. */
+static int64_t take_quiet_beacon(void) {
+    uint8_t body[20] = {0, 0, 0, 0, 0, 0, 0, 0, 100, 0, 0, 0};
+    uint8_t frame[64];
+    int64_t many = oneiralth_write_quiet(1, 0, 10, 20, 100, body + 12, sizeof body - 12);
+    size_t length = action(body, 12 + (size_t)many, frame);
+    frame[0] = 0x80;
+    return oneiralth_station_take(station, sizeof station, frame, length);
+}
+
+/* The beacon comes at 50, so the next TBTT is at 100 and it is quiet from 120 to 129. */
+static void show_station(void) {
+    printf("station not started: answer %d\n", (int)on_time_unit());
+    int64_t started = oneiralth_station_start(oneiralth_address(OWN), oneiralth_address(AP), 100, 36, station, sizeof station);
+    int64_t advanced = oneiralth_station_advance(station, sizeof station, 50);
+    printf("station: start %d, advance %d, beacon %d\n", (int)started, (int)advanced, (int)take_quiet_beacon());
+    int64_t latest = -1;
+    for (int moment = 51; moment <= 150; moment++) {
+        int64_t answer = on_time_unit();
+        if (answer != latest) printf("from %d on: answer %d\n", moment, (int)answer);
+        latest = answer;
+    }
+}
+
 static void show_list(void) {
     uint8_t block[512] = {18, 0, 4, 15, 0, 2, 0, 0, 0, 0, 1, 2, 0, 0, 0, 0, 9, 36, 100, 0};
     uint8_t list[128];
@@ -97,6 +132,7 @@ int main(void) {
     show_quiets();
     show_ibss_beacon();
     show_reply();
+    show_station();
     show_list();
     printf("centre of 36: %d, of 201: %d\n", (int)oneiralth_centre(36), (int)oneiralth_centre(201));
     return 0;

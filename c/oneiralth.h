@@ -1,9 +1,9 @@
-/* The proved library for C on x86-64 (docs/BOUNDARY.md): frames, elements, action bodies, replies and the evening list of IEEE Std 802.11h-2003, under
- * the scope document's rules. Link with libboundary.a, which `rt staticlib boundary` makes.
+/* The proved library for C on x86-64 (docs/BOUNDARY.md): frames, elements, action bodies, replies, a station and the evening list of IEEE Std 802.11h-2003,
+ * under the scope document's rules. Link with libboundary.a, which `rt staticlib boundary` makes.
  *
- * Nothing is kept between calls. Every function takes every input, always ends, and gives back a number of 0 or more, or minus a refusal's number
- * (-1 to -22, the scope document's table; -23 is given by no function yet). A refused call leaves every octet of the buffer as it was; an accepted one leaves every octet past those that
- * it says it wrote as it was.
+ * Nothing is kept between calls; a station lives in octets that its caller keeps. Every function takes every input, always ends, and gives back a number
+ * of 0 or more, or minus a refusal's number (-1 to -22, the scope document's table; -23 is given by no function yet). A refused call leaves every octet of
+ * the buffer as it was; an accepted one leaves every octet past those that it says it wrote as it was, and of a station every octet after its record.
  *
  * An octet range is a pointer and a length; the length may be 0, the pointer is then any that is not null. What is lent for writing must not overlap
  * what is read. */
@@ -36,7 +36,7 @@ enum {
     ONEIRALTH_BUFFER_SHORT = -13, /* the buffer is shorter than what is to be written */
     ONEIRALTH_PAST_CLOCK = -14, /* the clock would pass its limit, or the advance is over 65,535 */
     ONEIRALTH_BAD_START = -15, /* a station cannot be started so */
-    ONEIRALTH_IMPOSSIBLE = -16, /* a record that cannot be written, impossible readings, an index past the last, a centre over channel 200 */
+    ONEIRALTH_IMPOSSIBLE = -16, /* a record that cannot be written, impossible readings, an index past the last, a centre over channel 200, octets that hold no station */
     ONEIRALTH_BLOCK_DAMAGED = -17, /* a damaged block */
     ONEIRALTH_NO_REPLY_DUE = -18, /* no reply is due */
     ONEIRALTH_NO_STATION = -19, /* a capture record with no station started */
@@ -111,6 +111,33 @@ enum {
     ONEIRALTH_REPORT_DURATION = 13,  /* 2 octets */
     ONEIRALTH_REPORT_DENSITIES = 15, /* 8 octets */
     ONEIRALTH_REPORT = 23
+};
+
+/* A station in its caller's octets. What is absent is zeros; what stands after the schedules in use is neither looked at nor changed. */
+enum {
+    ONEIRALTH_STATION_VERSION = 0,    /* 1 */
+    ONEIRALTH_STATION_CHANNEL = 1,
+    ONEIRALTH_STATION_INTERVAL = 2,   /* 2 octets */
+    ONEIRALTH_STATION_CLOCK = 4,      /* 4 octets */
+    ONEIRALTH_STATION_OWN = 8,        /* 6 octets: its own address */
+    ONEIRALTH_STATION_AP = 14,        /* 6 octets */
+    ONEIRALTH_STATION_POWER = 20,     /* 1 if there is a Power Constraint, and its value */
+    ONEIRALTH_STATION_SWITCH = 22,    /* 1 if a switch is pending, mode, channel, moment (8) */
+    ONEIRALTH_STATION_UNTIL = 33,     /* 8 octets: until when what had begun of replaced quiet schedules runs on */
+    ONEIRALTH_STATION_COUNT = 41,     /* how many quiet schedules are in use, at most 8 */
+    ONEIRALTH_STATION_SCHEDULES = 42, /* 18 octets for each: start (8), period (8), duration (2) */
+    ONEIRALTH_STATION_SCHEDULE = 18,
+    ONEIRALTH_STATION_SIZE = 336      /* so many octets a caller sets aside, of any alignment */
+};
+
+/* The answers to a question of a station. */
+enum {
+    ONEIRALTH_ASK_GRANTED,
+    ONEIRALTH_ASK_SWITCH_SILENCES, /* a switch of mode 1 is pending */
+    ONEIRALTH_ASK_QUIET_NOW,       /* the first unit is quiet */
+    ONEIRALTH_ASK_QUIET_LATER,     /* a later unit before the pending switch, if any, is quiet */
+    ONEIRALTH_ASK_SWITCH_BEFORE,   /* the switch lies before the end of the units */
+    ONEIRALTH_ASK_WRONG_LENGTH     /* no units, or more than 65,535 */
 };
 
 /* The kinds of a frame, at ONEIRALTH_FRAME_KIND. */
@@ -206,6 +233,26 @@ int64_t oneiralth_reply_to_tpc_request(const uint8_t *frame, size_t frame_length
 int64_t oneiralth_reply_to_measurement_request(const uint8_t *frame, size_t frame_length, uint64_t own, uint64_t ap, uint32_t clock, size_t index,
                                                uint8_t found, uint32_t value, uint32_t t0, uint32_t t1, uint32_t t2, uint32_t t3, uint32_t t4,
                                                uint32_t t5, uint32_t t6, uint32_t t7, uint8_t *out, size_t out_length);
+
+/* ---- a station, in ONEIRALTH_STATION_SIZE octets that its caller keeps, and changed there. Octets that hold none, since none was started in them, they were
+ * spoilt or they are too few, give ONEIRALTH_IMPOSSIBLE, and stay as they are. No call may interrupt another on the same station. */
+
+/* ONEIRALTH_STATION_SIZE as the library has it. */
+int64_t oneiralth_station_size(void);
+/* Starts a station at clock 0, whatever the octets held: ONEIRALTH_BAD_START, or ONEIRALTH_BUFFER_SHORT where they are too few. */
+int64_t oneiralth_station_start(uint64_t own, uint64_t ap, uint16_t interval, uint8_t channel, uint8_t *station, size_t station_length);
+/* Hands a frame to the station; 0, or the frame's refusal. */
+int64_t oneiralth_station_take(uint8_t *station, size_t station_length, const uint8_t *frame, size_t frame_length);
+/* Lets the clock go on by so many TU; 0, or ONEIRALTH_PAST_CLOCK. */
+int64_t oneiralth_station_advance(uint8_t *station, size_t station_length, uint32_t units);
+/* Asks whether the station may send for so many TU from now on: ONEIRALTH_ASK_GRANTED or what stands against it. */
+int64_t oneiralth_station_ask(const uint8_t *station, size_t station_length, uint32_t units);
+/* As oneiralth_reply_to_tpc_request and oneiralth_reply_to_measurement_request above, with the station's own address, AP and clock. */
+int64_t oneiralth_station_reply_to_tpc_request(const uint8_t *station, size_t station_length, const uint8_t *frame, size_t frame_length, uint8_t power,
+                                               uint8_t margin, uint8_t *out, size_t out_length);
+int64_t oneiralth_station_reply_to_measurement_request(const uint8_t *station, size_t station_length, const uint8_t *frame, size_t frame_length,
+                                                       size_t index, uint8_t found, uint32_t value, uint32_t t0, uint32_t t1, uint32_t t2, uint32_t t3,
+                                                       uint32_t t4, uint32_t t5, uint32_t t6, uint32_t t7, uint8_t *out, size_t out_length);
 
 /* ---- numbers */
 

@@ -2,6 +2,7 @@
 -- (01, "Answer numbers", "Order").
 use mathlib.Core.Bool.{Bool, true, false}
 use mathlib.Core.List.{List, [], _∷_}
+use Rattle.answer.specs.declared.Answer.{Answer}
 use Rattle.answer.specs.declared.Refusal.{Refusal}
 
 infix 70 _⇒_
@@ -39,3 +40,8 @@ judged cs a = checked cs (accepted a)
 abbrev pub andThen : {R A B : Type 0} → Result R A → (A → Result R B) → Result R B
 andThen (refused r) next = refused r
 andThen (accepted a) next = next a
+
+-- the answer that stands for an outcome
+abbrev pub answerOf : {A : Type 0} → Outcome A → Answer
+answerOf (refused r) = Answer.Refused r
+answerOf (accepted a) = Answer.Accepted

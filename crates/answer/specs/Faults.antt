@@ -48,6 +48,11 @@ placedPast n (accepted a) = accepted a
 
 -- ---- where the value stands beside it
 
+-- the verdict that stands for an outcome
+abbrev pub verdictOf : {A : Type 0} → Placed A → Verdict
+verdictOf (refused x) = Verdict.Refused x
+verdictOf (accepted a) = Verdict.Accepted
+
 abbrev pub verdictOffset : Verdict → Offset
 verdictOffset Verdict.Accepted = Offset.Absent
 verdictOffset (Verdict.Refused x) = x .offset

@@ -1,7 +1,9 @@
 -- What a beacon or a probe response says, but for its Quiet elements (01, "Octets"): its fixed fields, and the elements 32, 35 and 37
 -- that it has.
 use mathlib.Core.Bool.{Bool, true, false}
+use mathlib.Core.List.{List, [], _∷_}
 use Prim.Native.Nat.{ℕ}
+use Rattle.element.specs.PowerConstraint.{powerContents}
 use Rattle.element.specs.declared.channel_switch.ChannelSwitch.{ChannelSwitch}
 use Rattle.element.specs.declared.power_constraint.PowerConstraint.{PowerConstraint}
 use Rattle.element.specs.declared.tpc_report.TpcReport.{TpcReport}
@@ -49,3 +51,9 @@ hasReport (MaybeReport.Is t) = true
 abbrev pub hasSwitch : MaybeSwitch → Bool
 hasSwitch MaybeSwitch.Absent = false
 hasSwitch (MaybeSwitch.Is s) = true
+
+-- ---- what may be absent, as octets: 1 and its contents where it is there, and zeros where it is not
+
+abbrev pub heldPower : MaybePower → List ℕ
+heldPower MaybePower.Absent = 0 ∷ 0 ∷ []
+heldPower (MaybePower.Is p) = 1 ∷ powerContents p

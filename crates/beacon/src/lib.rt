@@ -1,6 +1,7 @@
 // Beacon and Probe Response bodies (document 01, "Answer numbers" and "Octets"; 02, Five; 802.11h 7.2.3.1 and 7.2.3.9).
 mod adding;
 mod elements;
+mod held;
 mod naming;
 
 ghost use mathlib.Core.Path.{_≡_};

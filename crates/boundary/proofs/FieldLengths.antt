@@ -7,20 +7,16 @@ use native.Mathlib.Omega.{arith}
 use lib.ListN.{length, length-append}
 use Rattle.answer.proofs.Judged.{never}
 use Rattle.answer.specs.Checks.{accepted}
-use Rattle.beacon.specs.declared.MaybePower.{MaybePower}
+use Rattle.beacon.proofs.HeldLengths.{power-length}
 use Rattle.beacon.specs.declared.MaybeReport.{MaybeReport}
 use Rattle.beacon.specs.declared.MaybeSwitch.{MaybeSwitch}
 use Rattle.element.specs.declared.ibss_dfs.IbssDfs.{IbssDfs}
 use Rattle.frame.specs.declared.Reading.{Reading}
 use Rattle.frame.specs.declared.Received.{Received}
 use Rattle.octets.specs.Numbers.{split}
-use Rattle.boundary.specs.FrameFields.{heldPower, heldReport, heldSwitch, fieldsOf, fieldOctets, readingFields, frameFields}
+use Rattle.boundary.specs.FrameFields.{heldReport, heldSwitch, fieldsOf, fieldOctets, readingFields, frameFields}
 use Rattle.boundary.specs.IbssFields.{heldDfs}
 use Rattle.boundary.specs.declared.frame_fields.Fields.{Fields}
-
-pub power-length : (p : MaybePower) → length (heldPower p) ≡ 2
-power-length MaybePower.Absent = refl
-power-length (MaybePower.Is p) = refl
 
 pub report-length : (r : MaybeReport) → length (heldReport r) ≡ 3
 report-length MaybeReport.Absent = refl

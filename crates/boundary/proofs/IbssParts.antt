@@ -18,7 +18,7 @@ use Rattle.reply.specs.Replies.{leftBy, Replied}
 use Rattle.boundary.specs.FrameFields.{frameFields}
 use Rattle.boundary.specs.IbssFields.{withSender, ibssFields}
 use Rattle.boundary.proofs.FieldLengths.{frame-length}
-use Rattle.boundary.proofs.PartsBuilt.{Built}
+use Rattle.octets.proofs.PartsBuilt.{Built}
 
 -- in a room that suffices, the answer is the frame's own
 module _ (v : Received) (room : List ℕ) (fits : 38 ≤ length room) {answer : Wrote} {exit : List ℕ} (w : Replied (frameFields v) room answer exit) where

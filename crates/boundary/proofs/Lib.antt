@@ -1,8 +1,8 @@
 pub mod Coded
 pub mod FieldLengths
 pub mod IbssParts
+pub mod OnStations
 pub mod OneOutcome
-pub mod PartsBuilt
 pub mod Passes
 pub mod QuietsByIndex
 pub mod SignedAnswers

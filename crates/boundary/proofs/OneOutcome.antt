@@ -5,7 +5,9 @@ use mathlib.Core.Path.{_≡_, sym, _∙_}
 use Prim.Native.Nat.{ℕ}
 use denote.Ref.{now}
 use Rattle.answer.specs.Checks.{Outcome}
+use Rattle.station.specs.declared.Station.{Station}
 use Rattle.boundary.specs.Codes.{Put, Given}
+use Rattle.boundary.specs.Stations.{OnStation}
 use Rattle.boundary.proofs.reading.oneiralth_read_frame as Read-frame
 use Rattle.boundary.proofs.reading.oneiralth_fault_offset as Fault-offset
 use Rattle.boundary.proofs.reading.oneiralth_read_quiet as Read-quiet
@@ -30,6 +32,13 @@ use Rattle.boundary.proofs.bodies.oneiralth_append_request as Append-re
 use Rattle.boundary.proofs.bodies.oneiralth_append_report as Append-report
 use Rattle.boundary.proofs.replies.oneiralth_reply_to_tpc_request as Reply-to-tpc-request
 use Rattle.boundary.proofs.replies.oneiralth_reply_to_measurement_request as Reply-to-measurement-request
+use Rattle.boundary.proofs.stations.oneiralth_station_size as Station-size
+use Rattle.boundary.proofs.stations.oneiralth_station_start as Station-start
+use Rattle.boundary.proofs.stations.oneiralth_station_take as Station-take
+use Rattle.boundary.proofs.stations.oneiralth_station_advance as Station-advance
+use Rattle.boundary.proofs.stations.oneiralth_station_ask as Station-ask
+use Rattle.boundary.proofs.stations.oneiralth_station_reply_to_tpc_request as Station-reply-to-tpc-request
+use Rattle.boundary.proofs.stations.oneiralth_station_reply_to_measurement_request as Station-reply-to-measurement-request
 use Rattle.boundary.proofs.numbers.oneiralth_busy_fraction as Busy-fraction
 use Rattle.boundary.proofs.numbers.oneiralth_rpi_densities as Rpi-densities
 use Rattle.boundary.proofs.numbers.oneiralth_centre as Centre
@@ -41,6 +50,9 @@ put-once p q = (p .answers ∙ sym (q .answers), p .leaves ∙ sym (q .leaves))
 
 given-once : {o : Outcome (List ℕ)} {buffer : List ℕ} {code code' : ℕ} {exit exit' : List ℕ} → Given o buffer code exit → Given o buffer code' exit' → (code ≡ code') × (exit ≡ exit')
 given-once p q = (p .answers ∙ sym (q .answers), p .leaves ∙ sym (q .leaves))
+
+on-station-once : {o : Outcome Station} {memory : List ℕ} {code code' : ℕ} {exit exit' : List ℕ} → OnStation o memory code exit → OnStation o memory code' exit' → (code ≡ code') × (exit ≡ exit')
+on-station-once p q = (p .answers ∙ sym (q .answers), p .leaves ∙ sym (q .leaves))
 
 pub boundary-read-frame : OneOutcome 2 Read-frame.Kinds.ps Read-frame.Kinds.r Read-frame.Reads.Post (λ κs e. now (e .1 .1 .1 .1 .0))
 boundary-read-frame κs a e f x y p q = given-once p q
@@ -113,6 +125,27 @@ boundary-reply-to-tpc-request κs a e f x y p q = given-once p q
 
 pub boundary-reply-to-measurement-request : OneOutcome 2 Reply-to-measurement-request.Kinds.ps Reply-to-measurement-request.Kinds.r Reply-to-measurement-request.Reads.Post (λ κs e. now (e .1 .1 .1 .1 .1 .1 .1 .1 .1 .1 .1 .1 .1 .1 .1 .0))
 boundary-reply-to-measurement-request κs a e f x y p q = given-once p q
+
+pub boundary-station-size : OneResult 0 Station-size.Kinds.ps Station-size.Kinds.r Station-size.Reads.Post
+boundary-station-size κs a e f x y p q = p ∙ sym q
+
+pub boundary-station-start : OneOutcome 1 Station-start.Kinds.ps Station-start.Kinds.r Station-start.Reads.Post (λ κs e. now (e .1 .1 .1 .1 .0))
+boundary-station-start κs a e f x y p q = on-station-once p q
+
+pub boundary-station-take : OneOutcome 2 Station-take.Kinds.ps Station-take.Kinds.r Station-take.Reads.Post (λ κs e. now (e .0))
+boundary-station-take κs a e f x y p q = on-station-once p q
+
+pub boundary-station-advance : OneOutcome 1 Station-advance.Kinds.ps Station-advance.Kinds.r Station-advance.Reads.Post (λ κs e. now (e .0))
+boundary-station-advance κs a e f x y p q = on-station-once p q
+
+pub boundary-station-ask : OneResult 1 Station-ask.Kinds.ps Station-ask.Kinds.r Station-ask.Reads.Post
+boundary-station-ask κs a e f x y p q = p ∙ sym q
+
+pub boundary-station-reply-to-tpc-request : OneOutcome 3 Station-reply-to-tpc-request.Kinds.ps Station-reply-to-tpc-request.Kinds.r Station-reply-to-tpc-request.Reads.Post (λ κs e. now (e .1 .1 .1 .1 .0))
+boundary-station-reply-to-tpc-request κs a e f x y p q = given-once p q
+
+pub boundary-station-reply-to-measurement-request : OneOutcome 3 Station-reply-to-measurement-request.Kinds.ps Station-reply-to-measurement-request.Kinds.r Station-reply-to-measurement-request.Reads.Post (λ κs e. now (e .1 .1 .1 .1 .1 .1 .1 .1 .1 .1 .1 .1 .1 .0))
+boundary-station-reply-to-measurement-request κs a e f x y p q = given-once p q
 
 pub boundary-busy-fraction : OneResult 0 Busy-fraction.Kinds.ps Busy-fraction.Kinds.r Busy-fraction.Reads.Post
 boundary-busy-fraction κs a e f x y p q = p ∙ sym q

@@ -7,7 +7,7 @@ use native.Mathlib.Omega.{arith}
 use borrow.Author.Tests.{ltb-false}
 use denote.Ref.{now}
 use lib.ListN.{length}
-use Rattle.answer.proofs.Judged.{passed, kept}
+use Rattle.answer.proofs.Judged.{never, passed, kept}
 use Rattle.answer.proofs.RefusalNumbers.{numbered, same-refusal}
 use Rattle.answer.specs.Checks.{Outcome, refused, accepted, andThen}
 use Rattle.answer.specs.Faults.{Placed}
@@ -24,8 +24,14 @@ use Rattle.frame.specs.Frames.{frameMeans}
 use Rattle.frame.specs.IbssFrames.{ibssFrameMeans}
 use Rattle.octets.specs.Writing.{room, wrote, after, left}
 use Rattle.reply.specs.Replies.{leftBy}
+use Rattle.station.specs.Asking.{permissionNumber}
+use Rattle.station.specs.declared.Station.{Station}
+use Rattle.station.specs.declared.asking.Permission.{Permission}
+use Rattle.station_record.specs.Calls.{relaid, askedIn}
+use Rattle.station_record.specs.Records.{size}
 use Rattle.boundary.specs.Codes.{codeOf, addressOf, Put, Given}
 use Rattle.boundary.specs.FaultOffsets.{offsetOr, faultOffset}
+use Rattle.boundary.specs.Stations.{OnStation}
 use Rattle.boundary.specs.SignedAnswers.{IsNegative, InRange, Answers, EachAnswers}
 use Rattle.boundary.proofs.reading.oneiralth_read_frame as Read-frame
 use Rattle.boundary.proofs.reading.oneiralth_fault_offset as Fault-offset
@@ -51,6 +57,13 @@ use Rattle.boundary.proofs.bodies.oneiralth_append_request as Append-re
 use Rattle.boundary.proofs.bodies.oneiralth_append_report as Append-report
 use Rattle.boundary.proofs.replies.oneiralth_reply_to_tpc_request as Reply-to-tpc-request
 use Rattle.boundary.proofs.replies.oneiralth_reply_to_measurement_request as Reply-to-measurement-request
+use Rattle.boundary.proofs.stations.oneiralth_station_size as Station-size
+use Rattle.boundary.proofs.stations.oneiralth_station_start as Station-start
+use Rattle.boundary.proofs.stations.oneiralth_station_take as Station-take
+use Rattle.boundary.proofs.stations.oneiralth_station_advance as Station-advance
+use Rattle.boundary.proofs.stations.oneiralth_station_ask as Station-ask
+use Rattle.boundary.proofs.stations.oneiralth_station_reply_to_tpc_request as Station-reply-to-tpc-request
+use Rattle.boundary.proofs.stations.oneiralth_station_reply_to_measurement_request as Station-reply-to-measurement-request
 use Rattle.boundary.proofs.numbers.oneiralth_busy_fraction as Busy-fraction
 use Rattle.boundary.proofs.numbers.oneiralth_rpi_densities as Rpi-densities
 use Rattle.boundary.proofs.numbers.oneiralth_centre as Centre
@@ -98,6 +111,27 @@ module _ (buffer : List ℕ) (fewer : length buffer < 2 ^ 63) where
       by : (p : Outcome (List ℕ)) → code ≡ codeOf (andThen p (λ os. wrote true os 0 buffer)) → exit ≡ leftBy p buffer → Answers code buffer exit
       by (refused r) e f = answers (refused r) code buffer exit tt e (λ q g. f)
       by (accepted os) e f = put-answers (record { answers = e; leaves = f })
+
+-- ---- whatever `OnStation` promises, and the answer to a question
+
+on-station-answers : {o : Outcome Station} {memory : List ℕ} {code : ℕ} {exit : List ℕ} → OnStation o memory code exit → Answers code memory exit
+on-station-answers {o} {memory} {code} {exit} w = by o (w .answers) (w .leaves)
+  where
+    by : (p : Outcome Station) → code ≡ codeOf (andThen p (λ _. accepted 0)) → exit ≡ relaid memory p → Answers code memory exit
+    by (refused r) e f = answers (refused r) code memory exit tt e (λ q g. f)
+    by (accepted s) e f = answers (accepted 0) code memory exit (omega arith) e (λ q g. absurd (never (sym g)))
+
+permission-in-range : (p : Permission) → permissionNumber p < 2 ^ 63
+permission-in-range Permission.Granted = omega arith
+permission-in-range Permission.SwitchSilences = omega arith
+permission-in-range Permission.QuietNow = omega arith
+permission-in-range Permission.QuietLater = omega arith
+permission-in-range Permission.SwitchBefore = omega arith
+permission-in-range Permission.WrongLength = omega arith
+
+asked-in-range : (o : Outcome Permission) → InRange (andThen o (λ p. accepted (permissionNumber p)))
+asked-in-range (refused r) = tt
+asked-in-range (accepted p) = permission-in-range p
 
 -- ---- a centre and a busy fraction are in range
 
@@ -161,6 +195,13 @@ pub record EveryCall : Type 0 where
   pub append-report : EachAnswers 1 Append-report.Kinds.ps Append-report.Reads.Post (λ κs a. now (a .0)) (λ κs e. now (e .0))
   pub reply-to-tpc-request : EachAnswers 2 Reply-to-tpc-request.Kinds.ps Reply-to-tpc-request.Reads.Post (λ κs a. now (a .1 .1 .1 .1 .1 .0)) (λ κs e. now (e .1 .1 .1 .1 .1 .0))
   pub reply-to-measurement-request : EachAnswers 2 Reply-to-measurement-request.Kinds.ps Reply-to-measurement-request.Reads.Post (λ κs a. now (a .1 .1 .1 .1 .1 .1 .1 .1 .1 .1 .1 .1 .1 .1 .1 .0)) (λ κs e. now (e .1 .1 .1 .1 .1 .1 .1 .1 .1 .1 .1 .1 .1 .1 .1 .0))
+  pub station-size : EachAnswers 0 Station-size.Kinds.ps Station-size.Reads.Post (λ κs a. []) (λ κs e. [])
+  pub station-start : EachAnswers 1 Station-start.Kinds.ps Station-start.Reads.Post (λ κs a. now (a .1 .1 .1 .1 .0)) (λ κs e. now (e .1 .1 .1 .1 .0))
+  pub station-take : EachAnswers 2 Station-take.Kinds.ps Station-take.Reads.Post (λ κs a. now (a .0)) (λ κs e. now (e .0))
+  pub station-advance : EachAnswers 1 Station-advance.Kinds.ps Station-advance.Reads.Post (λ κs a. now (a .0)) (λ κs e. now (e .0))
+  pub station-ask : EachAnswers 1 Station-ask.Kinds.ps Station-ask.Reads.Post (λ κs a. []) (λ κs e. [])
+  pub station-reply-to-tpc-request : EachAnswers 3 Station-reply-to-tpc-request.Kinds.ps Station-reply-to-tpc-request.Reads.Post (λ κs a. now (a .1 .1 .1 .1 .0)) (λ κs e. now (e .1 .1 .1 .1 .0))
+  pub station-reply-to-measurement-request : EachAnswers 3 Station-reply-to-measurement-request.Kinds.ps Station-reply-to-measurement-request.Reads.Post (λ κs a. now (a .1 .1 .1 .1 .1 .1 .1 .1 .1 .1 .1 .1 .1 .0)) (λ κs e. now (e .1 .1 .1 .1 .1 .1 .1 .1 .1 .1 .1 .1 .1 .0))
   pub busy-fraction : EachAnswers 0 Busy-fraction.Kinds.ps Busy-fraction.Reads.Post (λ κs a. []) (λ κs e. [])
   pub rpi-densities : EachAnswers 1 Rpi-densities.Kinds.ps Rpi-densities.Reads.Post (λ κs a. now (a .1 .1 .1 .1 .1 .1 .1 .1 .1 .0)) (λ κs e. now (e .1 .1 .1 .1 .1 .1 .1 .1 .1 .0))
   pub centre : EachAnswers 0 Centre.Kinds.ps Centre.Reads.Post (λ κs a. []) (λ κs e. [])
@@ -199,6 +240,13 @@ every-call =
       append-report = λ κs a e x g p. put-answers _ (fewer (g .0)) p;
       reply-to-tpc-request = λ κs a e x g p. given-answers _ (fewer (g .1 .1 .1 .1 .1 .0)) p;
       reply-to-measurement-request = λ κs a e x g p. given-answers _ (fewer (g .1 .1 .1 .1 .1 .1 .1 .1 .1 .1 .1 .1 .1 .1 .1 .0)) p;
+      station-size = λ κs a e x g p. answers (accepted size) x [] [] (omega arith) p (λ r f. refl);
+      station-start = λ κs a e x g p. on-station-answers p;
+      station-take = λ κs a e x g p. on-station-answers p;
+      station-advance = λ κs a e x g p. on-station-answers p;
+      station-ask = λ κs a e x g p. answers (andThen (askedIn (a .1 .0) (now (a .0))) (λ q. accepted (permissionNumber q))) x [] [] (asked-in-range (askedIn (a .1 .0) (now (a .0)))) p (λ r f. refl);
+      station-reply-to-tpc-request = λ κs a e x g p. given-answers _ (fewer (g .1 .1 .1 .1 .0)) p;
+      station-reply-to-measurement-request = λ κs a e x g p. given-answers _ (fewer (g .1 .1 .1 .1 .1 .1 .1 .1 .1 .1 .1 .1 .1 .0)) p;
       busy-fraction = λ κs a e x g p. answers (busyOf (a .1 .0) (a .0)) x [] [] (busy-in-range (a .1 .0) (a .0)) p (λ r f. refl);
       rpi-densities = λ κs a e x g p. given-answers _ (fewer (g .1 .1 .1 .1 .1 .1 .1 .1 .1 .0)) p;
       centre = λ κs a e x g p. answers (centreOf (a .0)) x [] [] (centre-in-range (a .0)) p (λ r f. refl);

@@ -3,13 +3,11 @@ use mathlib.Core.Bool.{Bool}
 use mathlib.Core.List.{List, [], _∷_, _++_}
 use Prim.Native.Nat.{ℕ}
 use Rattle.answer.specs.Checks.{Outcome, refused, accepted, pick}
-use Rattle.beacon.specs.Notices.{elementless, withReport, withSwitch}
-use Rattle.beacon.specs.declared.MaybePower.{MaybePower}
+use Rattle.beacon.specs.Notices.{elementless, withReport, withSwitch, heldPower}
 use Rattle.beacon.specs.declared.MaybeReport.{MaybeReport}
 use Rattle.beacon.specs.declared.MaybeSwitch.{MaybeSwitch}
 use Rattle.beacon.specs.declared.Notice.{Notice}
 use Rattle.element.specs.ChannelSwitch.{switchContents}
-use Rattle.element.specs.PowerConstraint.{powerContents}
 use Rattle.element.specs.TpcReport.{tpcReportContents}
 use Rattle.frame.specs.declared.Frame.{Frame}
 use Rattle.frame.specs.declared.Reading.{Reading}
@@ -38,11 +36,7 @@ fieldsOf (Frame.TpcRequest token) = fields 4 token 0 noNotice
 fieldsOf (Frame.TpcReport token t) = fields 5 token 0 (withReport noNotice t)
 fieldsOf (Frame.ChannelSwitch s) = fields 6 0 0 (withSwitch noNotice s)
 
--- what may be absent: 1 and its contents where it is there, and zeros where it is not
-abbrev pub heldPower : MaybePower → List ℕ
-heldPower MaybePower.Absent = 0 ∷ 0 ∷ []
-heldPower (MaybePower.Is p) = 1 ∷ powerContents p
-
+-- what may be absent: 1 and its contents where it is there, and zeros where it is not, as `heldPower`
 abbrev pub heldReport : MaybeReport → List ℕ
 heldReport MaybeReport.Absent = 0 ∷ 0 ∷ 0 ∷ []
 heldReport (MaybeReport.Is t) = 1 ∷ tpcReportContents t

@@ -7,3 +7,4 @@ pub mod FrameFields
 pub mod Given
 pub mod IbssFields
 pub mod SignedAnswers
+pub mod Stations

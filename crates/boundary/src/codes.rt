@@ -2,7 +2,10 @@
 ghost use mathlib.Core.Path.{_≡_};
 ghost use Rattle.octets.specs.Writing.{wroteTold};
 ghost use Rattle.boundary.specs.Codes.{codeOf, refusalCode, addressOf};
+ghost use Rattle.boundary.specs.Stations.{answerTold, verdictTold};
+use answer::Answer;
 use answer::Refusal;
+use answer::Verdict;
 use octets::Wrote;
 
 pub fn refused(refusal: Refusal) -> u64
@@ -17,6 +20,27 @@ pub fn wrote(answer: Wrote) -> u64
     match answer {
         Wrote::Refused(refusal) => refused(refusal),
         Wrote::Length(count) => count as u64,
+    }
+}
+
+pub fn answered(answer: Answer) -> u64
+    ensures { λ r. ⌜ r ≡ codeOf (answerTold answer) ⌝ }
+{
+    match answer {
+        Answer::Refused(refusal) => refused(refusal),
+        Answer::Accepted => 0,
+    }
+}
+
+pub fn judged(verdict: Verdict) -> u64
+    ensures { λ r. ⌜ r ≡ codeOf (verdictTold verdict) ⌝ }
+{
+    match verdict {
+        Verdict::Refused(fault) => {
+            let refusal = fault.refusal;
+            refused(refusal)
+        }
+        Verdict::Accepted => 0,
     }
 }
 

@@ -2,9 +2,8 @@
 ghost use mathlib.Core.Bool.{true};
 ghost use mathlib.Core.Path.{_≡_};
 ghost use Rattle.octets.specs.Writing.{Written};
-ghost use Rattle.boundary.specs.FrameFields.{flag, fields, fieldsOf, heldPower, heldReport, heldSwitch, fieldOctets};
+ghost use Rattle.boundary.specs.FrameFields.{flag, fields, fieldsOf, heldReport, heldSwitch, fieldOctets};
 use answer::Refusal;
-use beacon::MaybePower;
 use beacon::MaybeReport;
 use beacon::MaybeSwitch;
 use beacon::Notice;
@@ -81,16 +80,7 @@ pub fn of_frame(frame: Frame) -> Fields
     }
 }
 
-// What may be absent: 1 and its contents where it is there, and zeros where it is not.
-fn held_power(power: MaybePower) -> [u8; 2]
-    ensures { λ r. ⌜ r ≡ heldPower power ⌝ }
-{
-    match power {
-        MaybePower::Absent => [0, 0],
-        MaybePower::Is(constraint) => [1, constraint.decibels],
-    }
-}
-
+// What may be absent: 1 and its contents where it is there, and zeros where it is not, as a Power Constraint (`MaybePower::to_octets`).
 fn held_report(report: MaybeReport) -> [u8; 3]
     ensures { λ r. ⌜ r ≡ heldReport report ⌝ }
 {
@@ -146,7 +136,7 @@ pub fn put(fields: Fields, broadcast: bool, quiets: u64, out: &mut [u8]) -> Wrot
     octets::put(true, &timestamp, out, TIMESTAMP);
     let capability = octets::octets16(notice.capability);
     octets::put(true, &capability, out, CAPABILITY);
-    let power = held_power(power);
+    let power = power.to_octets();
     octets::put(true, &power, out, POWER);
     let report = held_report(report);
     octets::put(true, &report, out, REPORT);

@@ -12,6 +12,7 @@ mod numbers;
 mod reading;
 mod received;
 mod replies;
+mod stations;
 mod whole;
 
 pub use bodies::oneiralth_append_report;
@@ -42,3 +43,10 @@ pub use reading::oneiralth_read_report;
 pub use reading::oneiralth_read_request;
 pub use replies::oneiralth_reply_to_measurement_request;
 pub use replies::oneiralth_reply_to_tpc_request;
+pub use stations::oneiralth_station_advance;
+pub use stations::oneiralth_station_ask;
+pub use stations::oneiralth_station_reply_to_measurement_request;
+pub use stations::oneiralth_station_reply_to_tpc_request;
+pub use stations::oneiralth_station_size;
+pub use stations::oneiralth_station_start;
+pub use stations::oneiralth_station_take;

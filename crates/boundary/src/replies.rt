@@ -28,7 +28,7 @@ pub extern "C" fn oneiralth_reply_to_tpc_request(
 }
 
 // 0 the caller refuses, 1 a map, 2 a busy time; every other number stands for the eight times.
-fn finding(number: u8, value: u32) -> Finding
+pub fn finding(number: u8, value: u32) -> Finding
     ensures { λ r. ⌜ r ≡ findingGiven number value ⌝ }
 {
     if number == 0 {

@@ -3,7 +3,7 @@ use mathlib.Core.List.{List, [], _++_, append-assoc, append-nil}
 use mathlib.Core.Path.{_≡_, sym, ap, ap₂, subst, _∙_}
 use Prim.Native.Nat.{ℕ, _+_, _-_, _≤_}
 use native.Mathlib.Omega.{arith}
-use lib.ListN.{length, take, drop, length-append, length-drop}
+use lib.ListN.{length, take, drop, length-append}
 use lib.Seq.{length-take-le, take-at, drop-append-add, drop-drop}
 use Rattle.octets.specs.Writing.{over}
 use Rattle.capture.specs.CodeTerms.Putting.{OctetsPut, piece, PiecesPut}
@@ -11,17 +11,6 @@ use Rattle.capture.specs.CodeTerms.Putting.{OctetsPut, piece, PiecesPut}
 -- what was put of octets was put of equal ones
 pub put-as : {os os' : List ℕ} {at : ℕ} {out : List ℕ} {end : ℕ} {exit : List ℕ} → os ≡ os' → OctetsPut os at out end exit → OctetsPut os' at out end exit
 put-as {at} {out} {end} {exit} e p = subst (λ (xs : List ℕ). OctetsPut xs at out end exit) e p
-
--- the buffer stays as long as it was
-pub over-length : (out : List ℕ) (at : ℕ) (os : List ℕ) → at + length os ≤ length out → length (over out at os) ≡ length out
-over-length out at os fits =
-    omega (
-      arith,
-      length-append (take at out ++ os) (drop (at + length os) out),
-      length-append (take at out) os,
-      length-take-le at out (omega arith),
-      length-drop (at + length os) out,
-    )
 
 -- what comes along after the first octets makes no difference where the next ones are put over it
 module _ (out : List ℕ) (at : ℕ) (xs ys zs : List ℕ) (fits : at + length xs + length zs ≤ length out) (covered : length ys ≤ length zs) where

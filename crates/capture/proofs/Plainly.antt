@@ -12,7 +12,8 @@ use Rattle.answer.specs.Checks.{pick}
 use Rattle.answer.specs.declared.Answer.{Answer}
 use Rattle.capture_record.specs.Entries.{Noted, advancing, asking}
 use Rattle.capture_record.specs.Records.{Records, recordsIn}
-use Rattle.capture.proofs.Following.{over-length, put-over}
+use Rattle.octets.proofs.Storing.{over-length}
+use Rattle.capture.proofs.Following.{put-over}
 use Rattle.capture.specs.Rooms.{lineRoom}
 use Rattle.capture.specs.CodeTerms.Numerals.{Spells}
 use Rattle.capture.specs.declared.words.Word.{Word}

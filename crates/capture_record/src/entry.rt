@@ -1,7 +1,5 @@
 // What a record notes, by its kind (document 01: 1 advance (2), 2 frame, 3 ask (2), 4 start (15: own address, AP, channel, B)).
 ghost use mathlib.Core.Path.{_≡_};
-ghost use Prim.Native.Nat.{_≤_};
-ghost use Rattle.octets.specs.Numbers.{octetsFrom};
 ghost use Rattle.capture_record.specs.Entries.{settingsOf, entryTold, entryMeans};
 
 // A frame's octets and a start's settings stay in the contents.
@@ -22,27 +20,12 @@ pub struct Settings {
     pub interval: u16,
 }
 
-// The address from a place on.
-fn address_in(contents: &[u8], at: usize) -> [u8; 6]
-    requires { ⌜ at ≤ 6 ⌝ }
-    ensures { λ r. ⌜ r ≡ octetsFrom 6 at (now (contents .entry)) ⌝ }
-{
-    [
-        octets::octet_at(contents, at),
-        octets::octet_at(contents, at + 1),
-        octets::octet_at(contents, at + 2),
-        octets::octet_at(contents, at + 3),
-        octets::octet_at(contents, at + 4),
-        octets::octet_at(contents, at + 5),
-    ]
-}
-
 // The settings in the contents of a start.
 pub fn settings_in(contents: &[u8]) -> Settings
     ensures { λ r. ⌜ r ≡ settingsOf (now (contents .entry)) ⌝ }
 {
-    let own = address_in(contents, 0);
-    let ap = address_in(contents, 6);
+    let own = octets::address_at(contents, 0);
+    let ap = octets::address_at(contents, 6);
     Settings {
         own,
         ap,

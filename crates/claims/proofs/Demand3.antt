@@ -43,7 +43,7 @@ start-accepted own ap' b channel e =
     (either (startForbids own ap' b channel))
 
 module _ (s : Settings) where
-  leaves-start : (r : Station) → Starts s r → (r ≡ recordAfter s []) × Valid r
+  pub leaves-start : (r : Station) → Starts s r → (r ≡ recordAfter s []) × Valid r
   unfolding recordFrom
   leaves-start r (κs, a, x, e, promise, (own, ap', interval, channel, accepted, result)) =
       let same : x ≡ started (startMeans (s .own) (s .ap) (s .interval) (s .channel)) = rw (← own, ← ap', ← interval, ← channel) (promise .0) in (
@@ -61,7 +61,7 @@ module _ (s : Settings) where
       let same : x ≡ advanceOf before n = rw (← self, ← units) (promise .0) in
       (sym result ∙ ap (λ (y : Stepped). y .station) same, subst Valid result (promise .1))
 
-  answers-ask : (r : Station) (n : ℕ) (p : Permission) → Asks r n p → p ≡ permissionOf r n
+  pub answers-ask : (r : Station) (n : ℕ) (p : Permission) → Asks r n p → p ≡ permissionOf r n
   answers-ask r n p (κs, a, x, e, promise, (self, units, result)) = sym result ∙ rw (← self, ← units) promise
 
   -- ---- any calls

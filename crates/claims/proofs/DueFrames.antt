@@ -5,7 +5,7 @@ use mathlib.Core.List.{List}
 use mathlib.Core.Path.{_≡_, refl, sym, ap, _∙_, subst}
 use Prim.Native.Nat.{ℕ, _-_}
 use borrow.Author.Tests.{not-false}
-use lib.ListN.{take, drop, take-append-drop}
+use lib.ListN.{take, drop}
 use Rattle.action.specs.Openings.{fixedFields}
 use Rattle.answer.proofs.Booleans.{clash, neither}
 use Rattle.answer.proofs.Judged.{never, passed, kept}
@@ -29,8 +29,8 @@ use Rattle.measurement_element.proofs.RequestTrip.{request-trip}
 use Rattle.measurement_element.specs.MeasurementRequest.{requestMeans, requestForbids, RequestFits}
 use Rattle.measurement_element.specs.declared.measurement_request.Request.{Request}
 use Rattle.octets.specs.Numbers.{Octets}
-use Rattle.walk.proofs.RunLaws.{octets-front, octets-after}
 use Rattle.reply.specs.Due.{Owed, asks, breaks, isReturned, hasCategory, orReturn, afterHeader, dueMeans, dueIn}
+use Rattle.claims.proofs.OctetsWithin.{octets-take, octets-drop}
 
 first-holds : (a b : Bool) → (a || b) ≡ true → b ≡ false → a ≡ true
 first-holds true b e k = refl
@@ -87,12 +87,6 @@ due-asks own ap' f body e = by (actionMeans (bodyOf f)) (owed-by-station own ap'
     by (accepted b) k = cc
 
 -- ---- an element of its Measurement Request is what some of its octets mean
-
-octets-take : (n : ℕ) (os : List ℕ) → Octets os → Octets (take n os)
-octets-take n os o = octets-front (take n os) (drop n os) (subst Octets (sym (take-append-drop n os)) o)
-
-octets-drop : (n : ℕ) (os : List ℕ) → Octets os → Octets (drop n os)
-octets-drop n os o = octets-after (take n os) (drop n os) (subst Octets (sym (take-append-drop n os)) o)
 
 record Said (f : List ℕ) (q : Request) : Type 0 where
   contents : List ℕ

@@ -9,7 +9,7 @@ use native.Mathlib.Omega.{arith}
 use lib.ListN.{replicate}
 use Rattle.answer.proofs.Booleans.{either, or-go}
 use Rattle.answer.specs.Checks.{Outcome, refused, accepted, pick, andThen, checked}
-use Rattle.answer.specs.Faults.{Placed}
+use Rattle.answer.specs.Faults.{Placed, verdictOf}
 use Rattle.action.specs.Openings.{opensWith}
 use Rattle.element.specs.ChannelSwitch.{switchMeans}
 use Rattle.frame.specs.Actions.{actionMeans}
@@ -31,7 +31,6 @@ use Rattle.table.proofs.StaysApart.{some-same}
 use Rattle.table.specs.Tables.{withRows, onFirst, stationOf, readerOf, hearing, heardRows, takeMeans, taken, takeOf, askMeans}
 use Rattle.table.specs.Validity.{ValidTable}
 use Rattle.table.specs.declared.Table.{Table}
-use Rattle.claims.specs.Joinings.{verdictOf}
 use Rattle.claims.specs.Moments.{ours}
 use Rattle.claims.specs.Records.{recordFrom}
 use Rattle.claims.specs.TableHistories.{madeFor, historyOf, historyFor, Stay, joinedAt}

@@ -15,6 +15,7 @@ pub mod Cut
 pub mod Demand3
 pub mod DueFrames
 pub mod EitherOrder
+pub mod EitherWaysMeet
 pub mod Elements
 pub mod ElementsBefore
 pub mod ErrorReturns
@@ -22,6 +23,7 @@ pub mod FedFilesListed
 pub mod Filtered
 pub mod FilteredIbss
 pub mod Following
+pub mod HeardFits
 pub mod HistoriesTell
 pub mod IbssReadings
 pub mod IbssReplies
@@ -36,9 +38,11 @@ pub mod MemberFollows
 pub mod Merged
 pub mod MergedLists
 pub mod MergedStations
+pub mod MomentsFit
 pub mod MomentsHold
 pub mod NoticeFields
 pub mod Numbers
+pub mod OctetsWithin
 pub mod OneAddress
 pub mod OneOutcomeCaptures
 pub mod OneOutcomeElements
@@ -47,6 +51,7 @@ pub mod OneOutcomeLeaves
 pub mod OneOutcomeLent
 pub mod OneOutcomeMembers
 pub mod OneOutcomeOwners
+pub mod OneOutcomeRecords
 pub mod OneOutcomeTables
 pub mod OneOutcomeWalk
 pub mod OneRecord
@@ -78,6 +83,7 @@ pub mod SoundBefore
 pub mod StationFollows
 pub mod StationWitnesses
 pub mod Stations
+pub mod StaysFit
 pub mod TableAnswers
 pub mod TableDemand3
 pub mod TableMeans

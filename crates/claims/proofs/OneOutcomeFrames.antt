@@ -18,6 +18,7 @@ use Rattle.action.specs.Openings.{Opens, switching, with, openingTold}
 use Rattle.action.specs.declared.Opening.{Opening}
 use Rattle.answer.specs.Checks.{Outcome, refused, accepted}
 use Rattle.answer.specs.Faults.{Placed}
+use Rattle.beacon.proofs.MaybePower.to_octets as Power-to-octets
 use Rattle.beacon.proofs.read as Beacon-read
 use Rattle.measurement_element.specs.MeasurementRequest.{requestTold}
 use Rattle.measurement_element.specs.declared.measurement_request.Reading as RequestReading
@@ -110,6 +111,9 @@ header-sender κs a e f x y p q = once p q
 
 pub header-read : OneResult 1 Header-read.Kinds.ps Header-read.Kinds.r Header-read.Reads.Post
 header-read κs a e f x y p q = told-once headerTold header-of header-told p q
+
+pub power-to-octets : OneResult 0 Power-to-octets.Kinds.ps Power-to-octets.Kinds.r Power-to-octets.Reads.Post
+power-to-octets κs a e f x y p q = once p q
 
 pub beacon-read : OneResult 1 Beacon-read.Kinds.ps Beacon-read.Kinds.r Beacon-read.Reads.Post
 beacon-read κs a e f x y p q = once p q

@@ -16,10 +16,13 @@ use Rattle.fraction.proofs.busy_fraction as Busy-fraction
 use Rattle.fraction.proofs.rpi_densities as Rpi-densities
 use Rattle.fraction.specs.Fractions as Fractions
 use Rattle.fraction.specs.declared.Fraction.{Fraction}
+use Rattle.octets.proofs.address_at as Address-at
 use Rattle.octets.proofs.number16 as Number16
+use Rattle.octets.proofs.number32 as Number32
 use Rattle.octets.proofs.number64 as Number64
 use Rattle.octets.proofs.octet_at as Octet-at
 use Rattle.octets.proofs.octets16 as Octets16
+use Rattle.octets.proofs.octets32 as Octets32
 use Rattle.octets.proofs.octets64 as Octets64
 use Rattle.octets.proofs.from_signed as From-signed
 use Rattle.octets.proofs.to_signed as To-signed
@@ -48,14 +51,23 @@ verdict-offset κs a e f x y p q = once p q
 pub octet-at : OneResult 1 Octet-at.Kinds.ps Octet-at.Kinds.r Octet-at.Reads.Post
 octet-at κs a e f x y p q = once p q
 
+pub address-at : OneResult 1 Address-at.Kinds.ps Address-at.Kinds.r Address-at.Reads.Post
+address-at κs a e f x y p q = once p q
+
 pub number16 : OneResult 1 Number16.Kinds.ps Number16.Kinds.r Number16.Reads.Post
 number16 κs a e f x y p q = once p q
+
+pub number32 : OneResult 1 Number32.Kinds.ps Number32.Kinds.r Number32.Reads.Post
+number32 κs a e f x y p q = once p q
 
 pub number64 : OneResult 1 Number64.Kinds.ps Number64.Kinds.r Number64.Reads.Post
 number64 κs a e f x y p q = once p q
 
 pub octets16 : OneResult 0 Octets16.Kinds.ps Octets16.Kinds.r Octets16.Reads.Post
 octets16 κs a e f x y p q = once p q
+
+pub octets32 : OneResult 0 Octets32.Kinds.ps Octets32.Kinds.r Octets32.Reads.Post
+octets32 κs a e f x y p q = once p q
 
 pub octets64 : OneResult 0 Octets64.Kinds.ps Octets64.Kinds.r Octets64.Reads.Post
 octets64 κs a e f x y p q = once p q

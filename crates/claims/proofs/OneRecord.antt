@@ -1,17 +1,17 @@
 -- The history says everything: there is one valid record that agrees with it. Assumes nothing.
-use mathlib.Core.List.{List, [], _∷_, _++_}
+use mathlib.Core.List.{List, [], _∷_}
 use mathlib.Core.Logic.{inl, inr}
 use mathlib.Core.Path.{_≡_, refl, sym, ap, ap₂, _∙_, subst}
 use Prim.Native.Nat.{ℕ, _-_, _≤_}
 use native.Mathlib.Omega.{arith}
-use lib.ListN.{length, replicate, take-append-drop}
-use lib.Seq.{length-take-le}
-use Rattle.beacon.specs.Beacons.{Told, quietLimit}
+use lib.ListN.{length}
+use Rattle.beacon.specs.Beacons.{Told}
 use Rattle.beacon.specs.declared.MaybePower.{MaybePower}
 use Rattle.element.specs.declared.quiet.Quiet.{Quiet}
 use Rattle.pending.specs.declared.Pending.{Pending}
 use Rattle.schedule.specs.declared.Schedule.{Schedule}
-use Rattle.station.specs.Stations.{inUse, noSchedule}
+use Rattle.station.specs.Stations.{inUse, slotted}
+use Rattle.station.proofs.InUse.{in-use-length, in-use-slotted}
 use Rattle.station.specs.Validity.{Valid}
 use Rattle.station.specs.declared.Station.{Station}
 use Rattle.capture_record.specs.declared.entry.Settings.{Settings}
@@ -45,15 +45,6 @@ stationOf own ap' interval clock channel power pending schedules count until =
       count = count;
       until = until;
     }
-
--- what the slots hold follows from the schedules in use
-as-many : (r : Station) → Valid r → length (inUse r) ≡ r .count
-as-many r v = length-take-le (r .count) (r .schedules) (omega (arith, v .slots, v .few))
-
-slots-hold : (r : Station) → Valid r → r .schedules ≡ inUse r ++ replicate (quietLimit - length (inUse r)) noSchedule
-slots-hold r v =
-    sym (take-append-drop (r .count) (r .schedules))
-    ∙ ap (λ (xs : List Schedule). inUse r ++ xs) (v .rest-blank ∙ ap (λ (n : ℕ). replicate (quietLimit - n) noSchedule) (sym (as-many r v)))
 
 -- the same in all but the addresses
 pub record Alike (r r' : Station) : Type 0 where
@@ -108,8 +99,8 @@ module _ (l : Listener) (sound : Sound l) (pos : 1 ≤ l .interval) where
           channel = channel-one l sound pos h (r .channel) (r' .channel) (a .channel-told) (a' .channel-told);
           power = power-one l sound pos h (r .power) (r' .power) (a .power-told) (a' .power-told);
           pending = pending-one l sound pos h (r .pending) (r' .pending) (a .pending-told) (a' .pending-told);
-          schedules = slots-hold r v ∙ ap (λ (xs : List Schedule). xs ++ replicate (quietLimit - length xs) noSchedule) used ∙ sym (slots-hold r' v');
-          count = sym (as-many r v) ∙ ap (λ (xs : List Schedule). length xs) used ∙ as-many r' v';
+          schedules = sym (in-use-slotted r v) ∙ ap slotted used ∙ in-use-slotted r' v';
+          count = sym (in-use-length r v) ∙ ap (λ (xs : List Schedule). length xs) used ∙ in-use-length r' v';
           until = until-one (r .until) (r' .until) (a .until-told) (a' .until-told);
         }
 

@@ -21,6 +21,7 @@ use Rattle.station.proofs.Station.advance as Advance
 use Rattle.station.proofs.Station.ask as Ask
 use Rattle.station.proofs.Station.clear_until as Clear-until
 use Rattle.station.proofs.Station.heard as Heard
+use Rattle.station.proofs.Station.is_bad_start as Is-bad-start
 use Rattle.station.proofs.Station.start as Start
 use Rattle.station.proofs.Station.take as Take
 use Rattle.station.proofs.asking.Permission.number as Permission-number
@@ -34,6 +35,9 @@ use Rattle.station.specs.declared.clock.Stepped.{Stepped}
 use Rattle.station.specs.declared.taking.Taken.{Taken}
 use Rattle.answer.specs.Outcomes.{OneResult}
 use Rattle.claims.proofs.Same.{once}
+
+pub is-bad-start : OneResult 0 Is-bad-start.Kinds.ps Is-bad-start.Kinds.r Is-bad-start.Reads.Post
+is-bad-start κs a e f x y p q = once p q
 
 pub start : OneResult 0 Start.Kinds.ps Start.Kinds.r Start.Reads.Post
 start κs a e f x y p q = once (p .0) (q .0)

@@ -7,8 +7,8 @@ use Prim.Native.Nat.{ℕ, _≤_}
 use borrow.Author.Tests.{le-ltb}
 use lib.Dec.{eqb}
 use Rattle.answer.proofs.Booleans.{either}
-use Rattle.answer.specs.Checks.{Outcome, refused, accepted, pick, andThen, checked}
-use Rattle.answer.specs.Faults.{Placed, faultNowhere, nowhere, placedPast}
+use Rattle.answer.specs.Checks.{Outcome, refused, accepted, pick, andThen, checked, answerOf}
+use Rattle.answer.specs.Faults.{Placed, faultNowhere, nowhere, placedPast, verdictOf}
 use Rattle.answer.specs.declared.Answer.{Answer}
 use Rattle.answer.specs.declared.Refusal.{Refusal}
 use Rattle.answer.specs.declared.Verdict.{Verdict}
@@ -33,7 +33,7 @@ use Rattle.table.specs.Validity.{ValidTable}
 use Rattle.table.specs.declared.Table.{Table}
 use Rattle.table.specs.declared.starting.Started.{Started}
 use Rattle.claims.specs.Histories.{tooFar}
-use Rattle.claims.specs.Joinings.{joinedIn, answerOf, verdictOf, tickAnswer, OnlyJoined}
+use Rattle.claims.specs.Joinings.{joinedIn, tickAnswer, OnlyJoined}
 use Rattle.claims.specs.Runs.{Called}
 use Rattle.claims.specs.TableRuns.{tick, take, tpc, measurement, TableAnswer, answered, judged, replied, Made, Does, TableRan}
 use Rattle.claims.proofs.Same.{answer}

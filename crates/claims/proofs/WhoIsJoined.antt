@@ -10,7 +10,7 @@ use lib.Dec.{eqb}
 use lib.ListN.{replicate}
 use Rattle.answer.proofs.Booleans.{clash, either}
 use Rattle.answer.proofs.Judged.{passed, kept}
-use Rattle.answer.specs.Checks.{Outcome, refused, accepted, pick, _⇒_, checked, andThen}
+use Rattle.answer.specs.Checks.{Outcome, refused, accepted, pick, _⇒_, checked, andThen, answerOf}
 use Rattle.answer.specs.declared.Answer.{Answer}
 use Rattle.answer.specs.declared.Refusal.{Refusal}
 use Rattle.frame.specs.Frames.{Sent}
@@ -30,7 +30,7 @@ use Rattle.table.specs.Tables.{withRows, someRow, onFirst, isJoined, stationOf,
 use Rattle.table.specs.Validity.{ValidTable}
 use Rattle.table.specs.declared.Table.{Table}
 use Rattle.table.specs.declared.asking.Asked.{Asked}
-use Rattle.claims.specs.Joinings.{accepts, comes, goes, joinedAfter, joinedIn, acceptedOf, anybody, isFull, answerOf, joinAnswer, leaveAnswer}
+use Rattle.claims.specs.Joinings.{accepts, comes, goes, joinedAfter, joinedIn, acceptedOf, anybody, isFull, joinAnswer, leaveAnswer}
 use Rattle.claims.specs.TableRuns.{TableCall, join, leave, tick, take, question, tpc, measurement, TableAnswer, answered, asked, Made, Does, GoesOn, TableRan}
 use Rattle.claims.proofs.JoinedRows.{some-found, isIn, not-found, none-left, seats, seats-within, seats-same, one-more, one-less, none-free}
 use Rattle.claims.proofs.TableMeans.{askedAs, tableAnswers, tableAfter, through-checks, through-take, Meant, does-means, ap-kept, interval-kept, starts-empty}

@@ -7,14 +7,14 @@ use mathlib.Core.Path.{_≡_, refl, sym, ap, _∙_, subst}
 use Prim.Native.Nat.{ℕ}
 use native.Mathlib.Omega.{arith}
 use Rattle.answer.proofs.Booleans.{clash, either, both}
-use Rattle.answer.specs.Checks.{accepted, pick, _⇒_, checked}
+use Rattle.answer.specs.Checks.{accepted, pick, _⇒_, checked, answerOf}
 use Rattle.answer.specs.declared.Answer.{Answer}
 use Rattle.answer.specs.declared.Refusal.{Refusal}
 use Rattle.answer.specs.declared.Verdict.{Verdict}
 use Rattle.header.proofs.Addresses.{same-self, same-is}
 use Rattle.header.specs.Headers.{same}
 use Rattle.table.specs.declared.Table.{Table}
-use Rattle.claims.specs.Joinings.{accepts, comes, goes, joinedIn, answerOf, leaveAnswer}
+use Rattle.claims.specs.Joinings.{accepts, comes, goes, joinedIn, leaveAnswer}
 use Rattle.claims.specs.TableHistories.{Leaves, NeverLeaves, StaySince}
 use Rattle.claims.specs.TableRuns.{TableCall, join, leave, tick, take, question, tpc, measurement, TableAnswer, answered, judged, asked, replied, Made, Does, GoesOn, TableStarts, TableRan}
 use Rattle.claims.proofs.WhoIsJoined.{leave-exactly}

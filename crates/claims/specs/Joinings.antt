@@ -4,8 +4,7 @@ use mathlib.Core.List.{List, [], _∷_}
 use mathlib.Core.Path.{_≡_}
 use Prim.Native.Nat.{ℕ, suc, _+_}
 use lib.Dec.{eqb}
-use Rattle.answer.specs.Checks.{Outcome, refused, accepted, pick, _⇒_, judged}
-use Rattle.answer.specs.Faults.{Placed}
+use Rattle.answer.specs.Checks.{pick, _⇒_, judged, answerOf}
 use Rattle.answer.specs.declared.Answer.{Answer}
 use Rattle.answer.specs.declared.Refusal.{Refusal}
 use Rattle.answer.specs.declared.Verdict.{Verdict}
@@ -64,14 +63,6 @@ abbrev pub isFull : List Made → Bool
 isFull ms = eqb (acceptedOf (comes anybody) ms) (acceptedOf (goes anybody) ms + 16)
 
 -- ---- what is answered
-
-abbrev pub answerOf : {A : Type 0} → Outcome A → Answer
-answerOf (refused r) = Answer.Refused r
-answerOf (accepted a) = Answer.Accepted
-
-abbrev pub verdictOf : {A : Type 0} → Placed A → Verdict
-verdictOf (refused x) = Verdict.Refused x
-verdictOf (accepted a) = Verdict.Accepted
 
 -- "24 no free row, 25 address already joined, 26 address not joined; 15 comes first, and 25 before 24"
 -- 15 is that of document 01's start

@@ -1,6 +1,7 @@
 pub mod AnsweredRequests
 pub mod BeforeOne
 pub mod BodyCalls
+pub mod EitherWays
 pub mod ErrorReturns
 pub mod Exchanged
 pub mod FedFiles

@@ -26,21 +26,6 @@ const SA: usize = 10;
 
 const BSSID: usize = 16;
 
-// Six octets from a place on.
-fn address_at(frame: &[u8], at: usize) -> [u8; 6]
-    requires { ⌜ at ≤ 16 ⌝ }
-    ensures { λ r. ⌜ r ≡ octetsFrom 6 at (now (frame .entry)) ⌝ }
-{
-    [
-        octets::octet_at(frame, at),
-        octets::octet_at(frame, at + 1),
-        octets::octet_at(frame, at + 2),
-        octets::octet_at(frame, at + 3),
-        octets::octet_at(frame, at + 4),
-        octets::octet_at(frame, at + 5),
-    ]
-}
-
 // Whether three octets from a place on are these.
 fn are(frame: &[u8], at: usize, first: u8, second: u8, third: u8) -> bool
     requires { ⌜ at ≤ 19 ⌝ }
@@ -106,14 +91,14 @@ pub fn are_same(one: [u8; 6], other: [u8; 6]) -> bool
 pub fn receiver(frame: &[u8]) -> [u8; 6]
     ensures { λ r. ⌜ r ≡ da (now (frame .entry)) ⌝ }
 {
-    address_at(frame, DA)
+    octets::address_at(frame, DA)
 }
 
 // Who has sent the frame.
 pub fn sender(frame: &[u8]) -> [u8; 6]
     ensures { λ r. ⌜ r ≡ sa (now (frame .entry)) ⌝ }
 {
-    address_at(frame, SA)
+    octets::address_at(frame, SA)
 }
 
 // SA is not the AP, or, in an IBSS, has its group bit set.

@@ -2,6 +2,7 @@ pub mod Bits
 pub mod JoinSplit
 pub mod Overwriting
 pub mod Parts
+pub mod PartsBuilt
 pub mod Prefixed
 pub mod Storing
 pub mod SumLaws

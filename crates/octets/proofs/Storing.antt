@@ -6,7 +6,7 @@ use Prim.Native.Nat.{ℕ, _+_, _<_, _≤_}
 use native.Mathlib.Omega.{arith}
 use borrow.Author.Tests.{lt-ltb, le-ltb}
 use lib.ListN.{length, take, drop, length-append, length-drop}
-use lib.Seq.{take-at, take-append-seam, drop-append-add, drop-drop}
+use lib.Seq.{length-take-le, take-at, take-append-seam, drop-append-add, drop-drop}
 use Rattle.answer.proofs.Judged.{past, stop, done}
 use Rattle.answer.specs.Checks.{Outcome, refused, accepted}
 use Rattle.answer.specs.declared.Refusal.{Refusal}
@@ -53,10 +53,30 @@ module _ (os : List ℕ) (at : ℕ) (buffer : List ℕ) (fits : at + length os �
   unfolding left
   room-left = ap (λ (o : Outcome ℕ). after o os at buffer) room-answer
 
+-- octets put at a place that has room for them
+pub put-at : {part os : List ℕ} (at : ℕ) (buffer : List ℕ) {exit : List ℕ} → part ≡ os → at + length os ≤ length buffer → exit ≡ left true part at buffer
+    → exit ≡ over buffer at os
+put-at {part} {os} at buffer e fits w = w ∙ ap (λ (p : List ℕ). left true p at buffer) e ∙ room-left os at buffer fits
+
+-- the buffer stays as long as it was
+pub over-length : (buffer : List ℕ) (at : ℕ) (os : List ℕ) → at + length os ≤ length buffer → length (over buffer at os) ≡ length buffer
+over-length buffer at os h =
+    length-append (take at buffer ++ os) (drop (at + length os) buffer)
+    ∙ omega (arith, length-take-le at buffer (omega arith), length-append (take at buffer) os, length-drop (at + length os) buffer)
+
 -- ---- in front of a buffer
 
 pub filled-length : (os buffer : List ℕ) → length os ≤ length buffer → length (filled os buffer) ≡ length buffer
 filled-length os buffer h = length-append os (drop (length os) buffer) ∙ omega (arith, length-drop (length os) buffer)
+
+-- more after what was filled in is all of it filled in
+pub filled-again : (xs ys buffer : List ℕ) → filled (xs ++ ys) (filled xs buffer) ≡ filled (xs ++ ys) buffer
+filled-again xs ys buffer =
+    ap (λ (r : List ℕ). (xs ++ ys) ++ r)
+    (ap (λ (n : ℕ). drop n (filled xs buffer)) (length-append xs ys)
+    ∙ drop-append-add xs (drop (length xs) buffer) (length ys)
+    ∙ drop-drop (length ys) (length xs) buffer
+    ∙ ap (λ (n : ℕ). drop n buffer) (sym (length-append xs ys)))
 
 module _ (os buffer exit : List ℕ) (e : exit ≡ filled os buffer) where
   pub filled-inside : length exit ≡ length buffer → length os ≤ length buffer

@@ -1,7 +1,7 @@
-// Numbers of two and eight octets, out of a slice and into octets.
+// Numbers of two, four and eight octets and addresses, out of a slice and into octets.
 ghost use mathlib.Core.Path.{_≡_};
 ghost use mathlib.Core.List.{_∷_, []};
-ghost use Rattle.octets.specs.Numbers.{join, split, octet, number};
+ghost use Rattle.octets.specs.Numbers.{join, split, octet, octetsFrom, number};
 
 // The octet at a place; one past the end counts as 0.
 pub fn octet_at(octets: &[u8], at: usize) -> u8
@@ -42,6 +42,21 @@ pub fn number16(octets: &[u8], at: usize) -> u16
     join16(octets[at], octet_at(octets, at + 1))
 }
 
+// The number of four octets from a place on.
+pub fn number32(octets: &[u8], at: usize) -> u32
+    ensures { λ r. ⌜ r ≡ number 4 at (now (octets .entry)) ⌝ }
+{
+    if octets.len() <= at {
+        return 0;
+    }
+    join32(
+        octets[at],
+        octet_at(octets, at + 1),
+        octet_at(octets, at + 2),
+        octet_at(octets, at + 3),
+    )
+}
+
 // The number of eight octets from a place on.
 pub fn number64(octets: &[u8], at: usize) -> u64
     ensures { λ r. ⌜ r ≡ number 8 at (now (octets .entry)) ⌝ }
@@ -61,12 +76,44 @@ pub fn number64(octets: &[u8], at: usize) -> u64
     )
 }
 
+// The six octets of an address from a place on.
+pub fn address_at(octets: &[u8], at: usize) -> [u8; 6]
+    ensures { λ r. ⌜ r ≡ octetsFrom 6 at (now (octets .entry)) ⌝ }
+{
+    if octets.len() <= at {
+        return [0, 0, 0, 0, 0, 0];
+    }
+    [
+        octets[at],
+        octet_at(octets, at + 1),
+        octet_at(octets, at + 2),
+        octet_at(octets, at + 3),
+        octet_at(octets, at + 4),
+        octet_at(octets, at + 5),
+    ]
+}
+
 // A number's two octets.
 pub fn octets16(x: u16) -> [u8; 2]
     ensures { λ r. ⌜ r ≡ split 2 x ⌝ }
 {
     let x1 = x / 256;
     [(x % 256) as u8, (x1 % 256) as u8]
+}
+
+// A number's four octets.
+pub fn octets32(x: u32) -> [u8; 4]
+    ensures { λ r. ⌜ r ≡ split 4 x ⌝ }
+{
+    let x1 = x / 256;
+    let x2 = x1 / 256;
+    let x3 = x2 / 256;
+    [
+        (x % 256) as u8,
+        (x1 % 256) as u8,
+        (x2 % 256) as u8,
+        (x3 % 256) as u8,
+    ]
 }
 
 // A number's eight octets.

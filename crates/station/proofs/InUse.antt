@@ -1,5 +1,5 @@
--- The schedules in use, from one on, and the first unit that they cover. Assumes nothing.
-use mathlib.Core.List.{List, [], _∷_}
+-- The schedules in use: how many, from one on, and the first unit that they cover. Assumes nothing.
+use mathlib.Core.List.{List, [], _∷_, _++_}
 use mathlib.Core.Path.{_≡_, refl, sym, ap, _∙_}
 use Prim.Native.Nat.{ℕ, _+_, _-_, _<_, _≤_}
 use native.Mathlib.Nat.{le-refl}
@@ -7,15 +7,16 @@ use native.Mathlib.Numerals.{add-one}
 use native.Mathlib.Omega.{arith}
 use borrow.Author.Tests.{lt-ltb, le-ltb}
 use lib.Dec.{ltb}
-use lib.ListN.{length, take, drop, getD, drop-of-length-le, length-take}
+use lib.ListN.{length, take, drop, getD, replicate, drop-of-length-le, length-take, take-append-drop}
 use lib.Seq.{drop-cons, getD-take, length-take-le}
 use Rattle.answer.proofs.Booleans.{or-go, or-stop}
+use Rattle.beacon.specs.Beacons.{quietLimit}
 use Rattle.schedule.proofs.FirstUnit.{none-passes, first-at, first-or, first-same}
 use Rattle.schedule.specs.Schedules.{covered}
 use Rattle.schedule.specs.Units.{firstUnit}
 use Rattle.schedule.specs.declared.Schedule.{Schedule}
 use Rattle.station.specs.Asking.{coveredBy, quiet}
-use Rattle.station.specs.Stations.{noSchedule, inUse}
+use Rattle.station.specs.Stations.{noSchedule, slotted, inUse}
 use Rattle.station.specs.Validity.{Valid}
 use Rattle.station.specs.declared.Station.{Station}
 
@@ -64,3 +65,17 @@ module _ (s : Station) (a b : ℕ) where
   unfolding quiet
   runs-on h k =
       first-at (quiet s) a b a (le-refl a) h (λ u l m. absurd (omega arith)) (or-stop (ltb a (s .until)) _ (lt-ltb a (s .until) k))
+
+-- ---- of a valid station
+
+module _ (s : Station) (v : Valid s) where
+  -- as many schedules are in use as it counts
+  pub in-use-length : length (inUse s) ≡ s .count
+  in-use-length = length-take-le (s .count) (s .schedules) (omega (arith, v .slots, v .few))
+
+  -- the schedules in use and blank ones are all its schedules
+  pub in-use-slotted : slotted (inUse s) ≡ s .schedules
+  in-use-slotted =
+      ap (λ (n : ℕ). inUse s ++ replicate (quietLimit - n) noSchedule) in-use-length
+      ∙ ap (λ (xs : List Schedule). inUse s ++ xs) (sym (v .rest-blank))
+      ∙ take-append-drop (s .count) (s .schedules)

@@ -44,7 +44,7 @@ impl Station {
     }
 
     // The interval is 0, the channel is none, or an address is a group's.
-    fn is_bad_start(own: [u8; 6], ap: [u8; 6], interval: u16, channel: u8) -> bool
+    pub fn is_bad_start(own: [u8; 6], ap: [u8; 6], interval: u16, channel: u8) -> bool
         ensures { λ r. ⌜ r ≡ startForbids own ap interval channel ⌝ }
     {
         if interval == 0 {

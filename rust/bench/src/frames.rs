@@ -2,12 +2,12 @@
 
 use oneiralth::Settings;
 
-const OWN: [u8; 6] = [2, 0, 0, 0, 0, 1];
-const AP: [u8; 6] = [2, 0, 0, 0, 0, 9];
+pub const OWN: [u8; 6] = [2, 0, 0, 0, 0, 1];
+pub const AP: [u8; 6] = [2, 0, 0, 0, 0, 9];
 const INTERVAL: u16 = 100;
 
 /// A frame from the AP to the station.
-fn frame(subtype: u8, body: &[u8]) -> Vec<u8> {
+pub fn frame(subtype: u8, body: &[u8]) -> Vec<u8> {
     let mut frame = vec![subtype, 0, 0, 0];
     frame.extend_from_slice(&OWN);
     frame.extend_from_slice(&AP);

@@ -5,9 +5,14 @@
 //! - `list` is the twin's evening list of standard input, on standard output;
 //! - `read-proved COUNT` and `read-twin COUNT` read so many frames with the
 //!   proved library and with the twin, and write how many were accepted;
+//! - `advance-record COUNT` and `advance-twin COUNT` advance a station so many
+//!   times by 1, in its octets with the proved library and with the twin, and
+//!   write how often it was accepted; `ask-record COUNT` and `ask-twin COUNT` ask
+//!   it so many times for 1, and write how often it was granted;
 //! - `pcap COUNT` writes the same frames as a file that Wireshark reads.
 
 mod frames;
+mod stations;
 
 use std::io::{self, Read, Write};
 
@@ -41,6 +46,12 @@ fn read(count: usize, accepts: impl Fn(&[u8]) -> bool) -> io::Result<()> {
     writeln!(io::stdout(), "{}", accepted)
 }
 
+/// How many of `count` calls succeed.
+fn repeat(count: usize, mut call: impl FnMut() -> bool) -> io::Result<()> {
+    let succeeded = (0..count).filter(|_| call()).count();
+    writeln!(io::stdout(), "{}", succeeded)
+}
+
 /// A file of link type 105, which is 802.11 frames as they are.
 fn pcap(count: usize) -> io::Result<()> {
     let samples = frames::samples();
@@ -68,9 +79,16 @@ fn main() -> io::Result<()> {
         Some("list") => list(),
         Some("read-proved") => read(count, frames::proved_accepts),
         Some("read-twin") => read(count, frames::twin_accepts),
+        Some("advance-record") => repeat(count, stations::record_advances()),
+        Some("advance-twin") => repeat(count, stations::twin_advances()),
+        Some("ask-record") => repeat(count, stations::record_is_granted()),
+        Some("ask-twin") => repeat(count, stations::twin_is_granted()),
         Some("pcap") => pcap(count),
         _ => {
-            eprintln!("bench: 'sum', 'list', 'read-proved COUNT', 'read-twin COUNT' or 'pcap COUNT'");
+            eprintln!(
+                "bench: 'sum', 'list', 'read-proved COUNT', 'read-twin COUNT', 'advance-record COUNT', \
+                 'advance-twin COUNT', 'ask-record COUNT', 'ask-twin COUNT' or 'pcap COUNT'"
+            );
             std::process::exit(2);
         }
     }

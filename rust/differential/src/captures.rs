@@ -5,7 +5,7 @@ use crate::builder::{
     action, element, measurements, mutate, notice, padding, quiet, soup, vendors, Builder, Stage,
     ALL_ONES, BEACON, HEADER, NOTICE, PROBE_RESPONSE,
 };
-use crate::count::{Call, Count};
+use crate::count::{Asked, Call, Count};
 use crate::lend::{hex, lend, Left};
 use crate::rng::Rng;
 use crate::tape::{
@@ -135,7 +135,7 @@ fn tally(count: &mut Count, list: &[u8]) {
             "start" => count.note(Call::StartLine, answer),
             "advance" => count.note(Call::AdvanceLine, answer),
             "frame" => count.note(Call::FrameLine, answer),
-            "ask" if answer < 6 => count.note_ask(answer),
+            "ask" if answer < 6 => count.note_ask(Asked::Line, answer),
             "ask" => count.note(Call::AskLine, answer),
             "record" => count.note(Call::RecordLine, answer),
             "block" => count.note(Call::BlockLine, answer),

@@ -44,7 +44,23 @@ pub enum Call {
     IbssQuiet,
     DfsPair,
     WriteDfs,
+    RecordStart,
+    RecordTake,
+    RecordAdvance,
+    RecordAsk,
+    RecordTpc,
+    RecordMeasurement,
 }
+
+/// Who was asked to send: the station of a list, or one in its caller's octets.
+#[derive(Clone, Copy)]
+pub enum Asked {
+    Line,
+    Record,
+}
+
+/// In the order of `Asked`.
+const ASKED: [&str; 2] = ["line", "record"];
 
 /// What broke at a place: a frame to document 01's reader, a frame of an IBSS,
 /// or the element 41 of a beacon of an IBSS.
@@ -59,10 +75,11 @@ pub enum Reader {
 struct Can(&'static str, &'static [u8]);
 
 /// In the order of `Call`, with what cannot occur and why. All numbers occur
-/// somewhere. 14, 15, 17, 19 and 20 do in the lines of lists alone, since no
-/// other call has a clock to advance, a station to start or a block to read;
-/// 18 in replies alone; 1 to 12, 21 and 22 where frames are read.
-const CAN: [Can; 24] = [
+/// somewhere. 17, 19 and 20 do in the lines of lists alone, since no other call
+/// has a block or a record of a capture to read; 14 and 15 there and where a
+/// station is kept in octets, since nothing else has a clock or a start; 18 in
+/// replies alone; 1 to 12, 21 and 22 where frames are read.
+const CAN: [Can; 30] = [
     // Not 13: the safe call lends a buffer of its own, which is long enough.
     // Not 16: no index is asked for.
     Can("read", &[0, 1, 2, 3, 4, 5, 6, 7, 8, 9, 10, 11, 12, 21, 22]),
@@ -117,6 +134,15 @@ const CAN: [Can; 24] = [
     Can("pair", &[0, 1, 2, 3, 4, 5, 6, 7, 8, 9, 10, 11, 12, 13, 16, 21, 22]),
     // Not 9, as with the other elements.
     Can("dfs", &[0, 13, 16]),
+    // A station in octets. Not 16 at a start, which asks nothing of them but
+    // their number; 16 from all other calls where they hold no station.
+    Can("r-start", &[0, 13, 15]),
+    Can("r-frame", &[0, 1, 2, 3, 4, 5, 6, 7, 8, 9, 10, 11, 12, 16, 21, 22]),
+    Can("r-adv", &[0, 14, 16]),
+    // 0 stands for an answer, which the table of asks counts.
+    Can("r-ask", &[0, 16]),
+    Can("r-tpc", &[0, 1, 2, 3, 4, 13, 16, 18]),
+    Can("r-meas", &[0, 1, 2, 3, 4, 13, 16, 18]),
 ];
 
 /// A number that comes with a place, and the first and the last place that it
@@ -179,7 +205,8 @@ pub struct Count {
     answers: [[u64; NUMBERS]; CAN.len()],
     /// How often each number came with each place, by the reader.
     places: [Vec<[u64; NUMBERS]>; READERS.len()],
-    asks: [u64; ASKS],
+    /// How often each answer was given, by who was asked.
+    asks: [[u64; ASKS]; ASKED.len()],
 }
 
 impl Count {
@@ -188,7 +215,7 @@ impl Count {
             subjects: Vec::new(),
             answers: [[0; NUMBERS]; CAN.len()],
             places: std::array::from_fn(|_| vec![[0; NUMBERS]; LONGEST + 1]),
-            asks: [0; ASKS],
+            asks: [[0; ASKS]; ASKED.len()],
         }
     }
 
@@ -222,8 +249,8 @@ impl Count {
     }
 
     /// Notes the answer to an ask.
-    pub fn note_ask(&mut self, number: u8) {
-        if let Some(place) = self.asks.get_mut(usize::from(number)) {
+    pub fn note_ask(&mut self, asked: Asked, number: u8) {
+        if let Some(place) = self.asks[asked as usize].get_mut(usize::from(number)) {
             *place += 1;
         }
     }
@@ -371,9 +398,11 @@ impl Count {
             }
             println!();
         }
-        println!("\n   ask     all");
-        for (answer, times) in self.asks.iter().enumerate() {
-            println!("{:>6}{:>8}", answer, times);
+        let [line, record] = ASKED;
+        println!("\n   ask{line:>8}{record:>8}");
+        for answer in 0..ASKS {
+            let [line, record] = self.asks.map(|asks| asks[answer]);
+            println!("{answer:>6}{line:>8}{record:>8}");
         }
     }
 
@@ -433,9 +462,11 @@ impl Count {
                 }
             }
         }
-        for (answer, &times) in self.asks.iter().enumerate() {
-            if times == 0 {
-                faults.push(format!("no ask was answered by {}", answer));
+        for (asked, asks) in ASKED.iter().zip(&self.asks) {
+            for (answer, &times) in asks.iter().enumerate() {
+                if times == 0 {
+                    faults.push(format!("no ask of a {} was answered by {}", asked, answer));
+                }
             }
         }
         faults.extend(self.misplaced());

@@ -1,6 +1,7 @@
 //! Buffers that are lent to a call: every octet of them counts afterwards.
 
 use std::fmt;
+use std::ops::Range;
 
 /// Octets on both sides of what is lent. They belong to the same allocation,
 /// so that a write outside of the buffer changes them instead of other memory.
@@ -22,6 +23,13 @@ impl Left {
     /// Whether every octet is as it was, as it must be after a refusal.
     pub fn is_as_before(&self) -> bool {
         self.octets == self.before
+    }
+
+    /// Whether every octet is as it was but for these of the buffer, which may be
+    /// others.
+    pub fn is_as_before_but(&self, these: Range<usize>) -> bool {
+        let (first, after) = (GUARD + these.start, GUARD + these.end);
+        self.octets[..first] == self.before[..first] && self.octets[after..] == self.before[after..]
     }
 
     /// The octets of the buffer itself.

@@ -19,8 +19,12 @@ mod lend;
 mod numbers;
 mod pairs;
 mod raw;
+mod records;
 mod replies;
 mod rng;
+// The programs that write scenes use the rest of it.
+#[allow(dead_code)]
+mod scenes;
 mod tape;
 
 use count::Count;
@@ -34,6 +38,7 @@ fn main() {
     numbers::run(&mut count);
     captures::run(&mut count);
     ibss::run(&mut count);
+    records::run(&mut count);
     if !count.conclude() {
         std::process::exit(1);
     }

@@ -585,7 +585,7 @@ pub fn some_times(rng: &mut Rng, limit: u32) -> [u32; 8] {
     times
 }
 
-fn some_finding(rng: &mut Rng, duration: u16) -> Finding {
+pub fn some_finding(rng: &mut Rng, duration: u16) -> Finding {
     let limit = TU as u32 * u32::from(duration);
     match rng.below(8) {
         0 => Finding::Refused,
@@ -600,7 +600,7 @@ fn some_finding(rng: &mut Rng, duration: u16) -> Finding {
 
 /// The length of a buffer: one of those around reports, or one time in three
 /// around what an error return of this frame needs.
-fn some_length(rng: &mut Rng, frame: &[u8], reports: &[usize]) -> usize {
+pub fn some_length(rng: &mut Rng, frame: &[u8], reports: &[usize]) -> usize {
     if !rng.one_in(3) {
         return rng.pick(reports);
     }

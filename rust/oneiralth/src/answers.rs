@@ -34,7 +34,8 @@ pub const BUFFER_SHORT: Refusal = 13;
 pub const PAST_CLOCK: Refusal = 14;
 /// A station cannot be started so.
 pub const BAD_START: Refusal = 15;
-/// A record that cannot be written, impossible readings, an index past the last, a centre over channel 200.
+/// A record that cannot be written, impossible readings, an index past the last, a centre over channel 200, octets that
+/// hold no station.
 pub const IMPOSSIBLE: Refusal = 16;
 /// A damaged block.
 pub const BLOCK_DAMAGED: Refusal = 17;

@@ -1,19 +1,21 @@
 //! Safe calls of the proved library (docs/BOUNDARY.md): frames, elements,
-//! action bodies, replies and the evening list of IEEE Std 802.11h-2003, under
-//! the scope document's rules.
+//! action bodies, replies, a station and the evening list of IEEE Std
+//! 802.11h-2003, under the scope document's rules.
 //!
-//! Nothing is kept between calls. A call that is refused gives the refusal's
-//! number of the scope document's table, and leaves the buffer that was lent
-//! as it was.
+//! Nothing is kept between calls; a `Station` keeps its own octets. A call that
+//! is refused gives the refusal's number of the scope document's table, and
+//! leaves the buffer that was lent, or the station, as it was.
 
 pub mod answers;
 mod fields;
 pub mod places;
 mod raw;
+pub mod station;
 
 pub use fields::{
     Asks, ChannelMap, Frame, IbssDfs, IbssReceived, Notice, Quiet, Received, Report, Request, Says, Switch, TpcReport,
 };
+pub use station::{Permission, Station};
 
 /// A MAC address, in the order of its octets on the air.
 pub type Address = [u8; 6];
@@ -68,6 +70,19 @@ pub enum Finding {
     Times([u32; 8]),
 }
 
+impl Finding {
+    /// As the replies take it: what was found, the map or the busy time, the
+    /// eight times.
+    fn numbers(self) -> (u8, u32, [u32; 8]) {
+        match self {
+            Finding::Refused => (0, 0, [0; 8]),
+            Finding::Map(map) => (1, u32::from(map), [0; 8]),
+            Finding::Busy(busy) => (2, busy, [0; 8]),
+            Finding::Times(times) => (3, 0, times),
+        }
+    }
+}
+
 /// A number that a call gave back: minus a refusal's number, or a number of 0
 /// or more.
 fn number(code: u64) -> Result<u64, Refusal> {
@@ -88,10 +103,11 @@ fn address(octets: Address) -> u64 {
     u64::from_le_bytes([a, b, c, d, e, f, 0, 0])
 }
 
-// Every function of the library takes every input, so each `unsafe` below
-// asks for one thing: that each pointer and length are those of one slice that
-// lives through the call, and that no other reference reaches what is lent for
-// writing. They are taken from Rust's own references, which guarantee it.
+// Every function of the library takes every input, so each `unsafe` below and
+// in `station` asks for one thing: that each pointer and length are those of
+// one slice that lives through the call, and that no other reference reaches
+// what is lent for writing. They are taken from Rust's own references, which
+// guarantee it.
 
 /// Reads a frame: one of seven kinds, or its refusal.
 pub fn read_frame(frame: &[u8], settings: Settings) -> Result<Received, Refusal> {
@@ -355,12 +371,7 @@ pub fn reply_to_measurement_request(
     finding: Finding,
     out: &mut [u8],
 ) -> Written {
-    let (found, value, t) = match finding {
-        Finding::Refused => (0, 0, [0; 8]),
-        Finding::Map(map) => (1, u32::from(map), [0; 8]),
-        Finding::Busy(busy) => (2, busy, [0; 8]),
-        Finding::Times(times) => (3, 0, times),
-    };
+    let (found, value, t) = finding.numbers();
     written(unsafe {
         raw::oneiralth_reply_to_measurement_request(
             frame.as_ptr(),

@@ -65,3 +65,24 @@ pub const REPORT_START: usize = 5;
 pub const REPORT_DURATION: usize = 13;
 pub const REPORT_DENSITIES: usize = 15;
 pub const REPORT_LENGTH: usize = 23;
+
+/// A station in its caller's octets: version (1), channel, interval (2), clock
+/// (4), its own address (6) and its AP's (6).
+pub const STATION_VERSION: usize = 0;
+pub const STATION_CHANNEL: usize = 1;
+pub const STATION_INTERVAL: usize = 2;
+pub const STATION_CLOCK: usize = 4;
+pub const STATION_OWN: usize = 8;
+pub const STATION_AP: usize = 14;
+/// 1 if there is a Power Constraint, and its value.
+pub const STATION_POWER: usize = 20;
+/// 1 if a switch is pending, mode, channel, moment (8).
+pub const STATION_SWITCH: usize = 22;
+/// Until when what had begun of replaced quiet schedules runs on (8), and how
+/// many schedules are in use.
+pub const STATION_UNTIL: usize = 33;
+pub const STATION_COUNT: usize = 41;
+/// The schedules in use, so many octets for each: start (8), period (8),
+/// duration (2).
+pub const STATION_SCHEDULES: usize = 42;
+pub const STATION_SCHEDULE_LENGTH: usize = 18;

@@ -208,6 +208,51 @@ extern "C" {
         out: *mut u8,
         out_length: usize,
     ) -> u64;
+    pub fn oneiralth_station_start(
+        own: u64,
+        ap: u64,
+        interval: u16,
+        channel: u8,
+        station: *mut u8,
+        station_length: usize,
+    ) -> u64;
+    pub fn oneiralth_station_take(
+        station: *mut u8,
+        station_length: usize,
+        frame: *const u8,
+        frame_length: usize,
+    ) -> u64;
+    pub fn oneiralth_station_advance(station: *mut u8, station_length: usize, units: u32) -> u64;
+    pub fn oneiralth_station_ask(station: *const u8, station_length: usize, units: u32) -> u64;
+    pub fn oneiralth_station_reply_to_tpc_request(
+        station: *const u8,
+        station_length: usize,
+        frame: *const u8,
+        frame_length: usize,
+        power: u8,
+        margin: u8,
+        out: *mut u8,
+        out_length: usize,
+    ) -> u64;
+    pub fn oneiralth_station_reply_to_measurement_request(
+        station: *const u8,
+        station_length: usize,
+        frame: *const u8,
+        frame_length: usize,
+        index: usize,
+        found: u8,
+        value: u32,
+        t0: u32,
+        t1: u32,
+        t2: u32,
+        t3: u32,
+        t4: u32,
+        t5: u32,
+        t6: u32,
+        t7: u32,
+        out: *mut u8,
+        out_length: usize,
+    ) -> u64;
     pub fn oneiralth_busy_fraction(busy: u32, duration: u16) -> u64;
     pub fn oneiralth_rpi_densities(
         t0: u32,

@@ -10,7 +10,7 @@ use Rattle.measurement_element.specs.Span.{spanOctets}
 use Rattle.octets.proofs.Storing.{short-written, all-written}
 use Rattle.boundary.specs.ElementFields.{requestFields}
 use Rattle.boundary.specs.declared.element_fields.Asked.{Asked}
-use Rattle.boundary.proofs.PartsBuilt.{none-built, part-built}
+use Rattle.octets.proofs.PartsBuilt.{none-built, part-built}
 use Rattle.boundary.proofs.element_fields.put_request.Statement.{statement}
 use Rattle.boundary.proofs.element_fields.put_request.Tie as tie
 

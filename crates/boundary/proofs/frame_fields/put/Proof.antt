@@ -6,10 +6,11 @@ use native.Mathlib.Omega.{arith}
 use borrow.Author.Needs.{needs}
 use denote.Ref.{now}
 use lib.ListN.{length}
+use Rattle.beacon.proofs.HeldLengths.{power-length}
 use Rattle.octets.proofs.Storing.{short-written, all-written, same-room}
 use Rattle.boundary.specs.FrameFields.{fieldOctets}
-use Rattle.boundary.proofs.FieldLengths.{power-length, report-length, switch-length, fields-length}
-use Rattle.boundary.proofs.PartsBuilt.{Built, none-built, part-built}
+use Rattle.boundary.proofs.FieldLengths.{report-length, switch-length, fields-length}
+use Rattle.octets.proofs.PartsBuilt.{Built, none-built, part-built}
 use Rattle.boundary.proofs.frame_fields.put.Statement.{statement}
 use Rattle.boundary.proofs.frame_fields.put.Tie as tie
 
@@ -45,7 +46,7 @@ whole c =
     let p3 = part-built p2 8 (b3 .octets642 .ensures) refl (omega arith) (k3 .put3 .ensures .leaves) in
     let p4 = part-built p3 8 (b4 .octets643 .ensures) refl (omega arith) (k4 .put4 .ensures .leaves) in
     let p5 = part-built p4 2 (b5 .octets16 .ensures) refl (omega arith) (k5 .put5 .ensures .leaves) in
-    let p6 = part-built p5 2 (b6 .held-power .ensures) (power-length (n .power)) (omega arith) (k6 .put6 .ensures .leaves) in
+    let p6 = part-built p5 2 (b6 .to-octets .ensures) (power-length (n .power)) (omega arith) (k6 .put6 .ensures .leaves) in
     let p7 = part-built p6 3 (b7 .held-report .ensures) (report-length (n .report)) (omega arith) (k7 .put7 .ensures .leaves) in
     (s, part-built p7 4 (b8 .held-switch .ensures) (switch-length (n .switch)) (omega arith) (k8 .put8 .ensures .leaves))
 

@@ -10,7 +10,7 @@ use Rattle.boundary.specs.IbssFields.{withSender, ibssFields}
 use Rattle.boundary.proofs.Coded.{replied-refused, replied-put}
 use Rattle.boundary.proofs.FieldLengths.{frame-length, dfs-length}
 use Rattle.boundary.proofs.IbssParts.{its-refusal, its-fields, with-fields, fills}
-use Rattle.boundary.proofs.PartsBuilt.{none-built, part-built}
+use Rattle.octets.proofs.PartsBuilt.{none-built, part-built}
 use Rattle.boundary.proofs.ibss_fields.put.Statement.{statement}
 use Rattle.boundary.proofs.ibss_fields.put.Tie as tie
 

@@ -9,7 +9,7 @@ use lib.ListN.{length, take, drop, length-take}
 use Rattle.octets.specs.Writing.{over}
 use Rattle.capture.specs.CodeTerms.Numerals.{numeralEnd, numeralRoom}
 use Rattle.capture.specs.CodeTerms.Putting.{piece}
-use Rattle.capture.proofs.Following.{over-length}
+use Rattle.octets.proofs.Storing.{over-length}
 use Rattle.capture.proofs.InNumeral.{placed-digits}
 use Rattle.capture.proofs.Pieces.{piece-more, pieces-put}
 use Rattle.capture.proofs.putting.put_digits.Statement.{statement}

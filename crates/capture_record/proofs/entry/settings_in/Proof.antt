@@ -5,7 +5,7 @@ use Rattle.capture_record.proofs.entry.settings_in.Tie as tie
 
 returns : tie.Need-returns
 returns c =
-    simp (c .before .before .before .address-in .ensures, c .before .before .address-in2 .ensures, c .before .octet-at .ensures, c .number16 .ensures)
+    simp (c .before .before .before .address-at .ensures, c .before .before .address-at2 .ensures, c .before .octet-at .ensures, c .number16 .ensures)
 
 pub settings-in-spec : {M : Type 1} → statement M
 settings-in-spec =

@@ -1,0 +1,9 @@
+pub mod Heads
+pub mod Holding
+pub mod InPlace
+pub mod Layouts
+pub mod Lengths
+pub mod Outcomes
+pub mod SlotBySlot
+pub mod Slots
+pub mod Sound

@@ -1,0 +1,4 @@
+pub mod Calls
+pub mod Fits
+pub mod Held
+pub mod Records
