@@ -2,6 +2,7 @@ pub mod Allowing
 pub mod HeldLengths
 pub mod InIbss
 pub mod NamedDfs
+pub mod Quieting
 pub mod Saying
 pub mod Slots
 pub mod Walking

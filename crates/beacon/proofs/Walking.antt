@@ -15,8 +15,9 @@ use Rattle.element.specs.declared.quiet.Quiet.{Quiet}
 use Rattle.walk.specs.Elements.{Elements, end, cutHeader, cutContents, more, elementsIn, pastElement}
 use Rattle.beacon.specs.Allowed.{Allowed}
 use Rattle.beacon.specs.Beacons.{Told, tells, quietLimit, takes, says}
-use Rattle.beacon.specs.CodeTerms.Adding.{addedTold}
+use Rattle.beacon.specs.CodeTerms.Adding.{addedTold, SlotlessIn}
 use Rattle.beacon.specs.CodeTerms.Naming.{readsDfs, takesWhere, firstDfs, namingLaid}
+use Rattle.beacon.specs.CodeTerms.Quieting.{QuietAt}
 use Rattle.beacon.specs.IbssBeacons.{MaybeDfs, is, hasDfs, ToldInIbss, tellsInIbss, toldWhere}
 use Rattle.beacon.specs.Laid.{noQuiet, slots, dfsHeard, laid}
 use Rattle.beacon.specs.declared.Heard.{Heard}
@@ -24,8 +25,10 @@ use Rattle.beacon.specs.declared.HeardDfs.{HeardDfs}
 use Rattle.beacon.specs.declared.Notice.{Notice}
 use Rattle.beacon.specs.declared.adding.Added.{Added}
 use Rattle.beacon.specs.declared.naming.Naming.{Naming}
+use Rattle.beacon.specs.declared.quiets.MaybeQuiet.{MaybeQuiet}
 use Rattle.beacon.proofs.Allowing.{allowed-takes}
 use Rattle.beacon.proofs.NamedDfs.{named-with, naming-refused, naming-accepted}
+use Rattle.beacon.proofs.Quieting.{not-dfs, quiet-taken}
 use Rattle.beacon.proofs.Saying.{says-more}
 use Rattle.beacon.proofs.Slots.{one-more, next-slot}
 
@@ -108,7 +111,11 @@ module _ (ibss : Bool) (b index : ℕ) (body : List ℕ) where
       -- ---- any other, by what was added
 
       abbrev pub Comes : Added → Type 0
-      Comes added = addedTold notice (w .quiets) added ≡ takes b id c told
+      Comes added = addedTold (w .quiets) added ≡ takes b id c told
+
+      -- where no Quiet element was found that finds a slot, this is none either
+      pub no-slot : QuietAt body at count b MaybeQuiet.Absent → SlotlessIn (w .quiets) b id c
+      no-slot none q i m = rw (← (w .kept-count)) (none c (elementsIn (drop stop body)) q (e ∙ ap (λ (k : ℕ). more k c (elementsIn (drop stop body))) i) m)
 
       module _ (skips : readsDfs ibss id ≡ false) where
         taken-as : {o : Outcome Told} → o ≡ takes b id c told → takesWhere ibss b id c before ≡ andThen o (λ next. accepted (tellsInIbss next (w .named)))
@@ -125,16 +132,14 @@ module _ (ibss : Bool) (b index : ℕ) (body : List ℕ) where
         pub at-notice : (n : Notice) → Comes (Added.Notice n) → Walked stop n filled count dfs
         at-notice n t = keeps-dfs n (w .quiets) t (w .kept-quiets) (w .kept-count)
 
-        module _ (q : Quiet) (t : Comes (Added.Quiet q)) where
-          -- an accepted body has no more Quiet elements than there are slots, so that one was free
-          free : length (w .quiets) < quietLimit
-          free = omega (arith, allowed-takes b id c told (w .allowed) _ (sym t) .few, one-more (w .quiets) q)
+    -- ---- a Quiet element that finds a slot
 
-          pub slot-free : count < quietLimit
-          slot-free = omega (arith, free, w .kept-count)
+    module _ (q : Quiet) (h : QuietAt body at count b (MaybeQuiet.Is q)) where
+      free : length (w .quiets) < quietLimit
+      free = omega (arith, h .1, w .kept-count)
 
-          pub at-quiet : Walked stop notice (set filled count q) (count + 1) dfs
-          at-quiet =
-              keeps-dfs notice _ t
-              (rw (w .kept-quiets, w .kept-count) (next-slot (w .quiets) q quietLimit noQuiet free))
-              (rw (w .kept-count) (sym (one-more (w .quiets) q)))
+      pub at-quiet : Walked (at + 8) notice (set filled count q) (count + 1) dfs
+      at-quiet =
+          keeps-dfs 40 (h .0 .contents) (at + 8) (h .0 .begins) (h .0 .past) (not-dfs ibss) notice _ (quiet-taken b (h .0 .contents) notice (w .quiets) q (h .0 .means) free)
+          (rw (w .kept-quiets, w .kept-count) (next-slot (w .quiets) q quietLimit noQuiet free))
+          (rw (w .kept-count) (sym (one-more (w .quiets) q)))

@@ -3,6 +3,7 @@ mod adding;
 mod elements;
 mod held;
 mod naming;
+mod quiets;
 
 ghost use mathlib.Core.Path.{_≡_};
 ghost use Rattle.answer.specs.Checks.{refused};
@@ -10,6 +11,7 @@ ghost use Rattle.answer.specs.Faults.{faultAt};
 ghost use Rattle.beacon.specs.IbssBeacons.{toldWhere};
 ghost use Rattle.beacon.specs.Laid.{laid};
 use crate::adding::Added;
+use crate::quiets::MaybeQuiet;
 use answer::Answer;
 use answer::Fault;
 use answer::Refusal;
@@ -144,51 +146,54 @@ pub fn read(body: &[u8], interval: u16, ibss: bool, index: usize) -> Heard
     let mut dfs = HeardDfs::NONE;
     let mut at = FIXED_LENGTH;
     loop {
-        match walk::element_at(body, at) {
-            Found::End => {
-                return Heard {
-                    verdict: Verdict::Accepted,
-                    notice,
-                    quiets,
-                    count,
-                    dfs,
-                };
+        match quiets::quiet_at(body, at, count, interval) {
+            MaybeQuiet::Is(quiet) => {
+                quiets[count] = quiet;
+                count += 1;
+                at += quiets::LENGTH;
             }
-            Found::CutHeader(_) => {
-                return refused_at(Refusal::ElementCut, at);
-            }
-            Found::CutContents(_) => {
-                return refused_at(Refusal::ElementCut, at);
-            }
-            Found::Whole { id, start, end } => {
-                if naming::reads_dfs(ibss, id) {
-                    let naming = naming::read_dfs(&body[start..end], dfs.names, index);
-                    let answer = naming.answer;
-                    match answer {
-                        Answer::Refused(reason) => {
-                            return refused_at(reason, at);
-                        }
-                        Answer::Accepted => {
-                            let next = naming.dfs;
-                            dfs = next;
-                        }
-                    }
-                } else {
-                    match adding::add_element(notice, count, id, &body[start..end], interval) {
-                        Added::Refused(refusal) => {
-                            return refused_at(refusal, at);
-                        }
-                        Added::Notice(next) => {
-                            notice = next;
-                        }
-                        Added::Quiet(quiet) => {
-                            quiets[count] = quiet;
-                            count += 1;
-                        }
-                    }
+            MaybeQuiet::Absent => match walk::element_at(body, at) {
+                Found::End => {
+                    return Heard {
+                        verdict: Verdict::Accepted,
+                        notice,
+                        quiets,
+                        count,
+                        dfs,
+                    };
                 }
-                at = end;
-            }
+                Found::CutHeader(_) => {
+                    return refused_at(Refusal::ElementCut, at);
+                }
+                Found::CutContents(_) => {
+                    return refused_at(Refusal::ElementCut, at);
+                }
+                Found::Whole { id, start, end } => {
+                    if naming::reads_dfs(ibss, id) {
+                        let naming = naming::read_dfs(&body[start..end], dfs.names, index);
+                        let answer = naming.answer;
+                        match answer {
+                            Answer::Refused(reason) => {
+                                return refused_at(reason, at);
+                            }
+                            Answer::Accepted => {
+                                let next = naming.dfs;
+                                dfs = next;
+                            }
+                        }
+                    } else {
+                        match adding::add_element(notice, id, &body[start..end], interval) {
+                            Added::Refused(refusal) => {
+                                return refused_at(refusal, at);
+                            }
+                            Added::Notice(next) => {
+                                notice = next;
+                            }
+                        }
+                    }
+                    at = end;
+                }
+            },
         }
     }
 }

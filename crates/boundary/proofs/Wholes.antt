@@ -10,7 +10,7 @@ use Rattle.octets.specs.Writing.{left, Written}
 use Rattle.octets.specs.declared.writing.Wrote.{Wrote}
 use Rattle.octets.proofs.Overwriting.{written-as}
 use Rattle.octets.proofs.Storing.{left-not, short-written, parts-written}
-use Rattle.capture.specs.Lines.{closingOf}
+use Rattle.pen.specs.Lines.{closingOf}
 use Rattle.capture.specs.Lists.{fileTold, listOf}
 use Rattle.capture.specs.declared.lister.Lister.{Lister}
 

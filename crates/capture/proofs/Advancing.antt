@@ -4,13 +4,13 @@ use mathlib.Core.Path.{_≡_, ap, _∙_}
 use Prim.Native.Nat.{ℕ}
 use Rattle.answer.specs.declared.Answer.{Answer}
 use Rattle.capture_record.specs.Entries.{advancing}
+use Rattle.pen.specs.declared.words.Word.{Word}
 use Rattle.station.proofs.StaysValid.{advanced}
 use Rattle.station.specs.Stations.{withClock}
 use Rattle.station.specs.Clock.{clockAdvance}
 use Rattle.station.specs.Validity.{Valid}
 use Rattle.station.specs.declared.Station.{Station}
 use Rattle.station.specs.declared.clock.Advanced.{Advanced}
-use Rattle.capture.specs.declared.words.Word.{Word}
 use Rattle.capture.specs.Listers.{withStation, following}
 use Rattle.capture.specs.Lists.{line, stepped, noted}
 use Rattle.capture.specs.CodeTerms.Plain.{clockedAt}

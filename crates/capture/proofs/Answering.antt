@@ -8,10 +8,10 @@ use Rattle.answer.proofs.Booleans.{clash}
 use Rattle.answer.specs.Checks.{pick}
 use Rattle.capture_record.specs.Entries.{advancing, hearing, asking, entryTold}
 use Rattle.capture_record.specs.declared.entry.Entry.{Entry}
+use Rattle.pen.specs.declared.words.Word.{Word}
 use Rattle.station.specs.Asking.{permissionOf}
 use Rattle.station.specs.Clock.{advanceOf}
 use Rattle.station.specs.Taking.{takeOf}
-use Rattle.capture.specs.declared.words.Word.{Word}
 use Rattle.capture.specs.CodeTerms.Noting.{lacksStation, wordFor}
 use Rattle.capture.specs.Lists.{line, stepped, taken, noStation, noted}
 use Rattle.capture.specs.declared.lister.Lister.{Lister}
@@ -29,7 +29,7 @@ module _ (l : Lister) where
     unfolding noted
     no-advance n = none (l .active) _ _ e
 
-    no-frame : (f : List ℕ) → noStation l Word.Frame ≡ noted l (hearing f)
+    pub no-frame : (f : List ℕ) → noStation l Word.Frame ≡ noted l (hearing f)
     unfolding noted
     no-frame f = none (l .active) _ _ e
 
@@ -41,7 +41,7 @@ module _ (l : Lister) where
   lacking c Entry.Malformed e = clash (sym e)
   lacking c Entry.Start e = clash (sym e)
   lacking c (Entry.Advance n) e = no-advance (not-true (l .active) e) n
-  lacking c Entry.Frame e = no-frame (not-true (l .active) e) c
+  lacking c Entry.Frame e = clash (sym e)
   lacking c (Entry.Ask n) e = no-ask (not-true (l .active) e) n
 
   module _ (e : l .active ≡ true) where

@@ -17,19 +17,20 @@ use Rattle.capture_record.proofs.Walking as Walking
 use Rattle.capture_record.specs.Entries.{Noted, entryTold}
 use Rattle.capture_record.specs.Records.{Records, end, cut, recordsIn}
 use Rattle.capture_record.specs.declared.entry.Entry.{Entry}
-use Rattle.capture.specs.Rooms.{lineRoom}
-use Rattle.capture.specs.CodeTerms.Numerals.{Spells}
-use Rattle.capture.specs.declared.words.Word.{Word}
 use Rattle.octets.proofs.Parts.{after-cut}
 use Rattle.octets.proofs.Storing.{filled-length, after-left, after-over}
 use Rattle.octets.specs.Writing.{left, over, filled}
+use Rattle.pen.specs.Numerals.{Spells}
+use Rattle.pen.specs.Penning.{Penned}
+use Rattle.pen.specs.Rooms.{lineRoom}
+use Rattle.pen.specs.declared.Pen.{Pen}
+use Rattle.pen.specs.declared.words.Word.{Word}
 use Rattle.station.proofs.Clearing.{nothing-clear}
 use Rattle.station.specs.Clear.{Clear}
 use Rattle.station.specs.Stations.{withClock}
 use Rattle.capture.specs.CodeTerms.Blocks.{blockFrom, Begins, restFrom}
 use Rattle.capture.specs.CodeTerms.Following.{lineFor, Follows, Fed}
 use Rattle.capture.specs.CodeTerms.Noting.{entryMalformed}
-use Rattle.capture.specs.CodeTerms.Penning.{Penned}
 use Rattle.capture.specs.CodeTerms.Plain.{linesLeft, clockedAt, Notes, Watched, RanFrom}
 use Rattle.capture.specs.Feeding.{enoughRoom}
 use Rattle.capture.specs.Listers.{blockLimit, mostLines, lineLimit, withLines, withBlocks, without, oneBlockMore, Sound, Fits}
@@ -37,7 +38,6 @@ use Rattle.capture.specs.Lists as Lists
 use Rattle.capture.specs.Lists.{Told, nothing, before, refusal, answerLine, badRecord, noted, isMalformed, recorded, blocksIn, blocksTold}
 use Rattle.capture.specs.declared.lister.Lister.{Lister}
 use Rattle.capture.specs.declared.noting.Answered.{Answered}
-use Rattle.capture.specs.declared.pen.Pen.{Pen}
 use Rattle.capture.specs.declared.plain.Ran.{Ran}
 use Rattle.capture.proofs.Cutting.{next-block}
 use Rattle.capture.proofs.Fitting.{told-as}

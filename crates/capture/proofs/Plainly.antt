@@ -13,12 +13,14 @@ use Rattle.answer.specs.declared.Answer.{Answer}
 use Rattle.capture_record.specs.Entries.{Noted, advancing, asking}
 use Rattle.capture_record.specs.Records.{Records, recordsIn}
 use Rattle.octets.proofs.Storing.{over-length}
-use Rattle.capture.proofs.Following.{put-over}
-use Rattle.capture.specs.Rooms.{lineRoom}
-use Rattle.capture.specs.CodeTerms.Numerals.{Spells}
-use Rattle.capture.specs.declared.words.Word.{Word}
 use Rattle.octets.proofs.Storing.{room-left}
 use Rattle.octets.specs.Writing.{over}
+use Rattle.pen.proofs.Following.{put-over}
+use Rattle.pen.specs.Numerals.{Spells}
+use Rattle.pen.specs.Penning.{Ready, Penned}
+use Rattle.pen.specs.Rooms.{lineRoom}
+use Rattle.pen.specs.declared.Pen.{Pen}
+use Rattle.pen.specs.declared.words.Word.{Word}
 use Rattle.pending.specs.declared.Pending.{Pending}
 use Rattle.station.proofs.Clearing.{later-clear, clear-granted}
 use Rattle.station.proofs.StaysValid.{advanced}
@@ -27,17 +29,21 @@ use Rattle.station.specs.Clock.{reached, clockAdvance}
 use Rattle.station.specs.Stations.{clockLimit, unitLimit}
 use Rattle.station.specs.declared.asking.Permission.{Permission}
 use Rattle.station.specs.declared.clock.Advanced.{Advanced}
-use Rattle.capture.specs.CodeTerms.Penning.{Penned}
 use Rattle.capture.specs.CodeTerms.Plain.{knownGranted, goesTo, linesLeft, clockedAt, Notes, PlainAt, Watched, RanFrom}
-use Rattle.capture.specs.Listers.{withLines}
+use Rattle.capture.specs.Listers.{lineLimit, withLines}
 use Rattle.capture.specs.Lists.{Told, before, answerLine, badRecord, line, noted, isMalformed, recorded}
 use Rattle.capture.specs.declared.lister.Lister.{Lister}
-use Rattle.capture.specs.declared.pen.Pen.{Pen}
 use Rattle.capture.specs.declared.plain.Ran.{Ran}
 use Rattle.capture.specs.declared.response.Response.{Response}
 use Rattle.capture.proofs.Advancing.{clock-line}
 use Rattle.capture.proofs.Answering.{an-ask}
 use Rattle.capture.proofs.Recording.{before-before}
+
+-- ---- a line more
+
+-- where the limit of lines and the buffer leave one: a line's number never comes near the pen's own limit
+pub may-put : {pen : Pen} {digits out : List ℕ} → Spells (pen .lines) digits (pen .from) → (pen .lines < lineLimit) × (pen .count + lineRoom ≤ length out) → Ready pen digits out
+may-put s h = record { spells = s; numbered = omega (arith, h .0); room = h .1 }
 
 -- ---- before the first
 

@@ -7,11 +7,11 @@ use Rattle.answer.proofs.Booleans.{clash}
 use Rattle.answer.specs.Checks.{Outcome, refused, accepted}
 use Rattle.answer.specs.declared.Answer.{Answer}
 use Rattle.answer.specs.declared.Refusal.{Refusal}
+use Rattle.pen.specs.declared.words.Word.{Word}
 use Rattle.station.specs.Validity.{Valid}
 use Rattle.station.specs.Starting as Starting
 use Rattle.station.specs.declared.Station.{Station}
 use Rattle.station.specs.declared.starting.Started.{Started}
-use Rattle.capture.specs.declared.words.Word.{Word}
 use Rattle.capture.specs.CodeTerms.Following.{Follows}
 use Rattle.capture.specs.Listers.{without, following, Sound}
 use Rattle.capture.specs.Lists.{line, started}

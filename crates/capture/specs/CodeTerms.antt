@@ -2,8 +2,6 @@
 pub mod Blocks
 pub mod Following
 pub mod Noting
-pub mod Numerals
-pub mod Penning
+pub mod Parts
 pub mod Plain
-pub mod Putting
 pub mod Rooms

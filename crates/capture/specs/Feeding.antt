@@ -7,9 +7,9 @@ use lib.Dec.{ltb}
 use lib.ListN.{length}
 use Rattle.answer.specs.Checks.{Outcome, refused, accepted, _⇒_, judged}
 use Rattle.answer.specs.declared.Refusal.{Refusal}
-use Rattle.capture.specs.Rooms.{lineRoom}
 use Rattle.octets.specs.Writing.{filled}
 use Rattle.octets.specs.declared.writing.Wrote.{Wrote}
+use Rattle.pen.specs.Rooms.{lineRoom}
 use Rattle.capture.specs.Listers.{blockLimit, mostLines}
 use Rattle.capture.specs.Lists.{Told}
 use Rattle.capture.specs.declared.feeding.Listing.{Listing}

@@ -13,6 +13,8 @@ use Rattle.block.specs.Blocks.{blockSize, usedPart, blockMeans}
 use Rattle.block.specs.declared.Block.{Block}
 use Rattle.capture_record.specs.Entries.{Noted, malformed, starting, advancing, hearing, asking, entryMeans}
 use Rattle.capture_record.specs.Records.{Records, end, cut, more, recordsIn}
+use Rattle.pen.specs.Lines.{lineOf, closingOf}
+use Rattle.pen.specs.declared.words.Word.{Word}
 use Rattle.station.specs.Asking.{permissionNumber, permissionOf}
 use Rattle.station.specs.Clock.{advanceOf}
 use Rattle.station.specs.Starting.{startMeans}
@@ -20,8 +22,6 @@ use Rattle.station.specs.Taking.{takeOf}
 use Rattle.station.specs.declared.Station.{Station}
 use Rattle.station.specs.declared.clock.Stepped.{Stepped}
 use Rattle.station.specs.declared.taking.Taken.{Taken}
-use Rattle.capture.specs.Lines.{lineOf, closingOf}
-use Rattle.capture.specs.declared.words.Word.{Word}
 use Rattle.capture.specs.Listers.{fresh, without, following, oneLineMore, oneBlockMore}
 use Rattle.capture.specs.declared.lister.Lister.{Lister}
 use Rattle.capture.specs.declared.response.Response.{Response}

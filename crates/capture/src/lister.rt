@@ -1,7 +1,7 @@
 // What the lister keeps from block to block.
 ghost use mathlib.Core.Path.{_≡_};
 ghost use Rattle.capture.specs.Listers.{fresh, without, following, Fits};
-use crate::last_line::Text;
+use pen::Text;
 use station::Station;
 
 pub struct Lister {

@@ -1,28 +1,25 @@
 // The lines of the blocks of some octets, put into a lent buffer in one pass (document 01, "Capture blocks and the evening list").
 ghost use mathlib.Core.Path.{_≡_};
-ghost use mathlib.Core.Bool.{true};
 ghost use Prim.Native.Nat.{_+_, _*_, _≤_};
 ghost use lib.ListN.{length};
 ghost use Rattle.octets.specs.Writing.{filled};
-ghost use Rattle.station.specs.Clear.{Clear};
 ghost use Rattle.capture.specs.CodeTerms.Blocks.{BlockFound, restFrom};
 ghost use Rattle.capture.specs.CodeTerms.Following.{Fed};
+ghost use Rattle.capture.specs.CodeTerms.Noting.{heardBy};
 ghost use Rattle.capture.specs.Feeding.{enoughRoom};
-ghost use Rattle.capture.specs.Listers.{blockLimit, Fits, Sound};
+ghost use Rattle.capture.specs.Listers.{blockLimit, Fits};
 ghost use Rattle.capture.specs.Lists.{blocksIn, blocksTold};
 use crate::Lister;
-use crate::lister;
-use crate::noting;
-use crate::numeral;
-use crate::pen;
-use crate::pen::Pen;
+use crate::parts::Parts;
 use crate::plain;
-use crate::words::Word;
 use answer::Offset;
 use answer::Refusal;
+use answer::Verdict;
+use beacon::QUIETS;
 use block::Block;
 use capture_record::Entry;
 use capture_record::Found;
+use pen::Word;
 
 // The lister, and how many octets of the buffer are lines by now.
 pub struct Put {
@@ -66,23 +63,16 @@ fn goes_on(entry: Entry, end: usize, stop: usize) -> usize
     }
 }
 
-// Until when it is known to be clear after a record: it is worked out where a question was asked, since more of them may follow.
-fn clear_after(lister: Lister, entry: Entry) -> u64
-    requires { ⌜ Sound lister ⌝ }
-    ensures { λ r. ⌜ (lister .active ≡ true → Clear (lister .station) r) ⌝ }
+// Whether a record is a frame that a station hears.
+fn is_heard(entry: Entry, active: bool) -> bool
+    ensures { λ r. ⌜ r ≡ heardBy active entry ⌝ }
 {
-    if !lister.active {
-        return 0;
-    }
     match entry {
-        Entry::Ask(_) => {
-            let station = lister.station;
-            station.clear_until()
-        }
-        Entry::Malformed => 0,
-        Entry::Start => 0,
-        Entry::Advance(_) => 0,
-        Entry::Frame => 0,
+        Entry::Frame => active,
+        Entry::Malformed => false,
+        Entry::Start => false,
+        Entry::Advance(_) => false,
+        Entry::Ask(_) => false,
     }
 }
 
@@ -94,8 +84,11 @@ pub fn put_blocks(lister: Lister, blocks: &[u8], out: &mut [u8]) -> Put
     ensures { λ r. ⌜ Fed lister (blocksTold (blocksIn (now (blocks .entry))) lister) r ⌝ }
     ensures { λ _. ⌜ now (out .exit) ≡ filled (blocksTold (blocksIn (now (blocks .entry))) lister .text) (now (out .entry)) ⌝ }
 {
-    let mut next = lister;
-    let mut digits = [0u8; numeral::ROOM];
+    let mut starts = [0u64; QUIETS];
+    let mut periods = [0u64; QUIETS];
+    let mut durations = [0u16; QUIETS];
+    let mut parts = Parts::of(lister, &mut starts, &mut periods, &mut durations);
+    let mut digits = [0u8; pen::DIGITS];
     let mut pen = pen::begin(lister.lines, &mut digits);
     let mut clear: u64 = 0;
     let mut at = 0;
@@ -103,13 +96,14 @@ pub fn put_blocks(lister: Lister, blocks: &[u8], out: &mut [u8]) -> Put
     let mut after = 0;
     loop {
         let used = &blocks[..stop];
-        let station = next.station;
-        let pending = station.pending;
+        let apart = parts.apart;
+        let rest = apart.rest;
+        let pending = rest.pending;
         let ran = plain::run(
             used,
             at,
-            next.active,
-            next.station.clock,
+            parts.active,
+            rest.clock,
             pending,
             clear,
             pen,
@@ -118,30 +112,28 @@ pub fn put_blocks(lister: Lister, blocks: &[u8], out: &mut [u8]) -> Put
         );
         at = ran.at;
         pen = ran.pen;
-        next.lines = pen.lines;
-        next.station.clock = ran.clock;
+        parts.apart.rest.clock = ran.clock;
         match capture_record::record_at(used, at) {
             Found::End => match block_at(blocks, after) {
                 BlockAt::End => {
                     let count = pen.count;
                     return Put {
-                        lister: next,
+                        lister: parts.whole(pen.lines, &starts, &periods, &durations),
                         count,
                     };
                 }
                 BlockAt::Damaged { end } => {
                     let number = Refusal::BlockDamaged.number();
                     pen = pen::put_told(pen, &mut digits, Word::Block, number, Offset::Absent, out);
-                    next = lister::without(next);
-                    next.lines = pen.lines;
-                    next.blocks += 1;
-                    next.damaged += 1;
+                    parts = parts.without();
+                    parts.blocks += 1;
+                    parts.damaged += 1;
                     at = end;
                     stop = end;
                     after = end;
                 }
                 BlockAt::Whole { stop: last, end } => {
-                    next.blocks += 1;
+                    parts.blocks += 1;
                     at = after + 2;
                     stop = last;
                     after = end;
@@ -150,22 +142,53 @@ pub fn put_blocks(lister: Lister, blocks: &[u8], out: &mut [u8]) -> Put
             Found::Cut => {
                 let number = Refusal::RecordMalformed.number();
                 pen = pen::put_told(pen, &mut digits, Word::Record, number, Offset::Absent, out);
-                next = lister::without(next);
-                next.lines = pen.lines;
+                parts = parts.without();
                 at = stop;
             }
             Found::Whole { kind, start, end } => {
                 let contents = &used[start..end];
                 let entry = capture_record::entry_of(kind, contents);
-                let answered = noting::note(next, entry, contents);
-                let word = answered.word;
-                let answer = answered.answer;
-                let number = answer.number();
-                pen = pen::put_told(pen, &mut digits, word, number, answer.offset(), out);
-                next = answered.lister;
-                next.lines = pen.lines;
-                clear = clear_after(next, entry);
-                at = goes_on(entry, end, stop);
+                if is_heard(entry, parts.active) {
+                    let apart = parts.apart;
+                    let told = apart.hear(contents, &mut starts, &mut periods, &mut durations);
+                    let verdict = told.verdict;
+                    let next = told.apart;
+                    parts.apart = next;
+                    match verdict {
+                        Verdict::Accepted => {
+                            pen = pen::put_heard(pen, &mut digits, out);
+                        }
+                        Verdict::Refused(_) => {
+                            let number = verdict.number();
+                            pen = pen::put_told(
+                                pen,
+                                &mut digits,
+                                Word::Frame,
+                                number,
+                                verdict.offset(),
+                                out,
+                            );
+                        }
+                    }
+                    clear = 0;
+                    at = end;
+                } else {
+                    let noted = parts.note(
+                        pen.lines,
+                        entry,
+                        contents,
+                        &mut starts,
+                        &mut periods,
+                        &mut durations,
+                    );
+                    let word = noted.word;
+                    let offset = noted.offset;
+                    pen = pen::put_told(pen, &mut digits, word, noted.number, offset, out);
+                    let next = noted.parts;
+                    parts = next;
+                    clear = noted.clear;
+                    at = goes_on(entry, end, stop);
+                }
             }
         }
     }

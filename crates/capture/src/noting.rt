@@ -1,7 +1,8 @@
 // What the list says of a record (document 01, "Capture blocks and the evening list"): its word, its answer, and the station after it.
 ghost use mathlib.Core.Path.{_≡_};
-ghost use mathlib.Core.Bool.{true};
-ghost use Rattle.capture_record.specs.Entries.{starting, settingsOf, advancing, hearing, asking, entryTold};
+ghost use mathlib.Core.Bool.{true, false};
+ghost use Rattle.capture_record.specs.declared.entry.Entry.{Entry};
+ghost use Rattle.capture_record.specs.Entries.{starting, settingsOf, advancing, asking, entryTold};
 ghost use Rattle.capture.specs.CodeTerms.Following.{lineFor, Follows};
 ghost use Rattle.capture.specs.CodeTerms.Noting.{lacksStation, wordFor};
 ghost use Rattle.capture.specs.Listers.{Sound};
@@ -9,10 +10,10 @@ ghost use Rattle.capture.specs.Lists.{badRecord, noStation, noted};
 use crate::Lister;
 use crate::lister;
 use crate::response::Response;
-use crate::words::Word;
 use answer::Answer;
 use answer::Refusal;
 use capture_record::Entry;
+use pen::Word;
 use station::Station;
 
 // The lister before the line that tells this word and this answer.
@@ -77,24 +78,6 @@ fn advance(lister: Lister, units: u16) -> Answered
     }
 }
 
-// A frame.
-fn frame(lister: Lister, contents: &[u8]) -> Answered
-    requires { ⌜ Sound lister ⌝ }
-    requires { ⌜ lister .active ≡ true ⌝ }
-    ensures { λ r. ⌜ lineFor r ≡ noted lister (hearing (now (contents .entry))) ⌝ }
-    ensures { λ r. ⌜ Follows lister (r .lister) ⌝ }
-{
-    let station = lister.station;
-    let taken = station.take(contents);
-    let verdict = taken.verdict;
-    let next = taken.station;
-    Answered {
-        lister: lister::following(lister, next),
-        word: Word::Frame,
-        answer: Response::Frame(verdict),
-    }
-}
-
 // A question.
 fn ask(lister: Lister, units: u16) -> Answered
     requires { ⌜ Sound lister ⌝ }
@@ -124,7 +107,8 @@ fn unstarted(lister: Lister, word: Word) -> Answered
     }
 }
 
-// Whether a record is for a station, and there is none (19). A malformed one is 20 before a station is asked for.
+// Whether an advance or a question comes with no station (19). A malformed record is 20 before a station is asked for, and the frames that come here have
+// none.
 fn lacks_station(missing: bool, entry: Entry) -> bool
     ensures { λ r. ⌜ r ≡ lacksStation missing entry ⌝ }
 {
@@ -132,7 +116,7 @@ fn lacks_station(missing: bool, entry: Entry) -> bool
         Entry::Malformed => false,
         Entry::Start => false,
         Entry::Advance(_) => missing,
-        Entry::Frame => missing,
+        Entry::Frame => false,
         Entry::Ask(_) => missing,
     }
 }
@@ -150,9 +134,10 @@ fn word_of(entry: Entry) -> Word
     }
 }
 
-// Any record, by what it notes.
+// Any record, by what it notes, but for the frames that a station hears.
 pub fn note(lister: Lister, entry: Entry, contents: &[u8]) -> Answered
     requires { ⌜ Sound lister ⌝ }
+    requires { ⌜ (entry ≡ Entry.Frame → lister .active ≡ false) ⌝ }
     ensures { λ r. ⌜ lineFor r ≡ noted lister (entryTold (now (contents .entry)) entry) ⌝ }
     ensures { λ r. ⌜ Follows lister (r .lister) ⌝ }
 {
@@ -163,7 +148,7 @@ pub fn note(lister: Lister, entry: Entry, contents: &[u8]) -> Answered
         Entry::Malformed => malformed(lister),
         Entry::Start => start(lister, contents),
         Entry::Advance(units) => advance(lister, units),
-        Entry::Frame => frame(lister, contents),
+        Entry::Frame => unstarted(lister, Word::Frame),
         Entry::Ask(units) => ask(lister, units),
     }
 }

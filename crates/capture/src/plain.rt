@@ -2,16 +2,15 @@
 // granted. Most records are such, and a lister is long to copy.
 ghost use Prim.Native.Nat.{_+_, _-_, _*_, _≤_};
 ghost use lib.ListN.{length};
-ghost use Rattle.capture.specs.Rooms.{lineRoom};
-ghost use Rattle.capture.specs.CodeTerms.Numerals.{Spells};
 ghost use mathlib.Core.Path.{_≡_};
+ghost use Rattle.pen.specs.Numerals.{Spells};
+ghost use Rattle.pen.specs.Rooms.{lineRoom};
 ghost use Rattle.station.specs.Clock.{clockAdvance};
 ghost use Rattle.capture.specs.CodeTerms.Plain.{knownGranted, goesTo, linesLeft, PlainAt, RanFrom};
 ghost use Rattle.capture.specs.Listers.{lineLimit};
-use crate::pen;
-use crate::pen::Pen;
 use capture_record::Entry;
 use capture_record::Found;
+use pen::Pen;
 use pending::Pending;
 use station::Advanced;
 

@@ -10,8 +10,8 @@ use Rattle.octets.proofs.Storing.{filled-front}
 use Rattle.capture.specs.Listers.{fresh}
 use Rattle.capture.specs.Lists.{Told, before, blocksAfter, blocksIn, blocksTold, listOf}
 use Rattle.capture.specs.declared.lister.Lister.{Lister}
-use Rattle.capture.proofs.InRoom.{in-front}
-use Rattle.capture.specs.Lines.{closingOf}
+use Rattle.pen.proofs.InRoom.{in-front}
+use Rattle.pen.specs.Lines.{closingOf}
 use Rattle.claims.specs.FedFiles.{Begins, Feeds, FedAll, CutAtBlocks, joined, Closes}
 
 -- ---- a piece

@@ -34,8 +34,8 @@ use Rattle.station.specs.Taking.{taken, takeMeans, takeOf}
 use Rattle.pending.specs.declared.Pending.{Pending}
 use Rattle.station.specs.declared.Station.{Station}
 use Rattle.station.specs.declared.clock.Advanced.{Advanced}
-use Rattle.capture.specs.Lines.{lineOf, closingOf}
-use Rattle.capture.specs.declared.words.Word.{Word}
+use Rattle.pen.specs.Lines.{lineOf, closingOf}
+use Rattle.pen.specs.declared.words.Word.{Word}
 use Rattle.capture_record.specs.declared.entry.Settings.{Settings}
 use Rattle.claims.specs.Histories.{History, tooFar}
 use Rattle.claims.specs.HistoryLines.{Followed, nobody, since, refusesStart, followedAfter, says, saysFrame, Tells, TellsRecords, TellsBlock, TellsBlocks, ToldByHistories}

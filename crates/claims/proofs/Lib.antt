@@ -44,6 +44,7 @@ pub mod NoticeFields
 pub mod Numbers
 pub mod OctetsWithin
 pub mod OneAddress
+pub mod OneOutcomeApart
 pub mod OneOutcomeCaptures
 pub mod OneOutcomeElements
 pub mod OneOutcomeFrames
@@ -51,6 +52,7 @@ pub mod OneOutcomeLeaves
 pub mod OneOutcomeLent
 pub mod OneOutcomeMembers
 pub mod OneOutcomeOwners
+pub mod OneOutcomePens
 pub mod OneOutcomeRecords
 pub mod OneOutcomeTables
 pub mod OneOutcomeWalk

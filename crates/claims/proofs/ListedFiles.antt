@@ -24,8 +24,8 @@ use Rattle.station.specs.Taking.{takeOf}
 use Rattle.station.specs.declared.Station.{Station}
 use Rattle.station.specs.declared.clock.Stepped.{Stepped}
 use Rattle.station.specs.declared.taking.Taken.{Taken}
-use Rattle.capture.specs.Lines.{lineOf, closingOf}
-use Rattle.capture.specs.declared.words.Word.{Word}
+use Rattle.pen.specs.Lines.{lineOf, closingOf}
+use Rattle.pen.specs.declared.words.Word.{Word}
 use Rattle.claims.specs.Numbered.{Said, numberedFrom, recordsCounted, linesIn, linesAmong, damagedAmong, ListedAs}
 
 -- so many lines, blocks and damaged blocks were told

@@ -11,12 +11,12 @@ use Rattle.answer.specs.declared.Answer.{Answer}
 use Rattle.answer.specs.declared.Refusal.{Refusal}
 use Rattle.block.specs.Blocks.{usedLength, isDamaged, usedPart, blockMeans}
 use Rattle.block.specs.declared.Block.{Block}
-use Rattle.capture.specs.Lines.{closingOf}
+use Rattle.pen.specs.Lines.{closingOf}
 use Rattle.capture.specs.Listers.{fresh, withLines, without, following, oneBlockMore}
 use Rattle.capture.specs.Lists.{Told, responseNumber, responseOffset, refusal, answerLine, line, before, started, stepped, noStation, badRecord, noted, isMalformed, recorded, judged, blockTold, blocksIn, blocksTold, listOf}
 use Rattle.capture.specs.declared.lister.Lister.{Lister}
 use Rattle.capture.specs.declared.response.Response.{Response}
-use Rattle.capture.specs.declared.words.Word.{Word}
+use Rattle.pen.specs.declared.words.Word.{Word}
 use Rattle.capture_record.specs.Entries.{Noted, malformed, starting, advancing, hearing, asking, entryMeans}
 use Rattle.capture_record.specs.Records.{Records, end, cut, more, recordsIn}
 use Rattle.station.specs.Asking.{permissionOf}

@@ -8,7 +8,7 @@ use lib.ListN.{length, take, drop}
 use Rattle.block.proofs.count_in as Block-count-in
 use Rattle.block.proofs.end_after as End-after
 use Rattle.block.proofs.judge as Judge
-use Rattle.capture.proofs.closing as Closing
+use Rattle.pen.proofs.closing as Closing
 use Rattle.capture.proofs.lister.Lister.feed as Feed-block
 use Rattle.capture.proofs.lister.Lister.feed_all as Feed-all
 use Rattle.capture.proofs.lister.Lister.fresh as Fresh

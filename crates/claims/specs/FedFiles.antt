@@ -12,7 +12,7 @@ use Rattle.block.specs.Blocks.{blockSize}
 use Rattle.capture.proofs.lister.Lister.feed_all as Feed-all
 use Rattle.capture.proofs.lister.Lister.fresh as Fresh
 use Rattle.capture.specs.declared.lister.Lister.{Lister}
-use Rattle.capture.proofs.closing as Closing
+use Rattle.pen.proofs.closing as Closing
 use Rattle.octets.specs.declared.writing.Wrote.{Wrote}
 
 -- `Lister::fresh` was called, and gave this lister

@@ -19,8 +19,8 @@ use Rattle.capture_record.specs.Records.{Records, end, cut, more, recordsIn}
 use Rattle.station.specs.Asking.{permissionNumber}
 use Rattle.station.specs.Starting.{startForbids}
 use Rattle.station.specs.declared.asking.Permission.{Permission}
-use Rattle.capture.specs.Lines.{closingOf}
-use Rattle.capture.specs.declared.words.Word.{Word}
+use Rattle.pen.specs.Lines.{closingOf}
+use Rattle.pen.specs.declared.words.Word.{Word}
 use Rattle.capture_record.specs.declared.entry.Settings.{Settings}
 use Rattle.claims.specs.Histories.{frame, advance, ask, History, tooFar, clockAfter, listener}
 use Rattle.claims.specs.Numbered.{Said, numberedFrom, damagedAmong}

@@ -7,11 +7,11 @@ use Prim.Native.Nat.{ℕ, _+_, _≤_}
 use lib.ListN.{length}
 use Rattle.answer.specs.declared.Answer.{Answer}
 use Rattle.block.specs.Blocks.{isDamaged, usedPart}
-use Rattle.capture.specs.Lines.{closingOf}
+use Rattle.pen.specs.Lines.{closingOf}
 use Rattle.capture.specs.Listers.{fresh, oneBlockMore}
 use Rattle.capture.specs.Lists.{noted, isMalformed, blockTold, blocksIn, listOf}
 use Rattle.capture.specs.declared.lister.Lister.{Lister}
-use Rattle.capture.specs.declared.words.Word.{Word}
+use Rattle.pen.specs.declared.words.Word.{Word}
 use Rattle.capture_record.specs.Entries.{Noted, advancing, entryMeans}
 use Rattle.capture_record.specs.Records.{Records, more, recordsIn}
 use Rattle.station.specs.Clock.{advanceOf}

@@ -10,8 +10,8 @@ use Rattle.block.specs.Blocks.{isDamaged, usedPart}
 use Rattle.capture.specs.Lists.{isMalformed, blocksIn, listOf}
 use Rattle.capture_record.specs.Entries.{entryMeans}
 use Rattle.capture_record.specs.Records.{Records, end, cut, more, recordsIn}
-use Rattle.capture.specs.Lines.{lineOf, closingOf}
-use Rattle.capture.specs.declared.words.Word.{Word}
+use Rattle.pen.specs.Lines.{lineOf, closingOf}
+use Rattle.pen.specs.declared.words.Word.{Word}
 
 -- what a line says after its number: the word, the answer's number, and where a frame broke
 pub record Said : Type 0 where

@@ -4,6 +4,7 @@ pub mod Allowing
 pub mod Answers
 pub mod BodyFaults
 pub mod FromAp
+pub mod Hearings
 pub mod IbssNames
 pub mod Indexing
 pub mod Openings

@@ -14,6 +14,7 @@ use Rattle.beacon.specs.Laid.{laid}
 use Rattle.beacon.specs.declared.Heard.{Heard}
 use Rattle.header.specs.Headers.{headerLength, bodyOf, Head, headerMeans}
 use Rattle.header.specs.declared.address.Cell.{Cell}
+use Rattle.header.specs.declared.management.Subtype.{Subtype}
 use Rattle.frame.specs.Actions.{Body}
 use Rattle.frame.specs.Frames.{beacon, probeResponse, action, kindOf, sent, frameMeans}
 use Rattle.frame.specs.CodeTerms.Located.{readingPast}
@@ -65,3 +66,11 @@ module _ (own ap' : List ℕ) (b : ℕ) (f : List ℕ) where
       → andThen (nowhere o) (λ h. sent (h .toAll) (placedPast headerLength (kindOf b (h .subtype) (bodyOf f)))) ≡ frameMeans own ap' b f
   unfolding frameMeans
   framed o e = ap (λ (x : Outcome Head). andThen (nowhere x) (λ h. sent (h .toAll) (placedPast headerLength (kindOf b (h .subtype) (bodyOf f))))) e
+
+  -- with a body that was found after it, and its subtype
+  pub body-framed : (h : Head) → accepted h ≡ headerMeans Cell.Ap own ap' f → {t : Subtype} → h .subtype ≡ t → {body : List ℕ} → body ≡ bodyOf f
+      → sent (h .toAll) (placedPast headerLength (kindOf b t body)) ≡ frameMeans own ap' b f
+  body-framed h e {t} g k =
+      ap (λ (s : List ℕ). sent (h .toAll) (placedPast headerLength (kindOf b t s))) k
+      ∙ ap (λ (x : Subtype). sent (h .toAll) (placedPast headerLength (kindOf b x (bodyOf f)))) (sym g)
+      ∙ framed (accepted h) e

@@ -3,6 +3,7 @@ pub mod Allowed
 pub mod Announcements
 pub mod CodeTerms
 pub mod Frames
+pub mod Hearing
 pub mod IbssFrames
 pub mod IbssLaid
 pub mod Laid

@@ -1,10 +1,15 @@
 // Frames (document 01, "A frame that is read is one of seven kinds"): any octets at all come out as one of them, or as one refusal.
 mod bodies;
+mod hearing;
 mod ibss;
 mod index;
 mod places;
 
 pub use bodies::read_body;
+pub use hearing::Change;
+pub use hearing::Hearing;
+pub use hearing::hear;
+pub use hearing::verdict_on;
 pub use ibss::ReceivedInIbss;
 pub use ibss::dfs_pair_at;
 pub use ibss::read_in_ibss;

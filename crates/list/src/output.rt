@@ -3,14 +3,14 @@ ghost use mathlib.Core.Bool.{true};
 ghost use mathlib.Core.Path.{_≡_};
 ghost use lib.ListN.{length};
 ghost use Rattle.capture.specs.Listers.{Fits};
-ghost use Rattle.capture.specs.Lines.{closingOf};
-ghost use Rattle.capture.specs.Rooms.{fronted};
+ghost use Rattle.pen.specs.Lines.{closingOf};
+ghost use Rattle.pen.specs.Rooms.{fronted};
 ghost use Rattle.list.specs.Program.{ClosedAs, PieceListed};
 ghost use Rattle.list.specs.CodeTerms.Writing.{CountWithin, WroteAs, going};
 use capture::Lister;
-use capture::Text;
 use libc::STDOUT_FILENO;
 use octets::Wrote;
+use pen::Text;
 
 // How the listing stands, or ended.
 pub enum Fate {
@@ -72,7 +72,7 @@ pub fn list_blocks(lister: Lister, piece: &[u8], out: &mut [u8], said: Fate) -> 
 fn closing(lister: Lister) -> Text
     ensures { λ r. ⌜ r ≡ fronted (closingOf (lister .blocks) (lister .damaged)) ⌝ }
 {
-    capture::closing(lister.blocks, lister.damaged)
+    pen::closing(lister.blocks, lister.damaged)
 }
 
 fn write_closing(lister: Lister) -> bool {

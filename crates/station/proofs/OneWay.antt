@@ -15,16 +15,17 @@ use Rattle.beacon.specs.Beacons.{quietLimit}
 use Rattle.beacon.specs.declared.MaybePower.{MaybePower}
 use Rattle.beacon.specs.declared.MaybeSwitch.{MaybeSwitch}
 use Rattle.element.specs.declared.quiet.Quiet.{Quiet}
+use Rattle.frame.specs.declared.hearing.Change.{Change}
 use Rattle.schedule.proofs.Ends.{once-begun}
 use Rattle.schedule.specs.Schedules.{endBegun}
 use Rattle.schedule.specs.declared.Schedule.{Schedule}
 use Rattle.station.specs.Clock.{switched}
-use Rattle.station.specs.CodeTerms.Changing.{replacedIf, changed, atOnce, extentOf, overlaid, restOf, withRest, restConstrained, restAnnounced}
+use Rattle.station.specs.CodeTerms.Changing.{replacedIf, changed, extentOf, overlaid, withRest}
+use Rattle.station.specs.Rests.{atOnce, restOf, restConstrained, restAnnounced}
 use Rattle.station.specs.Stations.{noSchedule, slotted}
 use Rattle.station.specs.Taking.{passed, schedulesOf, later, latestEnd, constrained, announced, announcedIf}
 use Rattle.station.specs.Validity.{Valid}
 use Rattle.station.specs.declared.Station.{Station}
-use Rattle.station.specs.declared.changing.Change.{Change}
 use Rattle.station.specs.declared.changing.Rest.{Rest}
 use Rattle.station.specs.declared.replacing.Extent.{Extent}
 use Rattle.station.proofs.SlotBySlot.{as-many}
@@ -49,7 +50,7 @@ unfolding latestEnd
 latest-blank t e zero = refl
 latest-blank t e (suc n) = ap (λ (d : ℕ). latestEnd t d (replicate n noSchedule)) (ends-nothing t e) ∙ latest-blank t e n
 
-latest-append : (t e : ℕ) (xs ys : List Schedule) → latestEnd t e (xs ++ ys) ≡ latestEnd t (latestEnd t e xs) ys
+pub latest-append : (t e : ℕ) (xs ys : List Schedule) → latestEnd t e (xs ++ ys) ≡ latestEnd t (latestEnd t e xs) ys
 unfolding latestEnd
 latest-append t e [] ys = refl
 latest-append t e (x ∷ xs) ys = latest-append t (later e (endBegun x t)) xs ys

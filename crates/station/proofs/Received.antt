@@ -10,11 +10,12 @@ use Rattle.answer.specs.declared.Verdict.{Verdict}
 use Rattle.element.specs.declared.quiet.Quiet.{Quiet}
 use Rattle.frame.specs.Allowed.{ReadingAllowed, ReceivedAllowed}
 use Rattle.frame.specs.Frames.{Sent, frameMeans}
+use Rattle.frame.specs.Hearing.{verdictOn, byReading}
 use Rattle.frame.specs.Laid.{frameTold, frameOf, quietsOf, frameLaid}
 use Rattle.frame.specs.declared.Frame.{Frame}
 use Rattle.frame.specs.declared.Reading.{Reading}
 use Rattle.frame.specs.declared.Received.{Received}
-use Rattle.station.specs.CodeTerms.Changing.{verdictOn, byReading, changed}
+use Rattle.station.specs.CodeTerms.Changing.{changed}
 use Rattle.station.specs.Taking.{informed, changedBy, taken, heard, heardMeans, heardOf, takeMeans}
 use Rattle.station.specs.Validity.{Valid}
 use Rattle.station.specs.declared.Station.{Station}

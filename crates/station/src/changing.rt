@@ -2,73 +2,11 @@
 ghost use mathlib.Core.Path.{_≡_};
 ghost use Prim.Native.Nat.{_/_};
 ghost use Rattle.pending.specs.Waiting.{pendingBy};
-ghost use Rattle.station.specs.CodeTerms.Changing.{byNotice, byFrame, byReading, atOnce, restSwitched, restConstrained, restAnnounced};
+ghost use Rattle.station.specs.Rests.{atOnce, restSwitched, restConstrained, restAnnounced};
 use beacon::MaybePower;
 use beacon::MaybeSwitch;
-use beacon::Notice;
 use element::channel_switch::ChannelSwitch;
-use frame::Frame;
-use frame::Reading;
 use pending::Pending;
-
-// Whether the Quiet elements of a frame replace all schedules, its Power Constraint, and its announcement.
-pub struct Change {
-    pub replaces: bool,
-    pub power: MaybePower,
-    pub switch: MaybeSwitch,
-}
-
-impl Change {
-    const NOTHING: Change = Change {
-        replaces: false,
-        power: MaybePower::Absent,
-        switch: MaybeSwitch::Absent,
-    };
-
-    // By a beacon or a probe response.
-    fn by_notice(notice: Notice) -> Change
-        ensures { λ r. ⌜ r ≡ byNotice notice ⌝ }
-    {
-        let power = notice.power;
-        let switch = notice.switch;
-        Change {
-            replaces: true,
-            power,
-            switch,
-        }
-    }
-
-    // By an accepted frame. Measurement frames and those of transmit power control change nothing.
-    fn by_frame(frame: Frame) -> Change
-        ensures { λ r. ⌜ r ≡ byFrame frame ⌝ }
-    {
-        match frame {
-            Frame::Beacon(notice) => Change::by_notice(notice),
-            Frame::ProbeResponse(notice) => Change::by_notice(notice),
-            Frame::ChannelSwitch(switch) => Change {
-                switch: MaybeSwitch::Is(switch),
-                ..Change::NOTHING
-            },
-            Frame::MeasurementRequest { token: _, count: _ } => Change::NOTHING,
-            Frame::MeasurementReport { token: _, count: _ } => Change::NOTHING,
-            Frame::TpcRequest { token: _ } => Change::NOTHING,
-            Frame::TpcReport {
-                token: _,
-                report: _,
-            } => Change::NOTHING,
-        }
-    }
-
-    // By what was read: a refused frame changes nothing.
-    pub fn by_reading(reading: Reading) -> Change
-        ensures { λ r. ⌜ r ≡ byReading reading ⌝ }
-    {
-        match reading {
-            Reading::Refused(_) => Change::NOTHING,
-            Reading::Is(frame) => Change::by_frame(frame),
-        }
-    }
-}
 
 // Whether an announcement is the switch itself: its count is 0.
 pub fn is_at_once(switch: MaybeSwitch) -> bool

@@ -7,16 +7,19 @@ mod starting;
 mod taking;
 
 pub use asking::Permission;
+pub use changing::Rest;
+pub use changing::is_at_once;
 pub use clock::Advanced;
 pub use clock::Stepped;
 pub use clock::advance_clock;
+pub use replacing::later;
 pub use starting::Started;
 pub use taking::Taken;
 ghost use mathlib.Core.Path.{_≡_};
 ghost use Rattle.answer.specs.Checks.{refused, accepted};
 ghost use Rattle.station.specs.Clock.{stepped, switched};
-ghost use Rattle.station.specs.CodeTerms.Changing.{restOf, withRest};
-use crate::changing::Rest;
+ghost use Rattle.station.specs.CodeTerms.Changing.{withRest};
+ghost use Rattle.station.specs.Rests.{restOf};
 use answer::Answer;
 use answer::Refusal;
 use beacon::MaybePower;
@@ -59,7 +62,7 @@ impl Station {
     };
 
     // What it keeps beside its addresses and its schedules, where it stays quiet until then.
-    fn rest(self, until: u64) -> Rest
+    pub fn rest(self, until: u64) -> Rest
         ensures { λ r. ⌜ r ≡ restOf self until ⌝ }
     {
         let power = self.power;

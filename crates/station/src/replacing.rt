@@ -49,7 +49,7 @@ pub fn extent_of(switches: bool, replaces: bool, before: usize, count: usize) ->
 }
 
 // The later of two moments.
-fn later(one: u64, other: u64) -> u64
+pub fn later(one: u64, other: u64) -> u64
     ensures { λ r. ⌜ r ≡ later one other ⌝ }
 {
     if one < other { other } else { one }

@@ -6,17 +6,16 @@ ghost use lib.ListN.{length, take};
 ghost use Rattle.beacon.specs.Beacons.{quietLimit};
 ghost use Rattle.element.specs.declared.quiet.Quiet.{Quiet};
 ghost use Rattle.frame.specs.Allowed.{ReceivedAllowed};
-ghost use Rattle.station.specs.CodeTerms.Changing.{changed, verdictOn};
+ghost use Rattle.station.specs.CodeTerms.Changing.{changed};
 ghost use Rattle.station.specs.Taking.{heardOf, takeOf};
 ghost use Rattle.station.specs.Validity.{Valid};
 use crate::Station;
 use crate::changing;
-use crate::changing::Change;
 use crate::replacing;
 use answer::Verdict;
 use beacon::QUIETS;
 use element::quiet::Quiet;
-use frame::Reading;
+use frame::Change;
 use frame::Received;
 
 // The verdict on a frame, and the station after it: the same as before where the frame was refused.
@@ -30,15 +29,6 @@ fn at_most_all(count: usize) -> usize
     ensures { λ r. ⌜ (r ≤ quietLimit) × ((qs : List Quiet) → length qs ≡ quietLimit → take r qs ≡ take count qs) ⌝ }
 {
     if QUIETS < count { QUIETS } else { count }
-}
-
-fn verdict_on(reading: Reading) -> Verdict
-    ensures { λ r. ⌜ r ≡ verdictOn reading ⌝ }
-{
-    match reading {
-        Reading::Refused(fault) => Verdict::Refused(fault),
-        Reading::Is(_) => Verdict::Accepted,
-    }
 }
 
 impl Station {
@@ -79,7 +69,7 @@ impl Station {
         let reading = received.reading;
         let quiets = received.quiets;
         let station = self.changed(Change::by_reading(reading), quiets, received.count);
-        let verdict = verdict_on(reading);
+        let verdict = frame::verdict_on(reading);
         Taken { verdict, station }
     }
 

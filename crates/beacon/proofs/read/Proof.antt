@@ -18,16 +18,18 @@ use Rattle.walk.specs.CodeTerms.Found.{follow, Within}
 use Rattle.walk.specs.declared.Found.{Found}
 use Rattle.beacon.specs.Allowed.{Allowed}
 use Rattle.beacon.specs.Beacons.{Told, tells, opening, bodyMeans}
-use Rattle.beacon.specs.CodeTerms.Adding.{addedTold}
+use Rattle.beacon.specs.CodeTerms.Adding.{addedTold, SlotlessIn}
 use Rattle.beacon.specs.CodeTerms.Naming.{readsDfs, takesWhere}
+use Rattle.beacon.specs.CodeTerms.Quieting.{QuietAt}
 use Rattle.beacon.specs.IbssBeacons.{ToldInIbss, absent, tellsInIbss, toldWhere}
 use Rattle.beacon.specs.Laid.{laid}
 use Rattle.beacon.specs.Notices.{elementless}
 use Rattle.beacon.specs.declared.adding.Added.{Added}
+use Rattle.beacon.specs.declared.quiets.MaybeQuiet.{MaybeQuiet}
 use Rattle.beacon.proofs.Allowing.{opening-allowed}
 use Rattle.beacon.proofs.InIbss.{where-read}
 use Rattle.beacon.proofs.Saying.{short-body, other-interval, body-says}
-use Rattle.beacon.proofs.Walking.{Walked, Comes, at-end, at-cut-header, at-cut-contents, at-bad-dfs, at-dfs, at-refused, at-notice, slot-free, at-quiet}
+use Rattle.beacon.proofs.Walking.{Walked, Comes, at-end, at-cut-header, at-cut-contents, at-bad-dfs, at-dfs, at-refused, at-notice, no-slot, at-quiet}
 use Rattle.beacon.proofs.read.Statement.{statement}
 use Rattle.beacon.proofs.read.Tie as tie
 
@@ -79,30 +81,62 @@ loop-holds c =
           (ap (λ (t : Told). tellsInIbss t absent) fixed));
     }
 
--- ---- what stands at a place
+-- ---- a turn of the loop
 
-abbrev entry : tie.After-element-at Inv-loop μ-loop → tie.Start Inv-loop μ-loop
-entry c = c .before .before .before .before .before .before .before .before
+abbrev Turn : Type 0
+Turn = tie.At-loop Inv-loop μ-loop
 
-abbrev bodyIn : tie.After-element-at Inv-loop μ-loop → List ℕ
-bodyIn c = now (entry c .args .body)
+abbrev entry : Turn → tie.Start Inv-loop μ-loop
+entry t = t .before .before .before .before .before .before .before
+
+abbrev bodyIn : Turn → List ℕ
+bodyIn t = now (entry t .args .body)
+
+-- whether a Quiet element that finds a slot stands at the place
+abbrev Quieted : Turn → MaybeQuiet → Type 0
+Quieted t x = QuietAt (bodyIn t) (t .loop .at) (t .loop .count) (entry t .args .interval) x
+
+-- ---- it does
+
+abbrev begun : tie.After-known-told Inv-loop μ-loop → Turn
+begun c = c .before .before .before .before
+
+quiet : (c : tie.After-known-told Inv-loop μ-loop) → Quieted (begun c) (MaybeQuiet.Is (c .before .quiet .given .0 .0))
+quiet c = subst (Quieted (begun c)) (c .before .quiet .given .1) (c .before .before .before .quiet-at .ensures)
+
+array-set-from-quiets : tie.Need-array-set-from-quiets Inv-loop μ-loop
+array-set-from-quiets c = omega (arith, quiet c .1)
+
+add-at : tie.Need-add-at Inv-loop μ-loop
+add-at c = omega (arith, quiet c .0 .inside)
+
+loop-less : tie.Need-loop-less Inv-loop μ-loop
+loop-less c = omega (arith, quiet c .0 .inside)
+
+loop-again : tie.Need-loop-again Inv-loop μ-loop
+loop-again c = at-quiet _ _ _ _ _ _ _ _ _ (begun c .loop .inv) _ (quiet c)
+
+-- ---- it does not: what stands there
+
+abbrev turn : tie.After-element-at Inv-loop μ-loop → Turn
+turn c = c .before .before .before .before
 
 -- the elements from there on
-stands : (c : tie.After-element-at Inv-loop μ-loop) (f : Found) → c .element-at .result ≡ f → elementsIn (drop (c .before .loop .at) (bodyIn c)) ≡ follow (bodyIn c) f
-stands c f e = c .element-at .ensures .0 ∙ ap (follow (bodyIn c)) e
+stands : (c : tie.After-element-at Inv-loop μ-loop) (f : Found) → c .element-at .result ≡ f → elementsIn (drop (turn c .loop .at) (bodyIn (turn c))) ≡ follow (bodyIn (turn c)) f
+stands c f e = c .element-at .ensures .0 ∙ ap (follow (bodyIn (turn c))) e
 
 returns-3 : tie.Need-returns-3 Inv-loop μ-loop
-returns-3 c = let k = c .before .before in at-end _ _ _ _ _ _ _ _ _ (k .before .loop .inv) (stands k _ (c .enum-told .given .1))
+returns-3 c = let k = c .before .before in at-end _ _ _ _ _ _ _ _ _ (turn k .loop .inv) (stands k _ (c .enum-told2 .given .1))
 
 returns-4 : tie.Need-returns-4 Inv-loop μ-loop
 returns-4 c =
     let k = c .before .before .before in
-    c .refused-at2 .ensures ∙ ap (laid (entry k .args .index)) (at-cut-header _ _ _ _ _ _ _ _ _ (k .before .loop .inv) _ (stands k _ (c .before .enum-told2 .given .1)))
+    c .refused-at2 .ensures ∙ ap (laid (entry (turn k) .args .index)) (at-cut-header _ _ _ _ _ _ _ _ _ (turn k .loop .inv) _ (stands k _ (c .before .enum-told3 .given .1)))
 
 returns-5 : tie.Need-returns-5 Inv-loop μ-loop
 returns-5 c =
     let k = c .before .before .before in
-    c .refused-at3 .ensures ∙ ap (laid (entry k .args .index)) (at-cut-contents _ _ _ _ _ _ _ _ _ (k .before .loop .inv) _ (stands k _ (c .before .enum-told3 .given .1)))
+    c .refused-at3 .ensures ∙ ap (laid (entry (turn k) .args .index)) (at-cut-contents _ _ _ _ _ _ _ _ _ (turn k .loop .inv) _ (stands k _ (c .before .enum-told4 .given .1)))
 
 -- ---- a whole element
 
@@ -110,8 +144,11 @@ abbrev Element : Type 0
 Element = tie.After-reads-dfs Inv-loop μ-loop
 
 -- where it was looked for
-abbrev place : Element → tie.After-element-at Inv-loop μ-loop
-place c = c .before .before .before .before
+abbrev looked : Element → tie.After-element-at Inv-loop μ-loop
+looked c = c .before .before .before .before
+
+abbrev place : Element → Turn
+place c = turn (looked c)
 
 abbrev found : Element → Found
 found c = let e = c .before .before .id .given .0 in Found.Whole (e .0) (e .1 .0) (e .1 .1 .0)
@@ -127,22 +164,22 @@ abbrev after : Element → ℕ
 after c = c .before .before .id .given .0 .1 .1 .0
 
 -- it lies in the body, past the place
-inside : (c : Element) → Within (place c .before .loop .at) (length (bodyIn (place c))) (found c)
-inside c = subst (Within (place c .before .loop .at) (length (bodyIn (place c)))) (c .before .before .id .given .1) (place c .element-at .ensures .1)
+inside : (c : Element) → Within (place c .loop .at) (length (bodyIn (place c))) (found c)
+inside c = subst (Within (place c .loop .at) (length (bodyIn (place c)))) (c .before .before .id .given .1) (looked c .element-at .ensures .1)
 
 -- what was walked before it
 walked : (c : Element)
     → let a = entry (place c) .args in
-    let l = place c .before .loop in
+    let l = place c .loop in
     Walked (a .ibss) (a .interval) (a .index) (bodyIn (place c)) (l .at) (l .notice) (l .quiets) (l .count) (l .dfs)
-walked c = place c .before .loop .inv
+walked c = place c .loop .inv
 
 -- the elements from the place on: this one, and those after it
-goes-on : (c : Element) → elementsIn (drop (place c .before .loop .at) (bodyIn (place c))) ≡ follow (bodyIn (place c)) (found c)
-goes-on c = stands (place c) (found c) (c .before .before .id .given .1)
+goes-on : (c : Element) → elementsIn (drop (place c .loop .at) (bodyIn (place c))) ≡ follow (bodyIn (place c)) (found c)
+goes-on c = stands (looked c) (found c) (c .before .before .id .given .1)
 
 -- and where those after it begin
-past : (c : Element) → pastElement (place c .before .loop .at) (contents c) ≡ after c
+past : (c : Element) → pastElement (place c .loop .at) (contents c) ≡ after c
 past c =
     let w = inside c in
     let e = c .before .before .id .given .0 in
@@ -171,14 +208,14 @@ returns-6 c =
     ∙ ap (laid (entry (place s) .args .index))
     (at-bad-dfs _ _ _ _ _ _ _ _ _ (walked s) _ _ (after s) (goes-on s) (past s) (reads k) (k .read-dfs .result) (k .read-dfs .ensures) _ (c .before .before .answer .given .1))
 
-loop-less : tie.Need-loop-less Inv-loop μ-loop
-loop-less c = let w = inside (c .before .before .before .before .before .before) in omega arith
+loop-less-2 : tie.Need-loop-less-2 Inv-loop μ-loop
+loop-less-2 c = let w = inside (c .before .before .before .before .before .before) in omega arith
 
-loop-again : tie.Need-loop-again Inv-loop μ-loop
-loop-again c =
+loop-again-2 : tie.Need-loop-again-2 Inv-loop μ-loop
+loop-again-2 c =
     let k = c .before .before .before in
     let s = k .before .before .before in
-    at-dfs _ _ _ _ _ _ _ _ _ (walked s) _ _ (after s) (goes-on s) (past s) (reads k) (k .read-dfs .result) (k .read-dfs .ensures) (c .before .enum-told4 .given .1)
+    at-dfs _ _ _ _ _ _ _ _ _ (walked s) _ _ (after s) (goes-on s) (past s) (reads k) (k .read-dfs .result) (k .read-dfs .ensures) (c .before .enum-told5 .given .1)
 
 -- ---- any other
 
@@ -197,13 +234,20 @@ element c = c .before .before .before
 skips : (c : tie.After-add-element Inv-loop μ-loop) → readsDfs (entry (place (element c)) .args .ibss) (idOf (element c)) ≡ false
 skips c = sym (element c .reads-dfs .ensures) ∙ c .before .before .if3 .left
 
+-- if it is a Quiet element that is not refused, no slot is left for it: one that finds a slot does not come here
+full : (c : tie.After-add-element Inv-loop μ-loop) → let s = element c in SlotlessIn (walked s .quiets) (entry (place s) .args .interval) (idOf s) (contents s)
+full c =
+    let s = element c in
+    let k = looked s .before in
+    no-slot _ _ _ _ _ _ _ _ _ (walked s) _ _ (after s) (goes-on s) (past s) (subst (Quieted (place s)) (k .enum-told .given .1) (k .before .before .quiet-at .ensures))
+
 -- what was added is what the definition adds
 comes : (c : tie.After-add-element Inv-loop μ-loop) (x : Added) → c .add-element .result ≡ x
     → let s = element c in
     Comes _ _ _ _ _ _ _ _ _ (walked s) (idOf s) (contents s) (after s) (goes-on s) (past s) x
 comes c x e =
     let w = walked (element c) in
-    ap (addedTold (place (element c) .before .loop .notice) (w .quiets)) (sym e) ∙ c .add-element .ensures (w .quiets) (w .kept-count)
+    ap (addedTold (w .quiets)) (sym e) ∙ c .add-element .ensures (w .quiets) (full c)
 
 returns-7 : tie.Need-returns-7 Inv-loop μ-loop
 returns-7 c =
@@ -213,21 +257,6 @@ returns-7 c =
     ∙ ap (laid (entry (place s) .args .index))
     (at-refused _ _ _ _ _ _ _ _ _ (walked s) _ _ (after s) (goes-on s) (past s) (skips k) _ (comes k _ (c .before .before .refusal .given .1)))
 
-array-set-from-quiets : tie.Need-array-set-from-quiets Inv-loop μ-loop
-array-set-from-quiets c =
-    let k = c .before .before .before in
-    let s = element k in
-    omega (arith, slot-free _ _ _ _ _ _ _ _ _ (walked s) _ _ (after s) (goes-on s) (past s) (skips k) _ (comes k _ (c .before .quiet .given .1)))
-
-loop-less-2 : tie.Need-loop-less-2 Inv-loop μ-loop
-loop-less-2 c = let w = inside (element (c .before .before .before)) in omega arith
-
-loop-again-2 : tie.Need-loop-again-2 Inv-loop μ-loop
-loop-again-2 c =
-    let k = c .before .before .before in
-    let s = element k in
-    at-notice _ _ _ _ _ _ _ _ _ (walked s) _ _ (after s) (goes-on s) (past s) (skips k) _ (comes k _ (c .before .next2 .given .1))
-
 loop-less-3 : tie.Need-loop-less-3 Inv-loop μ-loop
 loop-less-3 c = let w = inside (element (c .before .before .before)) in omega arith
 
@@ -235,7 +264,7 @@ loop-again-3 : tie.Need-loop-again-3 Inv-loop μ-loop
 loop-again-3 c =
     let k = c .before .before .before in
     let s = element k in
-    at-quiet _ _ _ _ _ _ _ _ _ (walked s) _ _ (after s) (goes-on s) (past s) (skips k) _ (comes k _ (c .before .quiet .given .1))
+    at-notice _ _ _ _ _ _ _ _ _ (walked s) _ _ (after s) (goes-on s) (past s) (skips k) _ (comes k _ (c .before .next2 .given .1))
 
 pub read-spec : {M : Type 1} → statement M
 read-spec =
@@ -252,6 +281,15 @@ read-spec =
     (λ c κs. search needs)
     (λ c κs. search needs)
     loop-holds
+    (λ c κs. search needs)
+    (λ c. search needs)
+    (λ c. search needs)
+    array-set-from-quiets
+    (λ c. search needs)
+    add-at
+    loop-less
+    loop-again
+    (λ c. search needs)
     (λ c κs. search needs)
     (λ c. search needs)
     returns-3
@@ -279,12 +317,6 @@ read-spec =
     (λ c κs. search needs)
     returns-7
     (λ c. search needs)
-    (λ c. search needs)
-    (λ c. search needs)
-    array-set-from-quiets
-    (λ c. search needs)
-    loop-less
-    loop-again
     loop-less-2
     loop-again-2
     loop-less-3

@@ -1,14 +1,14 @@
 -- What a record is to the lister, by its entry.
 use mathlib.Core.Bool.{Bool, true, false}
 use Rattle.capture_record.specs.declared.entry.Entry.{Entry}
-use Rattle.capture.specs.declared.words.Word.{Word}
+use Rattle.pen.specs.declared.words.Word.{Word}
 
--- a record for a station where none is started: a malformed one is for none, with a station or without
+-- an advance or a question where no station is started: a malformed record is for none, with a station or without
 abbrev pub lacksStation : Bool → Entry → Bool
 lacksStation missing Entry.Malformed = false
 lacksStation missing Entry.Start = false
 lacksStation missing (Entry.Advance n) = missing
-lacksStation missing Entry.Frame = missing
+lacksStation missing Entry.Frame = false
 lacksStation missing (Entry.Ask n) = missing
 
 -- the word of a record's line
@@ -26,3 +26,11 @@ entryMalformed Entry.Start = false
 entryMalformed (Entry.Advance n) = false
 entryMalformed Entry.Frame = false
 entryMalformed (Entry.Ask n) = false
+
+-- whether a record is a frame that a station hears
+abbrev pub heardBy : Bool → Entry → Bool
+heardBy active Entry.Malformed = false
+heardBy active Entry.Start = false
+heardBy active (Entry.Advance n) = false
+heardBy active Entry.Frame = active
+heardBy active (Entry.Ask n) = false

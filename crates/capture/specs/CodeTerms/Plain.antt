@@ -7,9 +7,10 @@ use lib.Dec.{leb, eqb}
 use lib.ListN.{length, drop}
 use Rattle.capture_record.specs.Entries.{Noted, advancing, asking, entryMeans}
 use Rattle.capture_record.specs.Records.{more, recordsIn}
-use Rattle.capture.specs.Rooms.{lineRoom}
-use Rattle.capture.specs.CodeTerms.Numerals.{Spells}
 use Rattle.octets.specs.Writing.{over}
+use Rattle.pen.specs.Numerals.{Spells}
+use Rattle.pen.specs.Rooms.{lineRoom}
+use Rattle.pen.specs.declared.Pen.{Pen}
 use Rattle.pending.specs.declared.Pending.{Pending}
 use Rattle.station.specs.Clear.{Clear}
 use Rattle.station.specs.Clock.{clockAdvance}
@@ -19,7 +20,6 @@ use Rattle.station.specs.declared.clock.Advanced.{Advanced}
 use Rattle.capture.specs.Listers.{withLines, withStation}
 use Rattle.capture.specs.Lists.{before, recorded}
 use Rattle.capture.specs.declared.lister.Lister.{Lister}
-use Rattle.capture.specs.declared.pen.Pen.{Pen}
 use Rattle.capture.specs.declared.plain.Plain.{Plain}
 use Rattle.capture.specs.declared.plain.Ran.{Ran}
 

@@ -1,21 +1,21 @@
 -- `read` meets its contract: the header, then the body by its subtype.
 use mathlib.Core.Path.{_≡_, sym, ap, _∙_}
 use mathlib.Core.Bool.{false}
-use mathlib.Core.List.{List, []}
-use Prim.Native.Nat.{ℕ, _≤_}
+use mathlib.Core.List.{[]}
+use Prim.Native.Nat.{_≤_}
 use denote.Ref.{now}
 use lib.ListN.{length}
 use Rattle.answer.specs.Checks.{accepted}
 use Rattle.answer.specs.Faults.{placedPast}
 use Rattle.answer.specs.declared.Fault.{Fault}
-use Rattle.header.specs.Headers.{headerLength, bodyOf, headerTold, Head, headerMeans}
+use Rattle.header.specs.Headers.{headerLength, headerTold, Head, headerMeans}
 use Rattle.header.specs.declared.address.Cell.{Cell}
 use Rattle.header.specs.declared.management.Subtype.{Subtype}
 use Rattle.frame.specs.CodeTerms.BodyKinds.{kindSubtype}
 use Rattle.frame.specs.Frames.{kindOf, sent, frameMeans}
 use Rattle.frame.specs.Laid.{received, frameLaid}
 use Rattle.frame.specs.declared.Reading.{Reading}
-use Rattle.frame.proofs.ReadFrames.{framed}
+use Rattle.frame.proofs.ReadFrames.{framed, body-framed}
 use Rattle.frame.proofs.Within.{body-short}
 use Rattle.measurement_body.specs.Bodies.{longestBody}
 use borrow.Author.Needs.{needs}
@@ -33,11 +33,9 @@ header-read c = ap headerTold (sym (c .before .subtype .given .1)) ∙ c .before
 of-body : (c : tie.After-body) {t : Subtype} → head (c .before) .subtype ≡ t
     → let a = c .before .before .before .before .before .before .args in
     frameLaid (sent (head (c .before) .toAll) (placedPast headerLength (kindOf (a .interval) t (now (c .body .result))))) ≡ frameLaid (frameMeans (a .own) (a .ap) (a .interval) (a .frame .now))
-of-body c {t} e =
+of-body c e =
     let a = c .before .before .before .before .before .before .args in
-    ap (λ (s : List ℕ). frameLaid (sent (head (c .before) .toAll) (placedPast headerLength (kindOf (a .interval) t s)))) (c .body .ensures)
-    ∙ ap (λ (x : Subtype). frameLaid (sent (head (c .before) .toAll) (placedPast headerLength (kindOf (a .interval) x (bodyOf (a .frame .now)))))) (sym e)
-    ∙ ap frameLaid (framed (a .own) (a .ap) (a .interval) (a .frame .now) _ (header-read (c .before)))
+    ap frameLaid (body-framed (a .own) (a .ap) (a .interval) (a .frame .now) (head (c .before)) (header-read (c .before)) e (c .body .ensures))
 
 -- it is no longer than a body may be
 short : (c : tie.After-body) → length (now (c .body .result)) ≤ longestBody

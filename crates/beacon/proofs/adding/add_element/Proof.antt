@@ -8,6 +8,7 @@ use Rattle.beacon.specs.Beacons.{Told, adds, takes}
 use Rattle.beacon.specs.CodeTerms.Adding.{elementTold}
 use Rattle.beacon.specs.declared.elements.Element.{Element}
 use Rattle.beacon.specs.declared.elements.Reading.{Reading}
+use Rattle.beacon.proofs.Quieting.{slotless}
 use Rattle.beacon.proofs.adding.add_element.Statement.{statement}
 use Rattle.beacon.proofs.adding.add_element.Tie as tie
 
@@ -19,10 +20,14 @@ unfolding takes
 read-as c r e t = ap (λ (o : Outcome Element). andThen o (adds t)) (ap elementTold (sym e) ∙ c .element-of .ensures)
 
 returns : tie.Need-returns
-returns c qs e = read-as (c .before .before .before) _ (c .before .refusal .given .1) _
+returns c qs h = read-as (c .before .before .before) _ (c .before .refusal .given .1) _
 
 returns-2 : tie.Need-returns-2
-returns-2 c qs e = c .add .ensures qs e ∙ read-as (c .before .before .before .before) _ (c .before .before .element .given .1) _
+returns-2 c qs h =
+    let k = c .before .before .before .before in
+    let a = k .before .before .args in
+    let e = c .before .before .element .given .1 in
+    c .add .ensures qs (slotless (a .interval) (now (a .contents)) (a .id) qs h _ (sym (k .element-of .ensures) ∙ ap elementTold e)) ∙ read-as k _ e _
 
 pub add-element-spec : {M : Type 1} → statement M
 add-element-spec =

@@ -12,9 +12,9 @@ use lib.ListN.{length}
 use lib.Seq.{length-take-le}
 use Rattle.answer.proofs.Booleans.{clash}
 use Rattle.octets.specs.Writing.{left}
-use Rattle.capture.proofs.InRoom.{in-front, count-within}
-use Rattle.capture.specs.Lines.{closingOf}
-use Rattle.capture.specs.declared.last_line.Text.{Text}
+use Rattle.pen.proofs.InRoom.{in-front, count-within}
+use Rattle.pen.specs.Lines.{closingOf}
+use Rattle.pen.specs.declared.last_line.Text.{Text}
 use Rattle.capture.specs.Lists.{fileTold, listOf}
 use Rattle.capture.specs.declared.lister.Lister.{Lister}
 use Rattle.boundary.proofs.Wholes.{list-length, same-out, too-short, whole}

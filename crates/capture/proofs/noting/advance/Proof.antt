@@ -2,7 +2,7 @@
 -- Assumes nothing.
 use mathlib.Core.Path.{sym, ap, _∙_, subst}
 use borrow.Author.Needs.{needs}
-use Rattle.capture.specs.declared.words.Word.{Word}
+use Rattle.pen.specs.declared.words.Word.{Word}
 use Rattle.capture.specs.CodeTerms.Following.{Follows}
 use Rattle.capture.specs.Lists.{line, stepped}
 use Rattle.capture.specs.declared.lister.Lister.{Lister}

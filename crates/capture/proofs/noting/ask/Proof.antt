@@ -1,8 +1,8 @@
 -- `ask` meets its contract: the station's answer.
 -- Assumes nothing.
 use mathlib.Core.Path.{refl, ap, _∙_}
+use Rattle.pen.specs.declared.words.Word.{Word}
 use Rattle.station.specs.declared.asking.Permission.{Permission}
-use Rattle.capture.specs.declared.words.Word.{Word}
 use Rattle.capture.specs.Lists.{line}
 use Rattle.capture.specs.declared.response.Response.{Response}
 use Rattle.capture.proofs.Answering.{an-ask}

@@ -3,7 +3,7 @@
 use mathlib.Core.Path.{sym, ap, subst}
 use borrow.Author.Needs.{needs}
 use Rattle.answer.specs.declared.Refusal.{Refusal}
-use Rattle.capture.specs.declared.words.Word.{Word}
+use Rattle.pen.specs.declared.words.Word.{Word}
 use Rattle.capture.specs.CodeTerms.Following.{Follows}
 use Rattle.capture.specs.Lists.{refusal, line}
 use Rattle.capture.specs.declared.lister.Lister.{Lister}

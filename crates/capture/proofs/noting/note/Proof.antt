@@ -8,7 +8,7 @@ use denote.Ref.{now}
 use Rattle.capture_record.specs.declared.entry.Entry.{Entry}
 use Rattle.capture.specs.CodeTerms.Noting.{lacksStation}
 use Rattle.capture.specs.Lists.{noStation, noted}
-use Rattle.capture.proofs.Answering.{lacking}
+use Rattle.capture.proofs.Answering.{no-frame, lacking}
 use Rattle.capture.proofs.noting.note.Statement.{statement}
 use Rattle.capture.proofs.noting.note.Tie as tie
 
@@ -33,19 +33,13 @@ advance-requires : tie.Need-advance-requires
 advance-requires c κs =
     let k = c .before .before .before in
     let s = k .before .before .before .before in
-    (s .pre, not-false (s .args .lister .active) (there k _ (c .before .entry .given .1)))
-
-frame-requires : tie.Need-frame-requires
-frame-requires c κs =
-    let k = c .before .before in
-    let s = k .before .before .before .before in
-    (s .pre, not-false (s .args .lister .active) (there k Entry.Frame (c .enum-told3 .given .1)))
+    (s .pre .0, not-false (s .args .lister .active) (there k _ (c .before .entry .given .1)))
 
 ask-requires : tie.Need-ask-requires
 ask-requires c κs =
     let k = c .before .before .before in
     let s = k .before .before .before .before in
-    (s .pre, not-false (s .args .lister .active) (there k _ (c .before .entry2 .given .1)))
+    (s .pre .0, not-false (s .args .lister .active) (there k _ (c .before .entry2 .given .1)))
 
 returns-2 : tie.Need-returns-2
 unfolding noted
@@ -58,7 +52,12 @@ returns-4 : tie.Need-returns-4
 returns-4 c = (c .advance .ensures .0 ∙ rw (c .before .before .entry .given .1), c .advance .ensures .1)
 
 returns-5 : tie.Need-returns-5
-returns-5 c = (c .frame .ensures .0 ∙ rw (c .before .enum-told3 .given .1), c .frame .ensures .1)
+returns-5 c =
+    let s = c .before .before .before .before .before .before .before in
+    let frame = c .before .enum-told3 .given .1 in (
+      c .unstarted2 .ensures .0 ∙ rw frame (no-frame (s .args .lister) (s .pre .1 frame) (now (s .args .contents))),
+      c .unstarted2 .ensures .1,
+    )
 
 returns-6 : tie.Need-returns-6
 returns-6 c = (c .ask .ensures .0 ∙ rw (c .before .before .entry2 .given .1), c .ask .ensures .1)
@@ -78,7 +77,7 @@ note-spec =
     (λ c. search needs)
     advance-requires
     (λ c. search needs)
-    frame-requires
+    (λ c κs. search needs)
     (λ c. search needs)
     ask-requires
     returns-2

@@ -8,11 +8,11 @@ use borrow.Author.Needs.{needs}
 use borrow.Author.Tests.{not-false}
 use denote.Ref.{now}
 use lib.ListN.{length}
-use Rattle.capture.specs.Rooms.{lineRoom}
+use Rattle.pen.specs.Rooms.{lineRoom}
 use Rattle.capture.specs.CodeTerms.Plain.{linesLeft, PlainAt, RanFrom}
 use Rattle.capture.specs.Listers.{lineLimit}
 use Rattle.capture.specs.declared.plain.Plain.{Plain}
-use Rattle.capture.proofs.Plainly.{ran-none, ran-size, ran-room, ran-advance, ran-question}
+use Rattle.capture.proofs.Plainly.{may-put, ran-none, ran-size, ran-room, ran-advance, ran-question}
 use Rattle.capture.proofs.plain.run.Statement.{statement}
 use Rattle.capture.proofs.plain.run.Tie as tie
 
@@ -83,7 +83,7 @@ put-advanced-requires c κs =
     let k = c .before .before in
     let l = goes-at k .before in
     let n = goes k .1 in
-    (l .loop .inv .spells, ran-room (big l) (l .loop .inv) _ lineLimit (n .past) (n .within) (Start l .pre .1 .1 .0))
+    may-put (l .loop .inv .spells) (ran-room (big l) (l .loop .inv) _ lineLimit (n .past) (n .within) (Start l .pre .1 .1 .0))
 
 loop-less : tie.Need-loop-less Inv-loop μ-loop
 loop-less c =
@@ -96,7 +96,7 @@ loop-again c =
     let k = p .before .before .before in
     let l = goes-at k .before in
     let g = goes k in
-    ran-advance (big l) (l .loop .inv) (g .0) _ (p .put-advanced .result) _ _ _ (g .2) (g .1) (p .put-advanced .ensures)
+    ran-advance (big l) (l .loop .inv) (g .0) _ (p .put-advanced .result) _ _ _ (g .2) (g .1) (p .put-advanced .ensures .0)
 
 -- ---- a question
 
@@ -114,7 +114,7 @@ put-granted-requires c κs =
     let k = c .before .before in
     let l = granted-at k .before in
     let n = granted k .1 in
-    (l .loop .inv .spells, ran-room (big l) (l .loop .inv) _ lineLimit (n .past) (n .within) (Start l .pre .1 .1 .0))
+    may-put (l .loop .inv .spells) (ran-room (big l) (l .loop .inv) _ lineLimit (n .past) (n .within) (Start l .pre .1 .1 .0))
 
 loop-less-2 : tie.Need-loop-less-2 Inv-loop μ-loop
 loop-less-2 c =
@@ -127,7 +127,7 @@ loop-again-2 c =
     let k = p .before .before .before in
     let l = granted-at k .before in
     let g = granted k in
-    ran-question (big l) (l .loop .inv) (g .0) _ (p .put-granted .result) _ _ (g .1) (g .2) (g .3) (p .put-granted .ensures)
+    ran-question (big l) (l .loop .inv) (g .0) _ (p .put-granted .result) _ _ (g .1) (g .2) (g .3) (p .put-granted .ensures .0)
 
 pub run-spec : {M : Type 1} → statement M
 run-spec =

@@ -4,8 +4,8 @@ use Prim.Native.Nat.{_≤_}
 use borrow.Author.Needs.{needs}
 use lib.ListN.{length}
 use lib.Seq.{length-take-le}
-use Rattle.capture.proofs.InRoom.{count-within}
-use Rattle.capture.specs.Lines.{closingOf}
+use Rattle.pen.proofs.InRoom.{count-within}
+use Rattle.pen.specs.Lines.{closingOf}
 use Rattle.list.proofs.output.write_closing.Statement.{statement}
 use Rattle.list.proofs.output.write_closing.Tie as tie
 

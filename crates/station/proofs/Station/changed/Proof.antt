@@ -5,7 +5,8 @@ use mathlib.Core.Path.{_≡_, ap, _∙_}
 use borrow.Author.Needs.{needs}
 use lib.ListN.{length}
 use Rattle.beacon.specs.Beacons.{quietLimit}
-use Rattle.station.specs.CodeTerms.Changing.{changed, extentOf, withRest, restConstrained, restAnnounced}
+use Rattle.station.specs.CodeTerms.Changing.{changed, extentOf, withRest}
+use Rattle.station.specs.Rests.{restConstrained, restAnnounced}
 use Rattle.station.specs.declared.changing.Rest.{Rest}
 use Rattle.station.proofs.OneWay.{extent-fits, put-together, one-way}
 use Rattle.station.proofs.Station.changed.Statement.{statement}

@@ -3,7 +3,8 @@
 use mathlib.Core.List.{[]}
 use mathlib.Core.Path.{ap, _∙_}
 use borrow.Author.Needs.{needs}
-use Rattle.station.specs.CodeTerms.Changing.{restSwitched, withRest}
+use Rattle.station.specs.CodeTerms.Changing.{withRest}
+use Rattle.station.specs.Rests.{restSwitched}
 use Rattle.station.specs.Stations.{slotted}
 use Rattle.station.specs.declared.changing.Rest.{Rest}
 use Rattle.station.proofs.Station.switched.Statement.{statement}

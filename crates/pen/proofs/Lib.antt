@@ -1,0 +1,10 @@
+pub mod ClosingLine
+pub mod CountingUp
+pub mod Following
+pub mod InNumeral
+pub mod InRoom
+pub mod Lengths
+pub mod OnlyDigits
+pub mod Pieces
+pub mod Spelling
+pub mod WholeLines
