@@ -34,7 +34,7 @@ use Rattle.table.specs.declared.Table.{Table}
 use Rattle.claims.specs.Moments.{ours}
 use Rattle.claims.specs.Records.{recordFrom}
 use Rattle.claims.specs.TableHistories.{madeFor, historyOf, historyFor, Stay, joinedAt}
-use Rattle.claims.specs.TableRuns.{take, question, TableAnswer, judged, asked, Made, Does}
+use Rattle.claims.specs.TableRuns.{take, question, TableAnswer, judged, asked, TableMade, Does}
 use Rattle.claims.proofs.TableDemand3.{row-arrives}
 use Rattle.claims.proofs.TableMeans.{askedAs, ap-kept, interval-kept, does-means}
 use Rattle.claims.proofs.TableRows.{hearing-keeps, to-another}
@@ -151,14 +151,14 @@ module _ (t : Table) (v : ValidTable t) (f : List ℕ) (alone : toAll f ≡ fals
 abbrev switchTo : ℕ → List ℕ
 switchTo channel = (208 ∷ 0 ∷ 0 ∷ 0 ∷ []) ++ ours .own ++ ours .ap ++ ours .ap ++ (0 ∷ 0 ∷ 0 ∷ 4 ∷ 37 ∷ 3 ∷ 0 ∷ channel ∷ 0 ∷ [])
 
-abbrev bothMade : ℕ → TableAnswer → ℕ → TableAnswer → List Made
+abbrev bothMade : ℕ → TableAnswer → ℕ → TableAnswer → List TableMade
 bothMade first r second s = record { call = take (switchTo second); answer = s } ∷ record { call = take (switchTo first); answer = r } ∷ []
 
-abbrev OurStay : List Made → List Made → Table → Type 0
+abbrev OurStay : List TableMade → List TableMade → Table → Type 0
 OurStay before after t = Stay (ours .ap) (ours .interval) (ours .own) (ours .channel) before after t
 
 -- in a table that it joined at moment 0 the two orders leave two different tables
-pub order-matters : (before : List Made) → joinedAt before ≡ 0 → (x y x' y' : TableAnswer) (t u : Table)
+pub order-matters : (before : List TableMade) → joinedAt before ≡ 0 → (x y x' y' : TableAnswer) (t u : Table)
     → OurStay before (bothMade 44 x 48 y) t → OurStay before (bothMade 48 x' 44 y') u → t ≡ u → ⊥
 unfolding madeFor historyOf recordFrom stationTakes frameMeans headerMeans managementMeans addressMeans foreignHeader foreignAddress toAll checked elementsIn elementsAfter switchMeans fixed actionMeans opensWith required handing passing nothingLeft single announced informed
 order-matters before none x y x' y' t u one other e =
@@ -171,6 +171,6 @@ order-matters before none x y x' y' t u one other e =
     channelIn (refused r) = 0
     channelIn (accepted s) = s .channel
 
-    at-zero : (after : List Made)
+    at-zero : (after : List TableMade)
         → _≡_ {A = Outcome Station} (accepted (recordFrom (joinedAt before) ours (historyFor (ours .own) after))) (accepted (recordFrom 0 ours (historyFor (ours .own) after)))
     at-zero after = ap (λ (m : ℕ). accepted (recordFrom m ours (historyFor (ours .own) after))) none

@@ -1,6 +1,6 @@
 -- Calls made in either way meet the meanings of the calls by value (02, Eight: "both give the same station and answer"), and octets in which a station was started hold one after any
 -- calls. Assumes nothing.
-use mathlib.Core.List.{List, [], _∷_}
+use mathlib.Core.List.{List, []}
 use mathlib.Core.Logic.{∥∥₁-elim, ∥∥₁-map}
 use mathlib.Core.Path.{_≡_, refl, sym, ap, ap₂, _∙_, subst}
 use Prim.Native.Nat.{ℕ, _≤_}
@@ -23,7 +23,6 @@ use Rattle.answer.proofs.Answer as Answer-row
 use Rattle.answer.specs.Checks.{Outcome, refused, accepted, andThen, answerOf}
 use Rattle.answer.specs.Faults.{Placed, nowhere, verdictOf}
 use Rattle.answer.specs.declared.Answer.{Answer}
-use Rattle.answer.specs.declared.Verdict.{Verdict}
 use Rattle.capture_record.specs.declared.entry.Settings.{Settings}
 use Rattle.frame.proofs.Allowing.{read-allowed}
 use Rattle.frame.specs.Frames.{frameMeans}
@@ -46,7 +45,6 @@ use Rattle.station.specs.Validity.{Valid}
 use Rattle.station.specs.declared.Station.{Station}
 use Rattle.station.specs.declared.asking.Permission.{Permission}
 use Rattle.station.specs.declared.clock.Stepped.{Stepped}
-use Rattle.station.specs.declared.taking.Taken.{Taken}
 use Rattle.station_record.proofs.Holding.{held-room}
 use Rattle.station_record.proofs.Layouts.{held-valid, laid-reads}
 use Rattle.station_record.specs.Calls.{relaid, startedIn, takenIn, advancedIn, askedIn, askedTold}
@@ -54,13 +52,14 @@ use Rattle.station_record.specs.Fits.{Fits}
 use Rattle.station_record.specs.Held.{stationAt, heldIn}
 use Rattle.station_record.specs.Records.{size, recordOf}
 use Rattle.station_record.specs.declared.Asked.{Asked}
-use Rattle.claims.specs.EitherWays.{Said, answered, judged, asked, saidBy, saidAfter, StationTakes, WasKept, LentAdvances, LentAsks, EitherRan, SettingsFit, RecordStarts, RecordRan}
-use Rattle.claims.specs.EitherWays as Ways
-use Rattle.claims.specs.Histories.{Call, frame, advance, ask, History}
-use Rattle.claims.specs.Merging.{StationAdvances}
+use Rattle.claims.specs.EitherWays.{WasKept, LentAdvances, LentAsks, EitherDoes, eitherWay, SettingsFit, RecordStarts, RecordDoes, inOctets}
+use Rattle.claims.specs.Histories.{Call}
 use Rattle.claims.specs.Records.{recordFrom, recordAfter}
-use Rattle.claims.proofs.Demand3.{leaves-start, answers-ask}
+use Rattle.claims.specs.Runs.{Made, callsOf, Ran}
+use Rattle.claims.specs.StationRuns.{Said, answered, judged, asked}
 use Rattle.claims.proofs.OneOutcomeLent.{lent-advance, lent-ask}
+use Rattle.claims.proofs.RunsMeant.{madeAfter, Meant, Meets, as-meant, said-alike, Exactly, meets-exactly}
+use Rattle.claims.proofs.StationMeans.{stationMeans, recorded, starts-means, does-means}
 use Rattle.claims.proofs.StaysFit.{started-fits, advanced-fits, taken-fits}
 
 -- ---- octets that hold a station, after a call on them
@@ -75,32 +74,37 @@ laid-is-held : (os : List ℕ) (t : Station) → size ≤ length os → Valid t 
 laid-is-held os t room v f =
     laid-reads t v f (drop (length (recordOf t)) os) (omega (arith, room, length-append (recordOf t) (drop (length (recordOf t)) os), length-drop (length (recordOf t)) os))
 
-module _ (os : List ℕ) (r : Station) (held : heldIn os ≡ accepted r) (fits : Fits r) where
-  -- an advance
-  valid-advance : (n : ℕ) → Valid (advanceOf r n .station)
-  unfolding advanceMeans
-  valid-advance n = advances-validly r n _ refl (held-is-valid os r held) .1
+valid-advance : (r : Station) (n : ℕ) → Valid r → Valid (advanceOf r n .station)
+unfolding advanceMeans
+valid-advance r n v = advances-validly r n _ refl v .1
 
-  after-advance : (n : ℕ) → (heldIn (relaid os (advanceMeans r n)) ≡ accepted (advanceOf r n .station)) × Fits (advanceOf r n .station)
-  after-advance n = by (advanceMeans r n) refl (valid-advance n)
+-- octets hold this station, which fits them
+pub record Holds (os : List ℕ) (r : Station) : Type 0 where
+  pub held : heldIn os ≡ accepted r
+  pub fits : Fits r
+
+module _ (os : List ℕ) (r : Station) (h : Holds os r) where
+  -- an advance
+  after-advance : (n : ℕ) → Holds (relaid os (advanceMeans r n)) (advanceOf r n .station)
+  after-advance n = by (advanceMeans r n) refl (valid-advance r n (held-is-valid os r (h .held)))
     where
-      by : (o : Outcome Station) → advanceMeans r n ≡ o → Valid (stepped r o .station) → (heldIn (relaid os o) ≡ accepted (stepped r o .station)) × Fits (stepped r o .station)
-      by (refused q) e v = (held, fits)
-      by (accepted t) e v = let f = advanced-fits r n t fits e in (laid-is-held os t (held-room os r held) v f, f)
+      by : (o : Outcome Station) → advanceMeans r n ≡ o → Valid (stepped r o .station) → Holds (relaid os o) (stepped r o .station)
+      by (refused q) e v = h
+      by (accepted t) e v = let f = advanced-fits r n t (h .fits) e in record { held = laid-is-held os t (held-room os r (h .held)) v f; fits = f }
 
   -- a frame of octets
   valid-take : (f : List ℕ) → Valid (takeOf r f .station)
   valid-take f =
       let read = frameLaid (frameMeans (r .own) (r .ap) (r .interval) f) in
       subst (λ (o : Placed Station). Valid (taken r o .station)) (read-means r f read refl)
-      (valid-heard r (held-is-valid os r held) read (read-allowed (r .interval) (r .own) (r .ap) f))
+      (valid-heard r (held-is-valid os r (h .held)) read (read-allowed (r .interval) (r .own) (r .ap) f))
 
-  after-take : (f : List ℕ) → Octets f → (heldIn (relaid os (takeMeans r f)) ≡ accepted (takeOf r f .station)) × Fits (takeOf r f .station)
+  after-take : (f : List ℕ) → Octets f → Holds (relaid os (takeMeans r f)) (takeOf r f .station)
   after-take f octets = by (takeMeans r f) refl (valid-take f)
     where
-      by : (o : Placed Station) → takeMeans r f ≡ o → Valid (taken r o .station) → (heldIn (relaid os o) ≡ accepted (taken r o .station)) × Fits (taken r o .station)
-      by (refused q) e v = (held, fits)
-      by (accepted t) e v = let g = taken-fits r f t fits octets e in (laid-is-held os t (held-room os r held) v g, g)
+      by : (o : Placed Station) → takeMeans r f ≡ o → Valid (taken r o .station) → Holds (relaid os o) (taken r o .station)
+      by (refused q) e v = h
+      by (accepted t) e v = let g = taken-fits r f t (h .fits) octets e in record { held = laid-is-held os t (held-room os r (h .held)) v g; fits = g }
 
 -- what an advance and a frame are answered
 advance-said : (r : Station) (n : ℕ) → answerOf (advanceMeans r n) ≡ advanceOf r n .answer
@@ -124,12 +128,6 @@ asked-is (Asked.Is q) p e = cc
 
 -- ---- any calls
 
--- octets that were started with these settings hold the record that the calls since mean, which fits them, and the calls were answered as they mean
-pub record Meets (s : Settings) (h : History) (os : List ℕ) (said : List Said) : Type 0 where
-  pub holds : heldIn os ≡ accepted (recordAfter s h)
-  pub fits : Fits (recordAfter s h)
-  pub same-said : said ≡ saidAfter s h
-
 -- an accepted start into octets
 begins : (own ap' : List ℕ) (b channel : ℕ) (os : List ℕ) (t : Station) → startedIn own ap' b channel os ≡ accepted t → (startMeans own ap' b channel ≡ accepted t) × (size ≤ length os)
 unfolding startedIn
@@ -145,60 +143,53 @@ is-fresh own ap' b channel t e =
     let same = kept (fresh own ap' b channel) (p .1) in
     (same, subst Valid same (valid-fresh own ap' b channel (p .0)))
 
+-- each call on octets that hold a station is answered as it means, and leaves octets that hold what it means
+record-does : (before : List ℕ) (c : Call) (x : Said) (os : List ℕ) → RecordDoes before c x os → (r : Station) → Holds before r
+    → (x ≡ stationMeans .answers r c) × Holds os (stationMeans .leaves r c)
+record-does before c x os (RecordDoes.takes {f = g} octets (κs, a, y, e, promise, (at-entry, heard, told, left))) r h =
+    let comes : takenIn (now (a .1 .0)) (now (a .0)) ≡ takeMeans r g = ap₂ (λ (x y : List ℕ). takenIn x y) heard at-entry ∙ ap (λ (o : Outcome Station). andThen (nowhere o) (λ z. takeMeans z g)) (h .held) in (
+      ap judged (sym told ∙ promise .0 ∙ ap verdictOf comes ∙ take-said r g),
+      subst (λ (b : List ℕ). Holds b (takeOf r g .station)) (sym (sym left ∙ promise .1 ∙ ap₂ (λ (b : List ℕ) (o : Placed Station). relaid b o) at-entry comes)) (after-take before r h g octets),
+    )
+record-does before c x os (RecordDoes.advances {n = n} (κs, a, y, e, promise, (at-entry, units, told, left))) r h =
+    let comes : advancedIn (a .1 .0) (now (a .0)) ≡ advanceMeans r n = ap₂ (λ (k : ℕ) (b : List ℕ). advancedIn k b) units at-entry ∙ ap (λ (o : Outcome Station). andThen o (λ z. advanceMeans z n)) (h .held) in (
+      ap answered (sym told ∙ promise .0 ∙ ap answerOf comes ∙ advance-said r n),
+      subst (λ (b : List ℕ). Holds b (advanceOf r n .station)) (sym (sym left ∙ promise .1 ∙ ap₂ (λ (b : List ℕ) (o : Outcome Station). relaid b o) at-entry comes)) (after-advance before r h n),
+    )
+record-does before c x os (RecordDoes.asks {n = n} {v = v} (κs, a, y, e, promise, (at-entry, units, told))) r h =
+    let comes : askedIn (a .1 .0) (now (a .0)) ≡ accepted (permissionOf r n) = ap₂ (λ (k : ℕ) (b : List ℕ). askedIn k b) units at-entry ∙ ap (λ (o : Outcome Station). andThen o (λ z. accepted (permissionOf z n))) (h .held) in
+    (ap asked (asked-is v (permissionOf r n) (ap askedTold (sym told) ∙ promise ∙ comes)), h)
+
 module _ (s : Settings) (f : SettingsFit s) where
-  start-meets : (os : List ℕ) → RecordStarts s os → Meets s [] os []
-  unfolding recordFrom saidAfter
-  start-meets os (κs, a, e, promise, own, ap', interval, channel, left) =
+  record-starts : (os : List ℕ) → RecordStarts s os → Holds os (recordAfter s [])
+  unfolding recordFrom
+  record-starts os (κs, a, x, e, promise, (own, ap', interval, channel, said, left)) =
       by (startedIn (s .own) (s .ap) (s .interval) (s .channel) (now (a .1 .1 .1 .1 .0))) refl
-      (rw (← own, ← ap', ← interval, ← channel) (promise .0)) (sym left ∙ rw (← own, ← ap', ← interval, ← channel) (promise .1))
+      (sym said ∙ rw (← own, ← ap', ← interval, ← channel) (promise .0)) (sym left ∙ rw (← own, ← ap', ← interval, ← channel) (promise .1))
     where
       entry : List ℕ
       entry = now (a .1 .1 .1 .1 .0)
 
-      by : (o : Outcome Station) → startedIn (s .own) (s .ap) (s .interval) (s .channel) entry ≡ o → Answer.Accepted ≡ answerOf o → os ≡ relaid entry o → Meets s [] os []
+      by : (o : Outcome Station) → startedIn (s .own) (s .ap) (s .interval) (s .channel) entry ≡ o → Answer.Accepted ≡ answerOf o → os ≡ relaid entry o → Holds os (recordAfter s [])
       by (refused q) d said exit = absurd (let z : _≡_ {A = ℕ} 0 1 = cc in omega arith)
       by (accepted t) d said exit =
           let w = begins (s .own) (s .ap) (s .interval) (s .channel) entry t d in
           let new = is-fresh (s .own) (s .ap) (s .interval) (s .channel) t (w .0) in
           let g = started-fits (s .own) (s .ap) (s .interval) (s .channel) t (f .own-six) (f .own-octets) (f .ap-six) (f .ap-octets) (f .interval-fits) (w .0) in
           record {
-            holds = ap heldIn exit ∙ laid-is-held entry t (w .1) (new .1) g ∙ ap accepted (sym (new .0));
+            held = ap heldIn exit ∙ laid-is-held entry t (w .1) (new .1) g ∙ ap accepted (sym (new .0));
             fits = subst Fits (sym (new .0)) g;
-            same-said = refl;
           }
 
-  pub record-meets : {h : History} {os : List ℕ} {said : List Said} → RecordRan s h os said → Meets s h os said
-  unfolding recordFrom saidAfter
-  record-meets (Ways.RecordRan.started os x) = start-meets os x
-  record-meets (Ways.RecordRan.took h before os said g v octets ran (κs, a, e, promise, at-entry, heard, left)) =
-      let m = record-meets ran in
-      let r = recordAfter s h in
-      let comes : takenIn (now (a .1 .0)) (now (a .0)) ≡ takeMeans r g = ap₂ (λ (x y : List ℕ). takenIn x y) heard at-entry ∙ ap (λ (o : Outcome Station). andThen (nowhere o) (λ y. takeMeans y g)) (m .holds) in
-      let after = after-take before r (m .holds) (m .fits) g octets in
-      record {
-        holds = ap heldIn (sym left ∙ promise .1 ∙ ap₂ (λ (b : List ℕ) (o : Placed Station). relaid b o) at-entry comes) ∙ after .0;
-        fits = after .1;
-        same-said = ap₂ (λ (x : Verdict) (xs : List Said). judged x ∷ xs) (promise .0 ∙ ap verdictOf comes ∙ take-said r g) (m .same-said);
-      }
-  record-meets (Ways.RecordRan.advanced h before os said n x ran (κs, a, e, promise, at-entry, units, left)) =
-      let m = record-meets ran in
-      let r = recordAfter s h in
-      let comes : advancedIn (a .1 .0) (now (a .0)) ≡ advanceMeans r n = ap₂ (λ (k : ℕ) (b : List ℕ). advancedIn k b) units at-entry ∙ ap (λ (o : Outcome Station). andThen o (λ y. advanceMeans y n)) (m .holds) in
-      let after = after-advance before r (m .holds) (m .fits) n in
-      record {
-        holds = ap heldIn (sym left ∙ promise .1 ∙ ap₂ (λ (b : List ℕ) (o : Outcome Station). relaid b o) at-entry comes) ∙ after .0;
-        fits = after .1;
-        same-said = ap₂ (λ (y : Answer) (xs : List Said). answered y ∷ xs) (promise .0 ∙ ap answerOf comes ∙ advance-said r n) (m .same-said);
-      }
-  record-meets (Ways.RecordRan.was-asked h os said n x ran (κs, a, y, e, promise, (at-entry, units, told))) =
-      let m = record-meets ran in
-      let r = recordAfter s h in
-      let comes : askedIn (a .1 .0) (now (a .0)) ≡ accepted (permissionOf r n) = ap₂ (λ (k : ℕ) (b : List ℕ). askedIn k b) units at-entry ∙ ap (λ (o : Outcome Station). andThen o (λ z. accepted (permissionOf z n))) (m .holds) in
-      record {
-        holds = m .holds;
-        fits = m .fits;
-        same-said = ap₂ (λ (z : Asked) (xs : List Said). asked z ∷ xs) (asked-is x (permissionOf r n) (ap askedTold (sym told) ∙ promise ∙ comes)) (m .same-said);
-      }
+  octets-meet : Meets inOctets stationMeans Holds s (recordAfter s [])
+  octets-meet = record { starts = record-starts; does = record-does }
+
+  -- octets that were started with these settings hold the record that the calls since mean, which fits them, and the calls were answered as they mean
+  pub record-meets : {ms : List (Made Call Said)} {os : List ℕ} → Ran inOctets s ms os
+      → Holds os (recordAfter s (callsOf ms)) × (ms ≡ madeAfter stationMeans (recordAfter s []) (callsOf ms))
+  record-meets {ms} {os} ran =
+      let w = as-meant octets-meet ran in
+      (subst (Holds os) (recorded 0 s (callsOf ms)) (w .stands), w .said)
 
 -- ---- by value, or on a station that is lent
 
@@ -212,65 +203,38 @@ answers-set = coded-set (Answer-row.the-row .coded)
 permissions-set : IsSet Permission
 permissions-set = coded-set (Permission-row.the-row .coded)
 
--- what each call by value leaves and answers
-by-value-takes : {before r : Station} {f : List ℕ} {v : Verdict} → StationTakes before f v r → (r ≡ takeOf before f .station) × (v ≡ takeOf before f .verdict)
-by-value-takes {before} {r} {f} (κs, a, x, e, promise, (self, octets, verdict, left)) =
-    let same : x ≡ takeOf before f = rw (← self, ← octets) (promise .0) in
-    (sym left ∙ ap (λ (y : Taken). y .station) same, sym verdict ∙ ap (λ (y : Taken). y .verdict) same)
-
-by-value-advances : {before r : Station} {n : ℕ} {answer : Answer} → StationAdvances before n answer r → (r ≡ advanceOf before n .station) × (answer ≡ advanceOf before n .answer)
-by-value-advances {before} {r} {n} (κs, a, x, e, promise, (self, units, answer, left)) =
-    let same : x ≡ advanceOf before n = rw (← self, ← units) (promise .0) in
-    (sym left ∙ ap (λ (y : Stepped). y .station) same, sym answer ∙ ap (λ (y : Stepped). y .answer) same)
-
--- a step of a run: what the station before it means, and what is said before it
-step-meets : (s : Settings) (h : History) (c : Call) {before r : Station} {x : Said} {said : List Said} → (before ≡ recordAfter s h) × (said ≡ saidAfter s h)
-    → r ≡ recordAfter s (c ∷ h) → x ≡ saidBy (recordAfter s h) c → (r ≡ recordAfter s (c ∷ h)) × (x ∷ said ≡ saidAfter s (c ∷ h))
-unfolding saidAfter
-step-meets s h c m left told = (left, ap₂ (λ (y : Said) (ys : List Said). y ∷ ys) told (m .1))
-
-module _ (s : Settings) (h : History) {before r : Station} {said : List Said} (m : (before ≡ recordAfter s h) × (said ≡ saidAfter s h)) where
-  frame-meets : (f : List ℕ) {v : Verdict} → (r ≡ takeOf before f .station) × (v ≡ takeOf before f .verdict)
-      → (r ≡ recordAfter s (frame f ∷ h)) × (judged v ∷ said ≡ saidAfter s (frame f ∷ h))
-  unfolding recordFrom
-  frame-meets f w =
-      step-meets s h (frame f) m (w .0 ∙ ap (λ (y : Station). takeOf y f .station) (m .0)) (ap judged (w .1 ∙ ap (λ (y : Station). takeOf y f .verdict) (m .0)))
-
-  advance-meets : (n : ℕ) {x : Answer} → (r ≡ advanceOf before n .station) × (x ≡ advanceOf before n .answer)
-      → (r ≡ recordAfter s (advance n ∷ h)) × (answered x ∷ said ≡ saidAfter s (advance n ∷ h))
-  unfolding recordFrom
-  advance-meets n w =
-      step-meets s h (advance n) m (w .0 ∙ ap (λ (y : Station). advanceOf y n .station) (m .0)) (ap answered (w .1 ∙ ap (λ (y : Station). advanceOf y n .answer) (m .0)))
-
-  ask-meets : (n : ℕ) {p : Permission} → (r ≡ before) × (p ≡ permissionOf before n)
-      → (r ≡ recordAfter s (ask n ∷ h)) × (asked (Asked.Is p) ∷ said ≡ saidAfter s (ask n ∷ h))
-  unfolding recordFrom
-  ask-meets n w = step-meets s h (ask n) m (w .0 ∙ m .0) (ap (λ (q : Permission). asked (Asked.Is q)) (w .1 ∙ ap (λ (y : Station). permissionOf y n) (m .0)))
-
 -- a promise that follows from nothing is kept, so that calls on a station that is lent can be made
 pub kept-where-it-follows : {M : Type 1} (𝓤 : URA M) (H : Heap 𝓤) (A : Atoms 𝓤) (at-mem : Memory → SProp 𝓤) (run : Routine → Fun 𝓤) (promise : SProp 𝓤)
     → ent 𝓤 (emp 𝓤) promise → WasKept 𝓤 H A at-mem run promise
 kept-where-it-follows 𝓤 H A at-mem run promise e P h = ∥∥₁-map ((via 𝓤 promise e h) .apply (𝓤 .one) tt) (λ t. t .0)
 
 module _ {M : Type 1} (𝓤 : URA M) (H : Heap 𝓤) (A : Atoms 𝓤) (at-mem : Memory → SProp 𝓤) (run : Routine → Fun 𝓤) where
-  -- and what each call on a station that is lent leaves there and answers
-  lent-advances : {before r : Station} {n : ℕ} {answer : Answer} → LentAdvances 𝓤 H A at-mem run before n answer r → (r ≡ advanceOf before n .station) × (answer ≡ advanceOf before n .answer)
+  -- what each call on a station that is lent answers and leaves there
+  lent-advances : {before r : Station} {n : ℕ} {answer : Answer} → LentAdvances 𝓤 H A at-mem run before n answer r → (answer ≡ advanceOf before n .answer) × (r ≡ advanceOf before n .station)
   lent-advances (κs, a, x, e, promise, lent, units, answer, left) =
       let w = promise _ (lent-advance 𝓤 H A at-mem run κs a x e) in
       let same = ap₂ advanceOf lent units in (
-        sym left ∙ ∥∥₁-elim w (stations-set _ _) (λ z. z .1) ∙ ap (λ (y : Stepped). y .station) same,
         sym answer ∙ ∥∥₁-elim w (answers-set _ _) (λ z. z .0) ∙ ap (λ (y : Stepped). y .answer) same,
+        sym left ∙ ∥∥₁-elim w (stations-set _ _) (λ z. z .1) ∙ ap (λ (y : Stepped). y .station) same,
       )
 
-  lent-asks : {before r : Station} {n : ℕ} {p : Permission} → LentAsks 𝓤 H A at-mem run before n p r → (r ≡ before) × (p ≡ permissionOf before n)
+  lent-asks : {before r : Station} {n : ℕ} {p : Permission} → LentAsks 𝓤 H A at-mem run before n p r → (p ≡ permissionOf before n) × (r ≡ before)
   lent-asks (κs, a, x, e, promise, lent, units, answer, left) =
       let w = promise _ (lent-ask 𝓤 H A at-mem run κs a x e) in
-      (sym left ∙ ∥∥₁-elim w (stations-set _ _) (λ z. z .1) ∙ lent, sym answer ∙ ∥∥₁-elim w (permissions-set _ _) (λ z. z .0) ∙ ap₂ permissionOf lent units)
+      (sym answer ∙ ∥∥₁-elim w (permissions-set _ _) (λ z. z .0) ∙ ap₂ permissionOf lent units, sym left ∙ ∥∥₁-elim w (stations-set _ _) (λ z. z .1) ∙ lent)
+
+  either-does : (r : Station) (c : Call) (x : Said) (next : Station) → Valid r → EitherDoes 𝓤 H A at-mem run r c x next → Meant stationMeans Valid r c x next
+  either-does r c x next v (EitherDoes.by-value y) = does-means r c x next v y
+  either-does r c x next v (EitherDoes.advances-lent {n = n} y) =
+      let w = lent-advances y in
+      record { answers = ap answered (w .0); leaves = w .1; valid = subst Valid (sym (w .1)) (valid-advance r n v) }
+  either-does r c x next v (EitherDoes.asks-lent y) =
+      let w = lent-asks y in
+      record { answers = ap (λ (p : Permission). asked (Asked.Is p)) (w .0); leaves = w .1; valid = subst Valid (sym (w .1)) v }
 
   -- such calls can be made on any valid station: what the calls by value give is allowed
   module _ (κ : Lft) (b o : ℕ) (γ : GName) (before : Station) (n : ℕ) (v : Valid before) where
     pub lent-advance-can : LentAdvances 𝓤 H A at-mem run before n (advanceOf before n .answer) (advanceOf before n .station)
-    unfolding advanceMeans
     lent-advance-can =
         let a = given b o γ before n in
         let x = advanceOf before n in (
@@ -279,7 +243,7 @@ module _ {M : Type 1} (𝓤 : URA M) (H : Heap 𝓤) (A : Atoms 𝓤) (at-mem : 
           x .answer,
           atExit Lent-advance.ended (κ, tt) a (x .station, (tt, tt)),
           kept-where-it-follows 𝓤 H A at-mem run _
-              (via 𝓤 _ (emp∗ 𝓤 (emp 𝓤)) (mono∗ 𝓤 (factI 𝓤 _ (emp 𝓤) (refl, refl)) (factI 𝓤 (Valid (x .station)) (emp 𝓤) (advances-validly before n _ refl v .1)))),
+              (via 𝓤 _ (emp∗ 𝓤 (emp 𝓤)) (mono∗ 𝓤 (factI 𝓤 _ (emp 𝓤) (refl, refl)) (factI 𝓤 (Valid (x .station)) (emp 𝓤) (valid-advance before n v)))),
           refl,
           refl,
           refl,
@@ -301,28 +265,28 @@ module _ {M : Type 1} (𝓤 : URA M) (H : Heap 𝓤) (A : Atoms 𝓤) (at-mem : 
         )
 
   module _ (s : Settings) where
-    pub either-meets : {h : History} {r : Station} {said : List Said} → EitherRan 𝓤 H A at-mem run s h r said → (r ≡ recordAfter s h) × (said ≡ saidAfter s h)
-    unfolding saidAfter
-    either-meets (Ways.EitherRan.started r x) = (leaves-start s r x .0, refl)
-    either-meets (Ways.EitherRan.took h before r said f v ran x) = frame-meets s h (either-meets ran) f (by-value-takes x)
-    either-meets (Ways.EitherRan.advanced h before r said n answer ran x) = advance-meets s h (either-meets ran) n (by-value-advances x)
-    either-meets (Ways.EitherRan.advanced-lent h before r said n answer ran x) = advance-meets s h (either-meets ran) n (lent-advances x)
-    either-meets (Ways.EitherRan.was-asked h r said n p ran x) = ask-meets s h (either-meets ran) n (refl, answers-ask s r n p x)
-    either-meets (Ways.EitherRan.was-asked-lent h before r said n p ran x) = ask-meets s h (either-meets ran) n (lent-asks x)
+    either-way-meets : Meets (eitherWay 𝓤 H A at-mem run) stationMeans (Exactly Valid) s (recordAfter s [])
+    either-way-meets = meets-exactly (eitherWay 𝓤 H A at-mem run) stationMeans Valid either-does s (recordAfter s []) (starts-means s)
+
+    -- the record is the one that the calls mean, and the calls were answered as they mean
+    pub either-meets : {ms : List (Made Call Said)} {r : Station} → Ran (eitherWay 𝓤 H A at-mem run) s ms r
+        → (r ≡ recordAfter s (callsOf ms)) × (ms ≡ madeAfter stationMeans (recordAfter s []) (callsOf ms))
+    either-meets {ms} ran =
+        let w = as-meant either-way-meets ran in
+        (w .stands .0 ∙ recorded 0 s (callsOf ms), w .said)
 
     -- ---- "both give the same station and answer"
 
     -- two runs of the same calls, each call made in either way
-    pub same-either-way : {h : History} {r q : Station} {said told : List Said} → EitherRan 𝓤 H A at-mem run s h r said → EitherRan 𝓤 H A at-mem run s h q told → (r ≡ q) × (said ≡ told)
-    same-either-way x y =
-        let w = either-meets x in
-        let z = either-meets y in
-        (w .0 ∙ sym (z .0), w .1 ∙ sym (z .1))
+    pub same-either-way : {ms ns : List (Made Call Said)} {r q : Station} → Ran (eitherWay 𝓤 H A at-mem run) s ms r → Ran (eitherWay 𝓤 H A at-mem run) s ns q
+        → callsOf ms ≡ callsOf ns → (r ≡ q) × (ms ≡ ns)
+    same-either-way x y same =
+        let w = said-alike either-way-meets either-way-meets x y same in
+        (w .1 .0 ∙ sym (w .2 .0), w .3)
 
     -- a run on octets beside one of the same calls in either way: the octets hold the station, and the answers are the same
-    pub same-in-octets : SettingsFit s → {h : History} {os : List ℕ} {r : Station} {said told : List Said} → RecordRan s h os said → EitherRan 𝓤 H A at-mem run s h r told
-        → (heldIn os ≡ accepted r) × (said ≡ told)
-    same-in-octets f x y =
-        let m = record-meets s f x in
-        let w = either-meets y in
-        (m .holds ∙ ap accepted (sym (w .0)), m .same-said ∙ sym (w .1))
+    pub same-in-octets : SettingsFit s → {ms ns : List (Made Call Said)} {os : List ℕ} {r : Station} → Ran inOctets s ms os → Ran (eitherWay 𝓤 H A at-mem run) s ns r
+        → callsOf ms ≡ callsOf ns → (heldIn os ≡ accepted r) × (ms ≡ ns)
+    same-in-octets f x y same =
+        let w = said-alike (octets-meet s f) either-way-meets x y same in
+        (w .1 .held ∙ ap accepted (sym (w .2 .0)), w .3)

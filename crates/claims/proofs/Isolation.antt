@@ -1,7 +1,7 @@
 -- Isolation (02, Six): "Two runs that agree on the table's start, a station's joining, the advances, the frames to all ones and the frames, questions and readings for
 -- that station, in one order, give it the same answers, replies and row contents until it leaves." The other calls of either run are any at all, and so is which row it
 -- sits in. Assumes nothing.
-use mathlib.Core.List.{List}
+use mathlib.Core.List.{List, []}
 use mathlib.Core.Path.{_≡_, sym, ap, ap₂, _∙_}
 use Prim.Native.Nat.{ℕ}
 use Rattle.answer.specs.Checks.{accepted}
@@ -9,14 +9,16 @@ use Rattle.table.specs.Tables.{stationOf}
 use Rattle.table.specs.declared.Table.{Table}
 use Rattle.claims.specs.Histories.{clockAfter}
 use Rattle.claims.specs.Records.{recordFrom}
-use Rattle.claims.specs.TableHistories.{madeFor, callsOf, callsFor, advancesOf, historyOf, Stay, joinedAt, settingsOf}
-use Rattle.claims.specs.TableRuns.{TableCall, Made}
-use Rattle.claims.proofs.TableStays.{toldBy, followed}
+use Rattle.claims.specs.Runs.{callsOf}
+use Rattle.claims.specs.TableHistories.{madeFor, callsFor, advancesOf, Stay, joinedAt, settingsOf}
+use Rattle.claims.specs.TableRuns.{TableCall, TableMade}
+use Rattle.claims.proofs.RunsMeant.{keptAfter, madeAfter}
+use Rattle.claims.proofs.TableStays.{rowMeans, followed}
 
 module _ (ap' : List ℕ) (b : ℕ) (own : List ℕ) (channel : ℕ) where
   -- two runs with the same start and the same joining; until the joining they need agree on the advances alone
   module _
-      (before before' after after' : List Made)
+      (before before' after after' : List TableMade)
       (t t' : Table)
       (one : Stay ap' b own channel before after t)
       (other : Stay ap' b own channel before' after' t')
@@ -30,12 +32,12 @@ module _ (ap' : List ℕ) (b : ℕ) (own : List ℕ) (channel : ℕ) where
       pub same-answers : madeFor own after ≡ madeFor own after'
       same-answers =
           followed ap' b own channel before after t one .told
-          ∙ ap₂ (λ (m : ℕ) (cs : List TableCall). toldBy m ap' b own channel cs) same-moment same-calls
+          ∙ ap₂ (λ (m : ℕ) (cs : List TableCall). madeAfter rowMeans (recordFrom m (settingsOf ap' b own channel) []) cs) same-moment same-calls
           ∙ sym (followed ap' b own channel before' after' t' other .told)
 
       -- and its row holds the same
       pub same-contents : stationOf t own ≡ stationOf t' own
       same-contents =
           followed ap' b own channel before after t one .row
-          ∙ ap₂ (λ (m : ℕ) (cs : List TableCall). accepted (recordFrom m (settingsOf ap' b own channel) (historyOf cs))) same-moment same-calls
+          ∙ ap₂ (λ (m : ℕ) (cs : List TableCall). accepted (keptAfter rowMeans (recordFrom m (settingsOf ap' b own channel) []) cs)) same-moment same-calls
           ∙ sym (followed ap' b own channel before' after' t' other .row)

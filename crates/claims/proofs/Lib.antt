@@ -35,6 +35,7 @@ pub mod MeasurementItems
 pub mod MeasurementsIgnored
 pub mod MemberDemand3
 pub mod MemberFollows
+pub mod MemberMeans
 pub mod Merged
 pub mod MergedLists
 pub mod MergedStations
@@ -77,12 +78,14 @@ pub mod ReplyParts
 pub mod ReservedClear
 pub mod ReservedIgnored
 pub mod RunItems
+pub mod RunsMeant
 pub mod Same
 pub mod SameBits
 pub mod Schedules
 pub mod SetSchedules
 pub mod SoundBefore
 pub mod StationFollows
+pub mod StationMeans
 pub mod StationWitnesses
 pub mod Stations
 pub mod StaysFit

@@ -1,111 +1,64 @@
 -- Demand 3 for a station of an IBSS, of the code: whatever calls were made after an accepted start, refused ones among them, the record is the one that the history
 -- speaks of, owner, interval, count and flag included, and each frame and each question is answered as the history says (02, Five). Assumes nothing.
-use mathlib.Core.Bool.{true, false}
 use mathlib.Core.List.{List, [], _∷_}
-use mathlib.Core.Logic.{inl, inr, ⊎-elim, _↔_}
+use mathlib.Core.Logic.{inl, inr, _↔_}
 use mathlib.Core.Path.{_≡_, refl, sym, ap, ap₂, _∙_, subst}
 use Prim.Native.Nat.{ℕ, _≤_}
 use native.Mathlib.Omega.{arith}
-use Rattle.answer.specs.Checks.{refused, accepted, checked, pick}
+use Rattle.answer.specs.Checks.{refused, accepted, pick}
 use Rattle.answer.specs.Faults.{Placed}
-use Rattle.answer.proofs.Booleans.{either}
 use Rattle.answer.specs.declared.Answer.{Answer}
 use Rattle.answer.specs.declared.Fault.{Fault}
 use Rattle.answer.specs.declared.Refusal.{Refusal}
 use Rattle.answer.specs.declared.Verdict.{Verdict}
 use Rattle.capture_record.specs.declared.entry.Settings.{Settings}
 use Rattle.element.specs.declared.channel_switch.ChannelSwitch.{ChannelSwitch}
-use Rattle.member.specs.Members.{memberOf, memberTakes, taken, takeOf, advanceOf, startOf}
+use Rattle.member.specs.Members.{memberOf, memberTakes, taken, takeOf, advanceOf}
 use Rattle.member.specs.Validity.{ValidMember}
 use Rattle.member.specs.declared.Member.{Member}
-use Rattle.member.specs.declared.clock.Stepped.{Stepped}
-use Rattle.member.specs.declared.starting.Started.{Started}
-use Rattle.member.specs.declared.taking.Taken.{Taken}
-use Rattle.owner.specs.Owners.{unknown}
 use Rattle.pending.specs.declared.Pending.{Pending}
-use Rattle.station.specs.Asking.{permissionNumber, permissionOf}
-use Rattle.station.specs.Starting.{startMeans, startForbids}
-use Rattle.station.specs.Stations.{fresh}
+use Rattle.station.specs.Asking.{permissionNumber}
 use Rattle.station.specs.declared.asking.Permission.{Permission}
-use Rattle.claims.specs.Histories.{Call, frame, advance, ask, History, tooFar, clockAfter, Latest, Throughout}
+use Rattle.claims.specs.Histories.{Call, History, tooFar, clockAfter, Latest, Throughout}
 use Rattle.claims.specs.MemberRecords.{verdictTold, memberAfter, MemberAgrees}
-use Rattle.claims.specs.MemberRuns.{MemberStarts, MemberTakes, MemberAdvances, MemberAsks, MemberRan}
+use Rattle.claims.specs.MemberRuns.{MemberTakes, MemberAdvances, MemberAsks, member}
 use Rattle.claims.specs.Naming.{NeverNamed}
 use Rattle.claims.specs.OpenUnits.{AllOpen, Applies}
 use Rattle.claims.specs.Reigns.{readAs, reigning, ibssListener}
+use Rattle.claims.specs.Runs.{Made, callsOf, Ran}
 use Rattle.claims.specs.Standing.{LastAnnounced, Switches, at-once, reached, NoSwitch, ChannelIs, PendingIs}
+use Rattle.claims.specs.StationRuns.{Said}
 use Rattle.claims.proofs.Agreement.{agreeing}
 use Rattle.claims.proofs.Asked.{answered, granted-open}
 use Rattle.station.proofs.KeptThroughout.{KeptThroughout}
 use Rattle.claims.proofs.MemberFollows.{tells, step-as, verdict-as, member-follows, sound}
+use Rattle.claims.proofs.MemberMeans.{recorded, takes-means, advances-means, asks-means, member-meets}
 use Rattle.claims.proofs.OneRecord.{alike, same-station}
 use Rattle.claims.proofs.OwnersNamed.{none-obeyed}
-
--- ---- what each call leaves
-
-start-accepted : (own bssid : List ℕ) (b channel : ℕ) → startOf own bssid b channel .answer ≡ Answer.Accepted
-    → startOf own bssid b channel .member ≡ memberOf (fresh own bssid b channel) unknown
-unfolding startMeans checked
-start-accepted own bssid b channel e =
-    ⊎-elim
-    (λ (y : startForbids own bssid b channel ≡ true).
-    let z : Answer.Refused Refusal.BadStart ≡ Answer.Accepted = simp y at e in
-    absurd (let w : _≡_ {A = ℕ} 0 1 = cc in omega arith))
-    (λ (n : startForbids own bssid b channel ≡ false). simp n)
-    (either (startForbids own bssid b channel))
+use Rattle.claims.proofs.RunsMeant.{as-meant}
 
 module _ (s : Settings) where
-  leaves-start : (m : Member) → MemberStarts s m → (m ≡ memberAfter s []) × ValidMember m
-  unfolding memberAfter
-  leaves-start m (κs, a, x, e, promise, (own, bssid, interval, channel, accepts, result)) =
-      let same : x ≡ startOf (s .own) (s .ap) (s .interval) (s .channel) = rw (← own, ← bssid, ← interval, ← channel) (promise .0) in (
-        sym result ∙ ap (λ (y : Started). y .member) same ∙ start-accepted (s .own) (s .ap) (s .interval) (s .channel) (ap (λ (y : Started). y .answer) (sym same) ∙ accepts),
-        subst ValidMember result (promise .1 accepts),
-      )
+  module _ (ms : List (Made Call Said)) (m : Member) (ran : Ran member s ms m) where
+    abbrev h : History
+    h = callsOf ms
 
-  pub leaves-take : (before m : Member) (f : List ℕ) (v : Verdict) → MemberTakes before f v m
-      → (v ≡ takeOf before f .verdict) × (m ≡ takeOf before f .member) × ValidMember m
-  leaves-take before m f v (κs, a, x, e, promise, (self, octets, verdict, result)) =
-      let same : x ≡ takeOf before f = rw (← self, ← octets) (promise .0) in
-      (sym verdict ∙ ap (λ (y : Taken). y .verdict) same, sym result ∙ ap (λ (y : Taken). y .member) same, subst ValidMember result (promise .1))
+    -- the functions, run call by call, arrive at the record that the history speaks of, and it is valid
+    pub arrives : (m ≡ memberAfter s h) × ValidMember m
+    arrives = let w = as-meant (member-meets s) ran .stands in (w .0 ∙ recorded s h, w .1)
 
-  pub leaves-advance : (before m : Member) (n : ℕ) (r : Answer) → MemberAdvances before n r m
-      → (r ≡ advanceOf before n .answer) × (m ≡ advanceOf before n .member) × ValidMember m
-  leaves-advance before m n r (κs, a, x, e, promise, (self, units, answer, result)) =
-      let same : x ≡ advanceOf before n = rw (← self, ← units) (promise .0) in
-      (sym answer ∙ ap (λ (y : Stepped). y .answer) same, sym result ∙ ap (λ (y : Stepped). y .member) same, subst ValidMember result (promise .1))
-
-  pub answers-ask : (m : Member) (n : ℕ) (p : Permission) → MemberAsks m n p → p ≡ permissionOf (m .station) n
-  answers-ask m n p (κs, a, x, e, promise, (self, units, result)) = sym result ∙ rw (← self, ← units) promise
-
-  -- ---- any calls
-
-  -- the functions, run call by call, arrive at the record that the history speaks of, and it is valid
-  pub arrives : (h : History) (m : Member) → MemberRan s h m → (m ≡ memberAfter s h) × ValidMember m
-  unfolding MemberRan memberAfter
-  arrives [] m x = leaves-start m x
-  arrives (frame f ∷ h) m (before, v, ran, took) =
-      let w = leaves-take before m f v took in
-      (w .1 ∙ ap (λ (y : Member). takeOf y f .member) (arrives h before ran .0), w .2)
-  arrives (advance n ∷ h) m (before, r, ran, advanced) =
-      let w = leaves-advance before m n r advanced in
-      (w .1 ∙ ap (λ (y : Member). advanceOf y n .member) (arrives h before ran .0), w .2)
-  arrives (ask n ∷ h) m (p, ran, asked) = arrives h m ran
-
-  module _ (h : History) (m : Member) (ran : MemberRan s h m) where
     -- an accepted start has an interval
     interval-positive : 1 ≤ s .interval
     interval-positive =
-        let w = arrives h m ran in
-        omega (arith, ap (λ (z : Member). z .station .interval) (w .0), ap (λ (z : KeptThroughout). z .2) (tells s h .settings), w .1 .station-valid .interval-positive)
+        omega
+        (arith, ap (λ (z : Member). z .station .interval) (arrives .0), ap (λ (z : KeptThroughout). z .2) (tells s h .settings), arrives .1 .station-valid .interval-positive)
 
     pub valid : ValidMember m
-    valid = arrives h m ran .1
+    valid = arrives .1
 
     -- every field is what the history says
     pub agreed : MemberAgrees s h m
     agreed =
-        subst (MemberAgrees s h) (sym (arrives h m ran .0))
+        subst (MemberAgrees s h) (sym (arrives .0))
         (record {
           same-own = ap (λ (z : KeptThroughout). z .0) (tells s h .settings);
           same-bssid = ap (λ (z : KeptThroughout). z .1) (tells s h .settings);
@@ -117,25 +70,25 @@ module _ (s : Settings) where
     pub asked : (n : ℕ) (p q : Permission) → MemberAsks m n p → (p ≡ q) ↔ Applies (ibssListener s) h n q
     asked n p q x =
         let w = answered (ibssListener s) (sound s) interval-positive h (m .station) (agreed .as-heard) n q in
-        (λ e. w .0 (sym (answers-ask m n p x) ∙ e), λ y. answers-ask m n p x ∙ w .1 y)
+        (λ e. w .0 (sym (asks-means x) ∙ e), λ y. asks-means x ∙ w .1 y)
 
     -- a question to send for 1 to 65,535 TU is granted exactly if each unit that it would cover is open
     pub granted : (n : ℕ) → 1 ≤ n → n ≤ 65535 → (p : Permission) → MemberAsks m n p → (permissionNumber p ≡ 0) ↔ AllOpen (ibssListener s) h n
     granted n lo hi p x =
-        subst (λ (q : Permission). (permissionNumber q ≡ 0) ↔ AllOpen (ibssListener s) h n) (sym (answers-ask m n p x))
+        subst (λ (q : Permission). (permissionNumber q ≡ 0) ↔ AllOpen (ibssListener s) h n) (sym (asks-means x))
         (granted-open (ibssListener s) (sound s) interval-positive h (m .station) (agreed .as-heard) n lo hi)
 
     -- each verdict on a frame is the one that the history says
     pub judged : (f : List ℕ) (v : Verdict) (next : Member) → MemberTakes m f v next → v ≡ verdictTold (clockAfter h) (reigning s h) (readAs s f)
-    judged f v next x = leaves-take m next f v x .0 ∙ ap (λ (y : Member). takeOf y f .verdict) (arrives h m ran .0) ∙ verdict-as s f h
+    judged f v next x = takes-means x .0 ∙ ap (λ (y : Member). takeOf y f .verdict) (arrives .0) ∙ verdict-as s f h
 
     -- each advance is answered as the history says: 14 where it goes too far, else 0
     pub stepped : (n : ℕ) (r : Answer) (next : Member) → MemberAdvances m n r next → r ≡ pick (tooFar (clockAfter h) n) (Answer.Refused Refusal.PastClock) Answer.Accepted
-    stepped n r next x = leaves-advance m next n r x .0 ∙ ap (λ (y : Member). advanceOf y n .answer) (arrives h m ran .0) ∙ step-as s n h
+    stepped n r next x = advances-means x .0 ∙ ap (λ (y : Member). advanceOf y n .answer) (arrives .0) ∙ step-as s n h
 
     -- a frame that is refused, with whatever number, changes nothing
     pub refused-same : (f : List ℕ) (q : Fault) (next : Member) → MemberTakes m f (Verdict.Refused q) next → next ≡ m
-    refused-same f q next x = let w = leaves-take m next f (Verdict.Refused q) x in w .1 ∙ by (memberTakes m f) (sym (w .0))
+    refused-same f q next x = let w = takes-means x in w .1 ∙ by (memberTakes m f) (sym (w .0))
       where
         by : (o : Placed Member) → taken m o .verdict ≡ Verdict.Refused q → taken m o .member ≡ m
         by (refused y) e = refl
@@ -169,15 +122,15 @@ module _ (s : Settings) where
   never-switched (c ∷ h) n none (inl (w, x, e)) = never-switches c h w none x
   never-switched (c ∷ h) n none (inr x) = never-switched h n (none .1) (x .1)
 
-  pub never-obeys : (h : History) (m : Member) → MemberRan s h m → NeverNamed s h → (m .station .channel ≡ s .channel) × (m .station .pending ≡ Pending.Nothing)
-  never-obeys h m ran none =
-      let a = agreed h m ran .as-heard in
+  pub never-obeys : (ms : List (Made Call Said)) (m : Member) → Ran member s ms m → NeverNamed s (callsOf ms) → (m .station .channel ≡ s .channel) × (m .station .pending ≡ Pending.Nothing)
+  never-obeys ms m ran none =
+      let a = agreed ms m ran .as-heard in
       (by-channel (a .channel-told), by-pending (m .station .pending) (a .pending-told))
     where
-      by-channel : ChannelIs (ibssListener s) h (m .station .channel) → m .station .channel ≡ s .channel
+      by-channel : ChannelIs (ibssListener s) (callsOf ms) (m .station .channel) → m .station .channel ≡ s .channel
       by-channel (inl x) = x .1
-      by-channel (inr x) = absurd (never-switched h (m .station .channel) none x)
+      by-channel (inr x) = absurd (never-switched (callsOf ms) (m .station .channel) none x)
 
-      by-pending : (p : Pending) → PendingIs (ibssListener s) h p → p ≡ Pending.Nothing
+      by-pending : (p : Pending) → PendingIs (ibssListener s) (callsOf ms) p → p ≡ Pending.Nothing
       by-pending Pending.Nothing x = refl
-      by-pending (Pending.Switch q) (w, x, mode, channel) = absurd (never-announced h (q .at) w none (x .0))
+      by-pending (Pending.Switch q) (w, x, mode, channel) = absurd (never-announced (callsOf ms) (q .at) w none (x .0))

@@ -33,15 +33,18 @@ use Rattle.table.specs.Validity.{Holds, RowOf, ValidTable}
 use Rattle.table.specs.declared.Stepped.{Stepped as TableStepped}
 use Rattle.table.specs.declared.Table.{Table}
 use Rattle.capture_record.specs.declared.entry.Settings.{Settings}
-use Rattle.claims.specs.Histories.{frame, advance, ask, History, clockFrom}
-use Rattle.claims.specs.MemberRuns.{MemberAdvances, MemberRan}
-use Rattle.claims.specs.Merging.{StationAdvances, TableTicks, Merges}
-use Rattle.claims.specs.Runs.{Ran}
-use Rattle.claims.specs.TableHistories.{callsOf, advancesOf}
-use Rattle.claims.specs.TableRuns.{tick, answered, Made, TableRan}
+use Rattle.claims.specs.Histories.{Call, frame, advance, ask, History, clockFrom}
+use Rattle.claims.specs.MemberRuns.{MemberAdvances, member}
+use Rattle.claims.specs.Merging.{TableTicks, Merges}
+use Rattle.claims.specs.Runs.{Made, callsOf, Ran}
+use Rattle.claims.specs.StationRuns.{Said, Advances, station}
+use Rattle.claims.specs.TableHistories.{advancesOf}
+use Rattle.claims.specs.TableRuns.{tick, answered, TableMade, startedWith, table}
 use Rattle.claims.proofs.Demand3.{arrives, agreed}
 use Rattle.claims.proofs.MemberDemand3.{arrives as memberArrives, agreed as memberAgreed}
+use Rattle.claims.proofs.MemberMeans.{advances-means as memberAdvancesMeans}
 use Rattle.claims.proofs.Merged.{AddsUp, merges}
+use Rattle.claims.proofs.StationMeans.{advances-means}
 use Rattle.claims.proofs.TableMeans.{answered-once, does-means}
 use Rattle.claims.proofs.TableStays.{reaches}
 
@@ -166,25 +169,25 @@ accepted-near t n answer far e =
 advance-near : (s : Station) (n : ℕ) → advanceOf s n .answer ≡ Answer.Accepted → tooFar (s .clock) n ≡ false
 advance-near s n e = accepted-near (s .clock) n (advanceOf s n .answer) (λ y. ap (λ (o : Outcome Station). stepped s o .answer) (far-refused s n y)) e
 
-station-goes : AddsUp StationAdvances Valid (λ s. s .clock)
+station-goes : AddsUp Advances Valid (λ s. s .clock)
 station-goes = record {
   gone = gone;
   adds = λ s v a b. gone-adds s a b;
   stays = gone-nowhere;
   clock-gone = gone-clock;
-  accepted-goes = λ s next n v (κs, a, x, e, promise, (self, units, told, left)).
-      let mine : x ≡ advanceOf s n = rw (← self, ← units) (promise .0) in
-      let close = advance-near s n (ap (λ (y : Stepped). y .answer) (sym mine) ∙ told) in
+  accepted-goes = λ s next n v step.
+      let m = advances-means step in
+      let close = advance-near s n (sym (m .0)) in
       let w = near (s .clock) n close in
-      (w .0, w .1, sym left ∙ ap (λ (y : Stepped). y .station) mine ∙ ap (λ (o : Outcome Station). stepped s o .station) (near-gone s n close), subst Valid left (promise .1));
-  near-accepted = λ s next n r v few within (κs, a, x, e, promise, (self, units, told, left)).
-      let mine : x ≡ advanceOf s n = rw (← self, ← units) (promise .0) in
-      let all = mine ∙ ap (stepped s) (near-gone s n (not-far (s .clock) n few within)) in
-      (sym told ∙ ap (λ (y : Stepped). y .answer) all, sym left ∙ ap (λ (y : Stepped). y .station) all);
+      (w .0, w .1, m .1 ∙ ap (λ (o : Outcome Station). stepped s o .station) (near-gone s n close), m .2);
+  near-accepted = λ s next n r v few within step.
+      let m = advances-means step in
+      let all = ap (stepped s) (near-gone s n (not-far (s .clock) n few within)) in
+      (m .0 ∙ ap (λ (y : Stepped). y .answer) all, m .1 ∙ ap (λ (y : Stepped). y .station) all);
 }
 
-pub station-merges : Merges StationAdvances Valid (λ s. s .clock)
-station-merges = merges StationAdvances Valid (λ s. s .clock) station-goes
+pub station-merges : Merges Advances Valid (λ s. s .clock)
+station-merges = merges Advances Valid (λ s. s .clock) station-goes
 
 -- the meanings alone, where both advances are accepted
 pub advance-merged : (s : Station) (a b : ℕ) → advanceOf s a .answer ≡ Answer.Accepted → advanceOf (advanceOf s a .station) b .answer ≡ Answer.Accepted → a + b ≤ 65535
@@ -237,18 +240,18 @@ member-goes = record {
   adds = λ m v a b. ap₂ memberOf (gone-adds (m .station) a b) (owner-adds m (v .station-valid .interval-positive) a b);
   stays = λ m v. ap₂ memberOf (gone-nowhere (m .station) (v .station-valid)) (no-tbtts (m .station .interval) (m .station .clock) (m .owner));
   clock-gone = λ m n. gone-clock (m .station) n;
-  accepted-goes = λ m next n v (κs, a, x, e, promise, (self, units, told, left)).
-      let mine : x ≡ memberAdvance m n = rw (← self, ← units) (promise .0) in
+  accepted-goes = λ m next n v step.
+      let x = memberAdvancesMeans step in
       let close =
       accepted-near (m .station .clock) n (memberAdvance m n .answer)
-      (λ y. ap (λ (z : MemberStepped). z .answer) (member-by m n _ (far-refused (m .station) n y))) (ap (λ (y : MemberStepped). y .answer) (sym mine) ∙ told)
+      (λ y. ap (λ (z : MemberStepped). z .answer) (member-by m n _ (far-refused (m .station) n y))) (sym (x .0))
       in
       let w = near (m .station .clock) n close in
-      (w .0, w .1, sym left ∙ ap (λ (y : MemberStepped). y .member) (mine ∙ member-by m n _ (near-gone (m .station) n close)), subst ValidMember left (promise .1));
-  near-accepted = λ m next n r v few within (κs, a, x, e, promise, (self, units, told, left)).
-      let mine : x ≡ memberAdvance m n = rw (← self, ← units) (promise .0) in
-      let all = mine ∙ member-by m n _ (near-gone (m .station) n (not-far (m .station .clock) n few within)) in
-      (sym told ∙ ap (λ (y : MemberStepped). y .answer) all, sym left ∙ ap (λ (y : MemberStepped). y .member) all);
+      (w .0, w .1, x .1 ∙ ap (λ (y : MemberStepped). y .member) (member-by m n _ (near-gone (m .station) n close)), x .2);
+  near-accepted = λ m next n r v few within step.
+      let x = memberAdvancesMeans step in
+      let all = member-by m n _ (near-gone (m .station) n (not-far (m .station .clock) n few within)) in
+      (x .0 ∙ ap (λ (y : MemberStepped). y .answer) all, x .1 ∙ ap (λ (y : MemberStepped). y .member) all);
 }
 
 pub member-merges : Merges MemberAdvances ValidMember (λ m. m .station .clock)
@@ -363,19 +366,19 @@ clock-within t (advance n ∷ h) within = by (tooFar (clockFrom t h) n) refl (cl
     by true e rest = rest
     by false e rest = near (clockFrom t h) n e .1
 
-pub station-zero : (s : Settings) (h : History) (x : Station) → Ran s h x → (r : Answer) (next : Station) → StationAdvances x 0 r next → (r ≡ Answer.Accepted) × (next ≡ x)
-station-zero s h x ran r next step =
-    let w = arrives s h x ran in
-    let clock = agreed s h x ran .as-heard .same-clock in
-    station-merges .zero-nothing x (w .1) (subst (λ (n : ℕ). n ≤ clockLimit) (sym clock) (clock-within 0 h (omega arith))) r next step
+pub station-zero : (s : Settings) (ms : List (Made Call Said)) (x : Station) → Ran station s ms x → (r : Answer) (next : Station) → Advances x 0 r next → (r ≡ Answer.Accepted) × (next ≡ x)
+station-zero s ms x ran r next step =
+    let w = arrives s ms x ran in
+    let clock = agreed s ms x ran .as-heard .same-clock in
+    station-merges .zero-nothing x (w .1) (subst (λ (n : ℕ). n ≤ clockLimit) (sym clock) (clock-within 0 (callsOf ms) (omega arith))) r next step
 
-pub member-zero : (s : Settings) (h : History) (x : Member) → MemberRan s h x → (r : Answer) (next : Member) → MemberAdvances x 0 r next → (r ≡ Answer.Accepted) × (next ≡ x)
-member-zero s h x ran r next step =
-    let w = memberArrives s h x ran in
-    let clock = memberAgreed s h x ran .as-heard .same-clock in
-    member-merges .zero-nothing x (w .1) (subst (λ (n : ℕ). n ≤ clockLimit) (sym clock) (clock-within 0 h (omega arith))) r next step
+pub member-zero : (s : Settings) (ms : List (Made Call Said)) (x : Member) → Ran member s ms x → (r : Answer) (next : Member) → MemberAdvances x 0 r next → (r ≡ Answer.Accepted) × (next ≡ x)
+member-zero s ms x ran r next step =
+    let w = memberArrives s ms x ran in
+    let clock = memberAgreed s ms x ran .as-heard .same-clock in
+    member-merges .zero-nothing x (w .1) (subst (λ (n : ℕ). n ≤ clockLimit) (sym clock) (clock-within 0 (callsOf ms) (omega arith))) r next step
 
-pub table-zero : (ap' : List ℕ) (b : ℕ) (ms : List Made) (t : Table) → TableRan ap' b ms t → (r : Answer) (next : Table) → TableTicks t 0 r next → (r ≡ Answer.Accepted) × (next ≡ t)
+pub table-zero : (ap' : List ℕ) (b : ℕ) (ms : List TableMade) (t : Table) → Ran table (startedWith ap' b) ms t → (r : Answer) (next : Table) → TableTicks t 0 r next → (r ≡ Answer.Accepted) × (next ≡ t)
 table-zero ap' b ms t ran r next step =
     let w = reaches ap' b ms t ran in
     table-merges .zero-nothing t (w .valid) (subst (λ (n : ℕ). n ≤ clockLimit) (sym (w .its-clock)) (clock-within 0 (advancesOf (callsOf ms)) (omega arith))) r next step

@@ -30,20 +30,21 @@ use Rattle.station.specs.Clock.{stepped, advanceMeans, advanceOf}
 use Rattle.station.specs.Taking.{taken, heard, takeMeans, takeOf}
 use Rattle.station.specs.declared.Station.{Station}
 use Rattle.station.specs.declared.asking.Permission.{Permission}
-use Rattle.station.specs.declared.clock.Stepped.{Stepped}
-use Rattle.station.specs.declared.taking.Taken.{Taken}
-use Rattle.claims.specs.Histories.{frame, advance, ask, History, Throughout, clockAfter}
+use Rattle.claims.specs.Histories.{Call, frame, advance, ask, History, Throughout, clockAfter}
 use Rattle.claims.specs.MemberRecords.{memberAfter, verdictTold}
-use Rattle.claims.specs.MemberRuns.{MemberTakes, MemberAdvances, MemberAsks, MemberRan}
-use Rattle.claims.specs.OneAddress.{FromOne, CallFromOne, AllFromOne, allFromAp, StationJudges, StationSteps}
+use Rattle.claims.specs.MemberRuns.{MemberTakes, MemberAdvances, MemberAsks, member}
+use Rattle.claims.specs.OneAddress.{FromOne, CallFromOne, AllFromOne, allFromAp}
 use Rattle.claims.specs.Records.{recordFrom, recordAfter}
 use Rattle.claims.specs.Reigns.{Reigning, nobody, reigns, reignOf, owns, namingAt, foreignTo, readAs, reigning}
-use Rattle.claims.specs.Runs.{Asks, Ran}
+use Rattle.claims.specs.Runs.{Made, callsOf, Ran}
+use Rattle.claims.specs.StationRuns.{Said, Takes, Advances, Asks, station}
 use Rattle.claims.proofs.Demand3 as Demand3
 use Rattle.station.proofs.KeptThroughout.{KeptThroughout}
 use Rattle.claims.proofs.MemberDemand3 as MemberDemand3
 use Rattle.claims.proofs.MemberFollows.{member-follows, verdict-as}
+use Rattle.claims.proofs.MemberMeans as MemberMeans
 use Rattle.claims.proofs.StationFollows.{follows, kept}
+use Rattle.claims.proofs.StationMeans as StationMeans
 
 -- whom element 41 names is the owner then
 named-owns : (t : ℕ) (d : Dfs) (w : Reigning) → owns (namingAt t (is d) w) (d .owner) ≡ true
@@ -146,30 +147,39 @@ module _ (s : Settings) where
 
   -- ---- of the code's own runs
 
-  module _ (a : List ℕ) (h : History) (m : Member) (r : Station) (all : AllFromOne s a h) (ran : MemberRan s h m) (beside : Ran s (allFromAp s h) r) where
-    -- the station inside is document 01's
-    pub same-record : m .station ≡ r
-    same-record =
-        ap (λ (y : Member). y .station) (MemberDemand3.arrives s h m ran .0)
-        ∙ stations-alike a (all .individual) (all .bssid-length) h (all .each)
-        ∙ sym (Demand3.arrives s (allFromAp s h) r beside .0)
+  module _
+      (a : List ℕ)
+      (ms ns : List (Made Call Said))
+      (m : Member)
+      (r : Station)
+      (all : AllFromOne s a (callsOf ms))
+      (ran : Ran member s ms m)
+      (beside : Ran station s ns r)
+      (same-bodies : callsOf ns ≡ allFromAp s (callsOf ms))
+    where
+      -- document 01's station has the record of the same bodies from its AP
+      from-ap : r ≡ recordAfter s (allFromAp s (callsOf ms))
+      from-ap = Demand3.arrives s ns r beside .0 ∙ ap (recordAfter s) same-bodies
 
-    -- and so is every answer
-    pub same-verdict : (f : List ℕ) → FromOne s a f → (v w : Verdict) (next : Member) → MemberTakes m f v next → StationJudges r (fromAp (s .ap) f) w → v ≡ w
-    same-verdict f one v w next x (κs, b, y, e, promise, (self, octets, verdict)) =
-        let same : y ≡ takeOf r (fromAp (s .ap) f) = rw (← self, ← octets) (promise .0) in
-        MemberDemand3.leaves-take s m next f v x .0
-        ∙ ap (λ (z : Member). Members.takeOf z f .verdict) (MemberDemand3.arrives s h m ran .0)
-        ∙ sym (verdict-alike a (all .individual) (all .bssid-length) f one h (allFromAp s h))
-        ∙ ap (λ (z : Station). takeOf z (fromAp (s .ap) f) .verdict) (sym (Demand3.arrives s (allFromAp s h) r beside .0))
-        ∙ ap (λ (z : Taken). z .verdict) (sym same) ∙ verdict
+      -- the station inside is document 01's
+      pub same-record : m .station ≡ r
+      same-record =
+          ap (λ (y : Member). y .station) (MemberDemand3.arrives s ms m ran .0)
+          ∙ stations-alike a (all .individual) (all .bssid-length) (callsOf ms) (all .each)
+          ∙ sym from-ap
 
-    pub same-permission : (n : ℕ) (p q : Permission) → MemberAsks m n p → Asks r n q → p ≡ q
-    same-permission n p q x (κs, b, y, e, promise, (self, units, result)) =
-        MemberDemand3.answers-ask s m n p x ∙ ap (λ (z : Station). permissionOf z n) same-record ∙ sym (sym result ∙ rw (← self, ← units) promise)
+      -- and so is every answer
+      pub same-verdict : (f : List ℕ) → FromOne s a f → (v w : Verdict) (next : Member) (left : Station) → MemberTakes m f v next → Takes r (fromAp (s .ap) f) w left → v ≡ w
+      same-verdict f one v w next left x y =
+          MemberMeans.takes-means x .0
+          ∙ ap (λ (z : Member). Members.takeOf z f .verdict) (MemberDemand3.arrives s ms m ran .0)
+          ∙ sym (verdict-alike a (all .individual) (all .bssid-length) f one (callsOf ms) (allFromAp s (callsOf ms)))
+          ∙ ap (λ (z : Station). takeOf z (fromAp (s .ap) f) .verdict) (sym from-ap)
+          ∙ sym (StationMeans.takes-means y .0)
 
-    pub same-step : (n : ℕ) (v w : Answer) (next : Member) → MemberAdvances m n v next → StationSteps r n w → v ≡ w
-    same-step n v w next x (κs, b, y, e, promise, (self, units, answer)) =
-        let same : y ≡ advanceOf r n = rw (← self, ← units) (promise .0) in
-        MemberDemand3.leaves-advance s m next n v x .0 ∙ step-answer m n
-        ∙ ap (λ (z : Station). advanceOf z n .answer) same-record ∙ ap (λ (z : Stepped). z .answer) (sym same) ∙ answer
+      pub same-permission : (n : ℕ) (p q : Permission) → MemberAsks m n p → Asks r n q → p ≡ q
+      same-permission n p q x y = MemberMeans.asks-means x ∙ ap (λ (z : Station). permissionOf z n) same-record ∙ sym (StationMeans.asks-means y)
+
+      pub same-step : (n : ℕ) (v w : Answer) (next : Member) (left : Station) → MemberAdvances m n v next → Advances r n w left → v ≡ w
+      same-step n v w next left x y =
+          MemberMeans.advances-means x .0 ∙ step-answer m n ∙ ap (λ (z : Station). advanceOf z n .answer) same-record ∙ sym (StationMeans.advances-means y .0)

@@ -34,8 +34,8 @@ use Rattle.table.specs.declared.Table.{Table}
 use Rattle.table.specs.declared.starting.Started.{Started}
 use Rattle.claims.specs.Histories.{tooFar}
 use Rattle.claims.specs.Joinings.{joinedIn, tickAnswer, OnlyJoined}
-use Rattle.claims.specs.Runs.{Called}
-use Rattle.claims.specs.TableRuns.{tick, take, tpc, measurement, TableAnswer, answered, judged, replied, Made, Does, TableRan}
+use Rattle.claims.specs.Runs.{Called, Ran}
+use Rattle.claims.specs.TableRuns.{tick, take, tpc, measurement, TableAnswer, answered, judged, replied, TableMade, startedWith, Does, table}
 use Rattle.claims.proofs.Same.{answer}
 use Rattle.claims.proofs.TableMeans.{repliedWith, does-means}
 use Rattle.claims.proofs.TableStays.{reaches}
@@ -48,7 +48,7 @@ same-start own ap' b channel single known =
     ap₂ (λ (x y : Bool). eqb b 0 || (x || (y || bit 0 (octet 0 ap')))) (sym (le-ltb highest channel known)) (sym single)
 
 pub start-exactly : (ap' own : List ℕ) (b channel : ℕ) (r : Answer) → bit 0 (octet 0 own) ≡ false → channel ≤ highest
-    → Called 0 Start.Kinds.ps Start.Kinds.r Start.Reads.Post (λ κs a x. (a .0 ≡ ap') × (a .1 .0 ≡ b) × (x .answer ≡ r)) → r ≡ answerOf (stationStarts own ap' b channel)
+    → Called 0 Start.Kinds.ps Start.Kinds.r Start.Reads.Post (λ κs a x e. (a .0 ≡ ap') × (a .1 .0 ≡ b) × (x .answer ≡ r)) → r ≡ answerOf (stationStarts own ap' b channel)
 unfolding startMeans stationStarts checked
 start-exactly ap' own b channel r single known (κs, a, x, e, promise, (address, interval, told)) =
     let mine : x ≡ started (startMeans ap' b) = rw (← address, ← interval) (promise .0) in
@@ -79,7 +79,7 @@ foreign-head ap' f own other alone s sound =
 
 -- ---- a run
 
-module _ (ap' : List ℕ) (b : ℕ) (ms : List Made) (t : Table) (ran : TableRan ap' b ms t) where
+module _ (ap' : List ℕ) (b : ℕ) (ms : List TableMade) (t : Table) (ran : Ran table (startedWith ap' b) ms t) where
   valid : ValidTable t
   valid = reaches ap' b ms t ran .valid
 

@@ -14,34 +14,32 @@ use Rattle.frame.specs.Frames.{Sent, frameMeans}
 use Rattle.header.proofs.Addresses.{same-self}
 use Rattle.header.specs.Headers.{same, da, toAll}
 use Rattle.station.specs.Asking.{permissionNumber, permissionOf}
-use Rattle.station.specs.Clock.{advanceOf}
 use Rattle.station.specs.Stations.{fresh, withClock}
 use Rattle.station.specs.Taking.{heard, taken, takeMeans, takeOf}
 use Rattle.station.specs.Validity.{Valid}
 use Rattle.station.specs.declared.Station.{Station}
 use Rattle.station.specs.declared.asking.Permission.{Permission}
-use Rattle.station.specs.declared.clock.Stepped.{Stepped}
-use Rattle.station.specs.declared.taking.Taken.{Taken}
 use Rattle.table.proofs.Readers.{reached}
 use Rattle.table.specs.Tables.{stationOf}
 use Rattle.table.specs.declared.Table.{Table}
 use Rattle.table.specs.declared.asking.Asked.{Asked}
 use Rattle.capture_record.specs.declared.entry.Settings.{Settings}
-use Rattle.claims.specs.Histories.{History, listenerFrom}
-use Rattle.claims.specs.OneAddress.{StationJudges, StationSteps}
+use Rattle.claims.specs.Histories.{Call, History, listenerFrom}
 use Rattle.claims.specs.OpenUnits.{AllOpen, Applies}
 use Rattle.claims.specs.Records.{recordFrom, AgreesFrom}
-use Rattle.claims.specs.Runs.{Ran, Asks}
-use Rattle.claims.specs.TableHistories.{concerns, madeFor, callsOf, historyOf, historyFor, NeverLeaves, Stay, joinedAt, settingsOf}
-use Rattle.claims.specs.TableRuns.{TableCall, join, leave, tick, take, question, tpc, measurement, TableAnswer, answered, judged, asked, Made, Does, GoesOn, TableRan}
+use Rattle.claims.specs.Runs.{Made, callsOf, no-calls, Ran}
+use Rattle.claims.specs.StationRuns.{Said, Takes, Advances, Asks, station}
+use Rattle.claims.specs.TableHistories.{concerns, madeFor, callsFor, historyOf, historyFor, NeverLeaves, Stay, joinedAt, settingsOf}
+use Rattle.claims.specs.TableRuns.{TableCall, join, leave, tick, take, question, tpc, measurement, TableAnswer, answered, judged, asked, TableMade, startedWith, Does, table}
 use Rattle.claims.proofs.Agreement.{agrees-from}
 use Rattle.claims.proofs.Asked.{answered-from, granted-from}
 use Rattle.claims.proofs.Demand3.{arrives}
 use Rattle.claims.proofs.OneRecord.{one-record-from}
 use Rattle.claims.proofs.Same.{accepted-once}
+use Rattle.claims.proofs.StationMeans.{takes-means, advances-means, asks-means}
 use Rattle.claims.proofs.TableMeans.{answered-once, does-means}
 use Rattle.claims.proofs.TableRows.{rowAfter, sits, concerned}
-use Rattle.claims.proofs.TableStays.{reaches, one-more, followed}
+use Rattle.claims.proofs.TableStays.{reaches, one-more, recorded, followed}
 
 asked-once : {p q : Permission} → asked (Asked.Told p) ≡ asked (Asked.Told q) → p ≡ q
 asked-once {p} {q} e = cc
@@ -49,7 +47,7 @@ asked-once {p} {q} e = cc
 judged-once : {v w : Verdict} → judged v ≡ judged w → v ≡ w
 judged-once {v} {w} e = cc
 
-module _ (ap' : List ℕ) (b : ℕ) (own : List ℕ) (channel : ℕ) (before after : List Made) (t : Table) (stay : Stay ap' b own channel before after t) where
+module _ (ap' : List ℕ) (b : ℕ) (own : List ℕ) (channel : ℕ) (before after : List TableMade) (t : Table) (stay : Stay ap' b own channel before after t) where
   abbrev s : Settings
   s = settingsOf ap' b own channel
 
@@ -61,7 +59,7 @@ module _ (ap' : List ℕ) (b : ℕ) (own : List ℕ) (channel : ℕ) (before aft
 
   -- the row's station is the record of its history, and valid
   pub row-arrives : stationOf t own ≡ accepted (recordFrom begins s h)
-  row-arrives = followed ap' b own channel before after t stay .row
+  row-arrives = followed ap' b own channel before after t stay .row ∙ ap accepted (recorded begins ap' b own channel (callsFor own after))
 
   pub row-valid : Valid (recordFrom begins s h)
   row-valid = sits t (followed ap' b own channel before after t stay .valid) own (recordFrom begins s h) row-arrives .valid
@@ -119,7 +117,7 @@ not-reached r own f is n = by (frameMeans (r .own) (r .ap) (r .interval) f) refl
         (sym (reached (r .own) (r .ap) (r .interval) f x e) ∙ ap (λ (a : List ℕ). same (da f) a || toAll f) is ∙ ap₂ (λ (y z : Bool). y || z) (off .1) (off .0))
 
 module _ (ap' : List ℕ) (b : ℕ) (pos : 1 ≤ b) (own : List ℕ) (channel m : ℕ) where
-  abbrev recordOf : List Made → Station
+  abbrev recordOf : List TableMade → Station
   recordOf ms = recordFrom m (settingsOf ap' b own channel) (historyOf (callsOf ms))
 
   unconcerned-call : (c : TableCall) (h : History) → concerns own c ≡ false → rowAfter (recordFrom m (settingsOf ap' b own channel) h) c ≡ recordFrom m (settingsOf ap' b own channel) h
@@ -132,7 +130,7 @@ module _ (ap' : List ℕ) (b : ℕ) (pos : 1 ≤ b) (own : List ℕ) (channel m 
   unconcerned-call (measurement f index readings buffer) h e = refl
 
   -- so it has the same record after all the calls of the table
-  pub others-nothing : (ms : List Made) → recordOf ms ≡ recordOf (madeFor own ms)
+  pub others-nothing : (ms : List TableMade) → recordOf ms ≡ recordOf (madeFor own ms)
   unfolding madeFor
   others-nothing [] = refl
   others-nothing (x ∷ ms) =
@@ -154,46 +152,48 @@ module _
     (b : ℕ)
     (own : List ℕ)
     (channel : ℕ)
-    (before after : List Made)
+    (before after : List TableMade)
     (t : Table)
     (stay : Stay ap' b own channel before after t)
     (at-start : joinedAt before ≡ 0)
+    (ms : List (Made Call Said))
     (r : Station)
-    (ran : Ran (settingsOf ap' b own channel) (historyOf (callsOf after)) r)
+    (ran : Ran station (settingsOf ap' b own channel) ms r)
+    (same-calls : callsOf ms ≡ historyOf (callsOf after))
   where
     pub same-as-one : stationOf t own ≡ accepted r
     same-as-one =
         row-arrives ap' b own channel before after t stay
         ∙ ap (λ (m : ℕ). accepted (recordFrom m (settingsOf ap' b own channel) (historyFor own after))) at-start
         ∙ ap accepted (sym (others-nothing ap' b (interval-positive ap' b own channel before after t stay) own channel 0 after))
-        ∙ ap accepted (sym (arrives (settingsOf ap' b own channel) (historyOf (callsOf after)) r ran .0))
+        ∙ ap (λ (h : History). accepted (recordFrom 0 (settingsOf ap' b own channel) h)) (sym same-calls)
+        ∙ ap accepted (sym (arrives (settingsOf ap' b own channel) ms r ran .0))
 
-    pub same-verdict : (f : List ℕ) → (toAll f || same (da f) own) ≡ true → (v w : Verdict) (next : Table) → Does t (take f) (judged v) next → StationJudges r f w → v ≡ w
-    same-verdict f reaches v w next does (κs, a, x, e, promise, (self, octets, told)) =
+    pub same-verdict : (f : List ℕ) → (toAll f || same (da f) own) ≡ true → (v w : Verdict) (next : Table) (left : Station)
+        → Does t (take f) (judged v) next → Takes r f w left → v ≡ w
+    same-verdict f reaches v w next left does takes =
         let k = followed ap' b own channel before after t stay in
-        let mine : x ≡ takeOf r f = rw (← self, ← octets) (promise .0) in
         judged-once (does-means t (take f) (judged v) next (k .valid) does .answers ∙ concerned t (k .valid) own r same-as-one (take f) reaches (λ y. y) .answers)
-        ∙ ap (λ (y : Taken). y .verdict) (sym mine) ∙ told
+        ∙ sym (takes-means takes .0)
 
-    pub same-step : (n : ℕ) (v w : Answer) (next : Table) → Does t (tick n) (answered v) next → StationSteps r n w → v ≡ w
-    same-step n v w next does (κs, a, x, e, promise, (self, units, told)) =
+    pub same-step : (n : ℕ) (v w : Answer) (next : Table) (left : Station) → Does t (tick n) (answered v) next → Advances r n w left → v ≡ w
+    same-step n v w next left does advances =
         let k = followed ap' b own channel before after t stay in
-        let mine : x ≡ advanceOf r n = rw (← self, ← units) (promise .0) in
         answered-once (does-means t (tick n) (answered v) next (k .valid) does .answers ∙ concerned t (k .valid) own r same-as-one (tick n) refl (λ y. y) .answers)
-        ∙ ap (λ (y : Stepped). y .answer) (sym mine) ∙ told
+        ∙ sym (advances-means advances .0)
 
     pub same-permission : (n : ℕ) (p q : Permission) (next : Table) → Does t (question own n) (asked (Asked.Told p)) next → Asks r n q → p ≡ q
-    same-permission n p q next does (κs, a, x, e, promise, (self, units, told)) =
+    same-permission n p q next does asks =
         let k = followed ap' b own channel before after t stay in
         asked-once
         (does-means t (question own n) (asked (Asked.Told p)) next (k .valid) does .answers
         ∙ concerned t (k .valid) own r same-as-one (question own n) (same-self own) (λ y. y) .answers)
-        ∙ sym (rw (← self, ← units) promise) ∙ told
+        ∙ sym (asks-means asks)
 
 -- ---- joining, after leaving too: whatever the calls before were, the station is fresh, at the present clock, on the channel named
 
-pub fresh-at-joining : (ap' : List ℕ) (b : ℕ) (own : List ℕ) (channel : ℕ) (before : List Made) (t next : Table) → TableRan ap' b before t
+pub fresh-at-joining : (ap' : List ℕ) (b : ℕ) (own : List ℕ) (channel : ℕ) (before : List TableMade) (t next : Table) → Ran table (startedWith ap' b) before t
     → Does t (join own channel) (answered Answer.Accepted) next → stationOf next own ≡ accepted (withClock (fresh own ap' b channel) (joinedAt before))
-unfolding madeFor historyOf recordFrom GoesOn NeverLeaves
+unfolding madeFor historyOf recordFrom NeverLeaves
 fresh-at-joining ap' b own channel before t next ran does =
-    row-arrives ap' b own channel before [] next (record { joining = t; ran = ran; joined = next; joins = does; goes-on = refl; never-leaves = tt })
+    row-arrives ap' b own channel before [] next (record { joining = t; ran = ran; joined = next; joins = does; goes-on = no-calls; never-leaves = tt })

@@ -26,7 +26,8 @@ use Rattle.table.specs.declared.starting.Started.{Started}
 use Rattle.table.specs.declared.taking.Taken.{Taken}
 use Rattle.claims.specs.Histories.{History, tooFar, clockFrom}
 use Rattle.claims.specs.TableHistories.{advanceIn}
-use Rattle.claims.specs.TableRuns.{TableCall, join, leave, tick, take, question, tpc, measurement, TableAnswer, answered, judged, asked, replied, TableStarts, Does}
+use Rattle.claims.specs.TableRuns.{TableCall, join, leave, tick, take, question, tpc, measurement, TableAnswer, answered, judged, asked, replied, startedWith, TableStarts, Does}
+use Rattle.claims.proofs.RunsMeant.{Meaning, Meant, Exactly}
 use Rattle.claims.proofs.Same.{answer, answer-told}
 
 pub answered-once : {x y : Answer} → answered x ≡ answered y → x ≡ y
@@ -63,14 +64,15 @@ tableAfter t (question own n) = t
 tableAfter t (tpc f report buffer) = t
 tableAfter t (measurement f index readings buffer) = t
 
-pub record Meant (t : Table) (c : TableCall) (r : TableAnswer) (next : Table) : Type 0 where
-  pub answers : r ≡ tableAnswers t c
-  pub leaves : next ≡ tableAfter t c
-  pub valid : ValidTable next
+abbrev pub tableMeans : Meaning Table TableCall TableAnswer
+tableMeans = record { answers = tableAnswers; leaves = tableAfter }
+
+abbrev pub TableMeant : Table → TableCall → TableAnswer → Table → Type 0
+TableMeant t c r next = Meant tableMeans ValidTable t c r next
 
 -- a call with a result of an answer and a table
 of-step : (t : Table) (c : TableCall) (x m : Stepped) (r : TableAnswer) (next : Table) → x ≡ m → answered (m .answer) ≡ tableAnswers t c → m .table ≡ tableAfter t c
-    → ValidTable (x .table) → answered (x .answer) ≡ r → x .table ≡ next → Meant t c r next
+    → ValidTable (x .table) → answered (x .answer) ≡ r → x .table ≡ next → TableMeant t c r next
 of-step t c x m r next e is leaves v told result = record {
   answers = sym told ∙ ap (λ (y : Stepped). answered (y .answer)) e ∙ is;
   leaves = sym result ∙ ap (λ (y : Stepped). y .table) e ∙ leaves;
@@ -80,7 +82,7 @@ of-step t c x m r next e is leaves v told result = record {
 of-reply : (o : Outcome (List ℕ)) (buffer exit : List ℕ) (x : Wrote) → Replied o buffer x exit → replied x exit ≡ repliedWith o buffer
 of-reply o buffer exit x w = ap₂ replied (sym (answer-told x) ∙ ap answer (w .answers)) (w .leaves)
 
-pub does-means : (t : Table) (c : TableCall) (r : TableAnswer) (next : Table) → ValidTable t → Does t c r next → Meant t c r next
+pub does-means : (t : Table) (c : TableCall) (r : TableAnswer) (next : Table) → ValidTable t → Does t c r next → TableMeant t c r next
 does-means t (join own channel) r next v (κs, a, x, e, promise, (self, address, number, told, result)) =
     of-step t (join own channel) x (joinOf t own channel) r next (rw (← self, ← address, ← number) (promise .0)) refl refl (promise .1) told result
 does-means t (leave own) r next v (κs, a, x, e, promise, (self, address, told, result)) =
@@ -97,13 +99,13 @@ does-means t (take f) r next v (κs, a, x, e, promise, (self, octets, told, resu
 does-means t (question own n) r next v (κs, a, x, e, promise, (self, address, units, told, result)) =
     let same : askedTold x ≡ askMeans t own n = rw (← self, ← address, ← units) promise in
     record { answers = sym told ∙ ap asked (sym (asked-told x) ∙ ap askedAs same); leaves = sym result; valid = subst ValidTable result v }
-does-means t (tpc f report buffer) r next v (κs, a, x, e, promise, self, octets, found, lent, told, result) =
+does-means t (tpc f report buffer) r next v (κs, a, x, e, promise, (self, octets, found, lent, told, result)) =
     record {
       answers = sym told ∙ of-reply (tpcReplyOf t report f) buffer _ x (rw (← self, ← octets, ← found, ← lent) promise);
       leaves = sym result;
       valid = subst ValidTable result v;
     }
-does-means t (measurement f index readings buffer) r next v (κs, a, x, e, promise, self, octets, at, found, lent, told, result) =
+does-means t (measurement f index readings buffer) r next v (κs, a, x, e, promise, (self, octets, at, found, lent, told, result)) =
     record {
       answers = sym told ∙ of-reply (measurementReplyOf t index readings f) buffer _ x (rw (← self, ← octets, ← at, ← found, ← lent) promise);
       leaves = sym result;
@@ -218,7 +220,7 @@ start-gives ap' b e = by (startForbids ap' b) e
     by true e = absurd (let z : _≡_ {A = ℕ} 0 1 = cc in omega arith)
     by false e = refl
 
-pub starts-empty : (ap' : List ℕ) (b : ℕ) (t : Table) → TableStarts ap' b t → (t ≡ empty ap' b) × ValidTable t
+pub starts-empty : (ap' : List ℕ) (b : ℕ) (t : Table) → TableStarts (startedWith ap' b) t → Exactly ValidTable t (empty ap' b)
 starts-empty ap' b t (κs, a, x, e, promise, (address, interval, told, result)) =
     let same : x ≡ started (startMeans ap' b) = rw (← address, ← interval) (promise .0) in (
       sym result ∙ ap (λ (y : Started). y .table) same ∙ start-gives ap' b (ap (λ (y : Started). y .answer) (sym same) ∙ told),

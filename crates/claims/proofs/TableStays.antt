@@ -3,7 +3,7 @@
 use mathlib.Core.Bool.{Bool, true, false}
 use mathlib.Core.List.{List, [], _∷_}
 use mathlib.Core.Logic.{⊎-elim}
-use mathlib.Core.Path.{_≡_, refl, sym, ap, ap₂, _∙_, subst}
+use mathlib.Core.Path.{_≡_, refl, sym, ap, ap₂, _∙_}
 use Prim.Native.Nat.{ℕ}
 use native.Mathlib.Omega.{arith}
 use borrow.Author.Tests.{not-false}
@@ -18,56 +18,44 @@ use Rattle.table.proofs.Neighbours.{newcomer-found}
 use Rattle.table.specs.Tables.{withRows, someRow, onFirst, stationOf, stepped, newcomer, joinMeans, joinOf}
 use Rattle.table.specs.Validity.{ValidTable}
 use Rattle.table.specs.declared.Table.{Table}
+use Rattle.capture_record.specs.declared.entry.Settings.{Settings}
 use Rattle.claims.specs.Histories.{clockFrom, clockAfter}
 use Rattle.claims.specs.Records.{recordFrom}
-use Rattle.claims.specs.TableHistories.{concerns, madeFor, callsOf, callsFor, advancesOf, historyOf, Leaves, NeverLeaves, Stay, joinedAt, settingsOf}
-use Rattle.claims.specs.TableRuns.{TableCall, join, leave, tick, take, question, tpc, measurement, TableAnswer, answered, Made, Does, GoesOn, TableRan}
-use Rattle.claims.proofs.TableMeans.{answered-once, does-means, ap-kept, interval-kept, clock-after, starts-empty}
+use Rattle.claims.specs.Runs.{callsOf, GoesOn, Ran}
+use Rattle.claims.specs.TableHistories.{concerns, madeFor, advancesOf, historyOf, Leaves, NeverLeaves, Stay, joinedAt, settingsOf}
+use Rattle.claims.specs.TableRuns.{TableCall, join, leave, tick, take, question, tpc, measurement, TableAnswer, answered, TableMade, startedWith, table}
+use Rattle.claims.proofs.RunsMeant.{Meaning, keptAfter, madeOf, madeAfter, throughout}
+use Rattle.claims.proofs.TableMeans.{answered-once, tableAfter, tableMeans, does-means, ap-kept, interval-kept, clock-after, starts-empty}
 use Rattle.claims.proofs.TableRows.{rowAfter, rowAnswers, concerned, unconcerned}
 
 -- ---- any run
 
-pub record Kept (t : Table) (ms : List Made) (last : Table) : Type 0 where
-  pub valid : ValidTable last
-  pub same-ap : last .ap ≡ t .ap
-  pub same-interval : last .interval ≡ t .interval
-  pub clock : last .clock ≡ clockFrom (t .clock) (advancesOf (callsOf ms))
-
-pub run-kept : (t : Table) → ValidTable t → (ms : List Made) (last : Table) → GoesOn t ms last → Kept t ms last
-unfolding GoesOn advancesOf clockFrom
-run-kept t v [] last e = record {
-  valid = subst ValidTable e v;
-  same-ap = ap (λ (u : Table). u .ap) (sym e);
-  same-interval = ap (λ (u : Table). u .interval) (sym e);
-  clock = ap (λ (u : Table). u .clock) (sym e);
-}
-run-kept t v (m ∷ ms) last (before, rest, does) =
-    let k = run-kept t v ms before rest in
-    let x = does-means before (m .call) (m .answer) last (k .valid) does in
-    record {
-      valid = x .valid;
-      same-ap = ap (λ (u : Table). u .ap) (x .leaves) ∙ ap-kept before (m .call) ∙ k .same-ap;
-      same-interval = ap (λ (u : Table). u .interval) (x .leaves) ∙ interval-kept before (m .call) ∙ k .same-interval;
-      clock = ap (λ (u : Table). u .clock) (x .leaves) ∙ clock-after before (m .call) (t .clock) (advancesOf (callsOf ms)) (k .clock);
-    }
-
-pub record Reached (ap' : List ℕ) (b : ℕ) (ms : List Made) (t : Table) : Type 0 where
+pub record Reached (ap' : List ℕ) (b : ℕ) (ms : List TableMade) (t : Table) : Type 0 where
   pub valid : ValidTable t
   pub its-ap : t .ap ≡ ap'
   pub its-interval : t .interval ≡ b
   pub its-clock : t .clock ≡ clockAfter (advancesOf (callsOf ms))
 
 -- every table that is reached is valid, and its clock is what the advances say
-pub reaches : (ap' : List ℕ) (b : ℕ) (ms : List Made) (t : Table) → TableRan ap' b ms t → Reached ap' b ms t
+pub reaches : (ap' : List ℕ) (b : ℕ) (ms : List TableMade) (t : Table) → Ran table (startedWith ap' b) ms t → Reached ap' b ms t
+unfolding advancesOf clockFrom
 reaches ap' b ms t (first, starts, rest) =
     let s = starts-empty ap' b first starts in
-    let k = run-kept first (s .1) ms t rest in
-    record {
-      valid = k .valid;
-      its-ap = k .same-ap ∙ ap (λ (u : Table). u .ap) (s .0);
-      its-interval = k .same-interval ∙ ap (λ (u : Table). u .interval) (s .0);
-      its-clock = k .clock ∙ ap (λ (u : Table). clockFrom (u .clock) (advancesOf (callsOf ms))) (s .0);
-    }
+    throughout table tableMeans ValidTable does-means (Reached ap' b)
+    (λ ns u c v next k. record {
+      valid = next;
+      its-ap = ap-kept u c ∙ k .its-ap;
+      its-interval = interval-kept u c ∙ k .its-interval;
+      its-clock = clock-after u c 0 (advancesOf (callsOf ns)) (k .its-clock);
+    })
+    (s .1)
+    (record {
+      valid = s .1;
+      its-ap = ap (λ (u : Table). u .ap) (s .0);
+      its-interval = ap (λ (u : Table). u .interval) (s .0);
+      its-clock = ap (λ (u : Table). u .clock) (s .0);
+    })
+    rest .1
 
 -- ---- joining
 
@@ -92,16 +80,15 @@ module _ (t : Table) (own : List ℕ) (channel : ℕ) where
 
 -- ---- from its joining on
 
--- the calls with the answers that the record gives them
+-- a call for it means what it means to its station
+abbrev pub rowMeans : Meaning Station TableCall TableAnswer
+rowMeans = record { answers = rowAnswers; leaves = rowAfter }
+
 module _ (m : ℕ) (ap' : List ℕ) (b : ℕ) (own : List ℕ) (channel : ℕ) where
-  unfoldable pub toldBy : List TableCall → List Made
-  toldBy [] = []
-  toldBy (c ∷ cs) = record { call = c; answer = rowAnswers (recordFrom m (settingsOf ap' b own channel) (historyOf cs)) c } ∷ toldBy cs
+  abbrev s : Settings
+  s = settingsOf ap' b own channel
 
-  abbrev recordOf : List TableCall → Station
-  recordOf cs = recordFrom m (settingsOf ap' b own channel) (historyOf cs)
-
-  pub one-more : (c : TableCall) (cs : List TableCall) → rowAfter (recordOf cs) c ≡ recordOf (c ∷ cs)
+  pub one-more : (c : TableCall) (cs : List TableCall) → rowAfter (recordFrom m s (historyOf cs)) c ≡ recordFrom m s (historyOf (c ∷ cs))
   unfolding historyOf recordFrom
   one-more (join a n) cs = refl
   one-more (leave a) cs = refl
@@ -111,61 +98,66 @@ module _ (m : ℕ) (ap' : List ℕ) (b : ℕ) (own : List ℕ) (channel : ℕ) w
   one-more (tpc f report buffer) cs = refl
   one-more (measurement f index readings buffer) cs = refl
 
-  pub record Followed (ms : List Made) (t : Table) : Type 0 where
-    pub valid : ValidTable t
-    pub row : stationOf t own ≡ accepted (recordOf (callsFor own ms))
-    pub told : madeFor own ms ≡ toldBy (callsFor own ms)
+  -- the record of its calls' history is what they leave of the one at its joining
+  pub recorded : (cs : List TableCall) → keptAfter rowMeans (recordFrom m s []) cs ≡ recordFrom m s (historyOf cs)
+  unfolding keptAfter historyOf
+  recorded [] = refl
+  recorded (c ∷ cs) = ap (λ (r : Station). rowAfter r c) (recorded cs) ∙ one-more c cs
 
-  abbrev filtered : Bool → Made → List Made → List Made
+  abbrev rowOf : List TableMade → Outcome Station
+  rowOf ms = accepted (keptAfter rowMeans (recordFrom m s []) (callsOf ms))
+
+  abbrev toldTo : List TableMade → List TableMade
+  toldTo ms = madeAfter rowMeans (recordFrom m s []) (callsOf ms)
+
+  pub record Followed (ms : List TableMade) (t : Table) : Type 0 where
+    pub valid : ValidTable t
+    pub row : stationOf t own ≡ rowOf (madeFor own ms)
+    pub told : madeFor own ms ≡ toldTo (madeFor own ms)
+
+  abbrev filtered : Bool → TableMade → List TableMade → List TableMade
   filtered b x ms = pick b (x ∷ madeFor own ms) (madeFor own ms)
 
-  -- a call for it
-  with-it : (x : Made) (ms : List Made) (before t : Table) → Followed ms before → Does before (x .call) (x .answer) t → concerns own (x .call) ≡ true
-      → (Leaves own (x .call) → ⊥) → Followed (x ∷ ms) t
-  unfolding madeFor toldBy
-  with-it x ms before t f does y stays =
-      let e = does-means before (x .call) (x .answer) t (f .valid) does in
-      let w = concerned before (f .valid) own (recordOf (callsFor own ms)) (f .row) (x .call) y stays in
-      let here : madeFor own (x ∷ ms) ≡ (x ∷ madeFor own ms) = ap (λ (b : Bool). filtered b x ms) y in
-      record {
-        valid = e .valid;
-        row =
-            ap (λ (u : Table). stationOf u own) (e .leaves) ∙ w .leaves ∙ ap accepted (one-more (x .call) (callsFor own ms))
-            ∙ ap (λ (ns : List Made). accepted (recordOf (callsOf ns))) (sym here);
-        told =
-            here
-            ∙ ap₂ (λ (a : TableAnswer) (ns : List Made). record { call = x .call; answer = a } ∷ ns) (e .answers ∙ w .answers) (f .told)
-            ∙ ap (λ (ns : List Made). toldBy (callsOf ns)) (sym here);
-      }
+  module _ (ms : List TableMade) (t : Table) (c : TableCall) (v : ValidTable t) (next : ValidTable (tableAfter t c)) (f : Followed ms t) (stays : Leaves own c → ⊥) where
+    abbrev made : TableMade
+    made = madeOf tableMeans t c
 
-  -- another call
-  without-it : (x : Made) (ms : List Made) (before t : Table) → Followed ms before → Does before (x .call) (x .answer) t → concerns own (x .call) ≡ false
-      → (Leaves own (x .call) → ⊥) → Followed (x ∷ ms) t
-  unfolding madeFor
-  without-it x ms before t f does n stays =
-      let e = does-means before (x .call) (x .answer) t (f .valid) does in
-      let here : madeFor own (x ∷ ms) ≡ madeFor own ms = ap (λ (b : Bool). filtered b x ms) n in
-      record {
-        valid = e .valid;
-        row =
-            ap (λ (u : Table). stationOf u own) (e .leaves) ∙ unconcerned before (f .valid) own (recordOf (callsFor own ms)) (f .row) (x .call) n stays ∙ f .row
-            ∙ ap (λ (ns : List Made). accepted (recordOf (callsOf ns))) (sym here);
-        told = here ∙ f .told ∙ ap (λ (ns : List Made). toldBy (callsOf ns)) (sym here);
-      }
+    -- a call for it
+    with-it : concerns own c ≡ true → Followed (made ∷ ms) (tableAfter t c)
+    unfolding madeFor keptAfter madeAfter
+    with-it y =
+        let w = concerned t v own _ (f .row) c y stays in
+        let here : madeFor own (made ∷ ms) ≡ (made ∷ madeFor own ms) = ap (λ (b : Bool). filtered b made ms) y in
+        record {
+          valid = next;
+          row = w .leaves ∙ ap rowOf (sym here);
+          told =
+              here ∙ ap₂ (λ (a : TableAnswer) (ns : List TableMade). record { call = c; answer = a } ∷ ns) (w .answers) (f .told) ∙ ap toldTo (sym here);
+        }
 
-  pub follows : (first : Table) → Followed [] first → (ms : List Made) (t : Table) → GoesOn first ms t → NeverLeaves own ms → Followed ms t
-  unfolding GoesOn NeverLeaves
-  follows first f [] t e stays = subst (Followed []) e f
-  follows first f (x ∷ ms) t (before, rest, does) stays =
-      let k = follows first f ms before rest (stays .1) in
-      ⊎-elim
-      (λ (y : concerns own (x .call) ≡ true). with-it x ms before t k does y (stays .0))
-      (λ (n : concerns own (x .call) ≡ false). without-it x ms before t k does n (stays .0))
-      (either (concerns own (x .call)))
+    -- another call
+    without-it : concerns own c ≡ false → Followed (made ∷ ms) (tableAfter t c)
+    unfolding madeFor
+    without-it n =
+        let here : madeFor own (made ∷ ms) ≡ madeFor own ms = ap (λ (b : Bool). filtered b made ms) n in
+        record {
+          valid = next;
+          row = unconcerned t v own _ (f .row) c n stays ∙ f .row ∙ ap rowOf (sym here);
+          told = here ∙ f .told ∙ ap toldTo (sym here);
+        }
 
-module _ (ap' : List ℕ) (b : ℕ) (own : List ℕ) (channel : ℕ) (before after : List Made) (t : Table) (stay : Stay ap' b own channel before after t) where
+    followed-on : Followed (made ∷ ms) (tableAfter t c)
+    followed-on = ⊎-elim with-it without-it (either (concerns own c))
+
+  pub follows : (first : Table) → Followed [] first → (ms : List TableMade) (t : Table) → GoesOn table first ms t → NeverLeaves own ms → Followed ms t
+  unfolding NeverLeaves
+  follows first f ms t rest =
+      throughout table tableMeans ValidTable does-means (λ ns u. NeverLeaves own ns → Followed ns u)
+      (λ ns u c v next k stays. followed-on ns u c v next (k (stays .1)) (stays .0)) (f .valid) (λ stays. f) rest .1
+
+module _ (ap' : List ℕ) (b : ℕ) (own : List ℕ) (channel : ℕ) (before after : List TableMade) (t : Table) (stay : Stay ap' b own channel before after t) where
   at-joining : Followed (joinedAt before) ap' b own channel [] (stay .joined)
-  unfolding madeFor historyOf recordFrom toldBy
+  unfolding madeFor historyOf recordFrom keptAfter madeAfter
   at-joining =
       let r = reaches ap' b before (stay .joining) (stay .ran) in
       let e = does-means (stay .joining) (join own channel) (answered Answer.Accepted) (stay .joined) (r .valid) (stay .joins) in

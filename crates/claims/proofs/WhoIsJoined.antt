@@ -31,11 +31,13 @@ use Rattle.table.specs.Validity.{ValidTable}
 use Rattle.table.specs.declared.Table.{Table}
 use Rattle.table.specs.declared.asking.Asked.{Asked}
 use Rattle.claims.specs.Joinings.{accepts, comes, goes, joinedAfter, joinedIn, acceptedOf, anybody, isFull, joinAnswer, leaveAnswer}
-use Rattle.claims.specs.TableRuns.{TableCall, join, leave, tick, take, question, tpc, measurement, TableAnswer, answered, asked, Made, Does, GoesOn, TableRan}
+use Rattle.claims.specs.Runs.{GoesOn, Ran}
+use Rattle.claims.specs.TableRuns.{TableCall, join, leave, tick, take, question, tpc, measurement, TableAnswer, answered, asked, TableMade, startedWith, Does, table}
 use Rattle.claims.proofs.JoinedRows.{some-found, isIn, not-found, none-left, seats, seats-within, seats-same, one-more, one-less, none-free}
-use Rattle.claims.proofs.TableMeans.{askedAs, tableAnswers, tableAfter, through-checks, through-take, Meant, does-means, ap-kept, interval-kept, starts-empty}
+use Rattle.claims.proofs.RunsMeant.{throughout}
+use Rattle.claims.proofs.TableMeans.{askedAs, tableAnswers, tableAfter, tableMeans, TableMeant, through-checks, through-take, does-means, ap-kept, interval-kept, starts-empty}
 use Rattle.claims.proofs.TableRows.{joined-apart, left-apart}
-use Rattle.claims.proofs.TableStays.{run-kept, reaches, join-seats}
+use Rattle.claims.proofs.TableStays.{reaches, join-seats}
 
 -- ---- one call
 
@@ -177,27 +179,20 @@ nobody-joined own n = by n
     by (suc n) = by n
 
 module _ (first : Table) (v : ValidTable first) where
-  joined-on : (own : List ℕ) → isJoined first own ≡ false → (ms : List Made) (t : Table) → GoesOn first ms t → isJoined t own ≡ joinedIn own ms
-  unfolding GoesOn joinedIn
-  joined-on own none [] t e = ap (λ (u : Table). isJoined u own) (sym e) ∙ none
-  joined-on own none (m ∷ ms) t (before, rest, does) =
-      let k = run-kept first v ms before rest in
-      let x = does-means before (m .call) (m .answer) t (k .valid) does in
-      ap (λ (u : Table). isJoined u own) (x .leaves) ∙ joined-after before (k .valid) own (m .call)
-      ∙ ap₂ (λ (r : TableAnswer) (b : Bool). joinedAfter own (m .call) r b) (sym (x .answers)) (joined-on own none ms before rest)
+  joined-on : (own : List ℕ) → isJoined first own ≡ false → {ms : List TableMade} {t : Table} → GoesOn table first ms t → isJoined t own ≡ joinedIn own ms
+  unfolding joinedIn
+  joined-on own none rest =
+      throughout table tableMeans ValidTable does-means (λ ms u. isJoined u own ≡ joinedIn own ms)
+      (λ ms u c w next k. joined-after u w own c ∙ ap (joinedAfter own c (tableAnswers u c)) k) v none rest .1
 
-  counted-on : seats (first .rows) ≡ 0 → (ms : List Made) (t : Table) → GoesOn first ms t
+  counted-on : seats (first .rows) ≡ 0 → {ms : List TableMade} {t : Table} → GoesOn table first ms t
       → seats (t .rows) + acceptedOf (goes anybody) ms ≡ acceptedOf (comes anybody) ms
-  unfolding GoesOn acceptedOf
-  counted-on none [] t e = ap (λ (u : Table). seats (u .rows) + 0) (sym e) ∙ (let sum : seats (first .rows) + 0 ≡ 0 = omega (arith, none) in sum)
-  counted-on none (m ∷ ms) t (before, rest, does) =
-      let k = run-kept first v ms before rest in
-      let x = does-means before (m .call) (m .answer) t (k .valid) does in
-      let step = counted-after before (k .valid) (m .call) _ _ (counted-on none ms before rest) in
-      ap₂ (λ (u : Table) (r : TableAnswer). seats (u .rows) + pick (accepts r && goes anybody (m .call)) (suc (acceptedOf (goes anybody) ms)) (acceptedOf (goes anybody) ms)) (x .leaves) (x .answers)
-      ∙ step ∙ ap (λ (r : TableAnswer). pick (accepts r && comes anybody (m .call)) (suc (acceptedOf (comes anybody) ms)) (acceptedOf (comes anybody) ms)) (sym (x .answers))
+  unfolding acceptedOf
+  counted-on none rest =
+      throughout table tableMeans ValidTable does-means (λ ms u. seats (u .rows) + acceptedOf (goes anybody) ms ≡ acceptedOf (comes anybody) ms)
+      (λ ms u c w next k. counted-after u w c _ _ k) v (let sum : seats (first .rows) + 0 ≡ 0 = omega (arith, none) in sum) rest .1
 
-module _ (ap' : List ℕ) (b : ℕ) (ms : List Made) (t : Table) (ran : TableRan ap' b ms t) where
+module _ (ap' : List ℕ) (b : ℕ) (ms : List TableMade) (t : Table) (ran : Ran table (startedWith ap' b) ms t) where
   valid : ValidTable t
   valid = reaches ap' b ms t ran .valid
 
@@ -205,14 +200,14 @@ module _ (ap' : List ℕ) (b : ℕ) (ms : List Made) (t : Table) (ran : TableRan
   pub joined-exactly : (own : List ℕ) → isJoined t own ≡ joinedIn own ms
   joined-exactly own =
       let s = starts-empty ap' b (ran .0) (ran .1) in
-      joined-on (ran .0) (s .1) own (ap (λ (u : Table). isJoined u own) (s .0) ∙ nobody-joined own rowCount) ms t (ran .2)
+      joined-on (ran .0) (s .1) own (ap (λ (u : Table). isJoined u own) (s .0) ∙ nobody-joined own rowCount) (ran .2)
 
   -- no row is free exactly if sixteen more have joined than have left
   pub full-exactly : not (someRow isFree (t .rows)) ≡ isFull ms
   unfolding seats
   full-exactly =
       let s = starts-empty ap' b (ran .0) (ran .1) in
-      let sum = counted-on (ran .0) (s .1) (ap (λ (u : Table). seats (u .rows)) (s .0)) ms t (ran .2) in
+      let sum = counted-on (ran .0) (s .1) (ap (λ (u : Table). seats (u .rows)) (s .0)) (ran .2) in
       none-free (t .rows) ∙ ap (eqb (seats (t .rows))) (valid .sixteen) ∙ shifted (seats (t .rows)) (acceptedOf (goes anybody) ms) (acceptedOf (comes anybody) ms) sum
     where
       shifted : (n leaves joins : ℕ) → n + leaves ≡ joins → eqb n 16 ≡ eqb joins (leaves + 16)
@@ -299,13 +294,13 @@ module _ (ap' : List ℕ) (b : ℕ) (ms : List Made) (t : Table) (ran : TableRan
       by false false true e f g = clash g
       by false false false e f g = refl
 
-      its-ap : Meant t (leave a) (answered Answer.Accepted) left → left .ap ≡ ap'
+      its-ap : TableMeant t (leave a) (answered Answer.Accepted) left → left .ap ≡ ap'
       its-ap m = ap (λ (u : Table). u .ap) (m .leaves) ∙ ap-kept t (leave a) ∙ reaches ap' b ms t ran .its-ap
 
-      its-interval : Meant t (leave a) (answered Answer.Accepted) left → left .interval ≡ b
+      its-interval : TableMeant t (leave a) (answered Answer.Accepted) left → left .interval ≡ b
       its-interval m = ap (λ (u : Table). u .interval) (m .leaves) ∙ interval-kept t (leave a) ∙ reaches ap' b ms t ran .its-interval
 
-      room : Meant t (leave a) (answered Answer.Accepted) left → not (someRow isFree (left .rows)) ≡ false
+      room : TableMeant t (leave a) (answered Answer.Accepted) left → not (someRow isFree (left .rows)) ≡ false
       room m =
           let w = leaver t valid a a left (left-accepted m) in
           let less = one-less a (t .rows) (w .0) in
@@ -313,7 +308,7 @@ module _ (ap' : List ℕ) (b : ℕ) (ms : List Made) (t : Table) (ran : TableRan
           none-free (left .rows) ∙ ap (eqb (seats (left .rows))) (m .valid .sixteen)
           ∙ ne-eqb (seats (left .rows)) 16 (λ e. let same = ap (λ (u : Table). seats (u .rows)) (w .1) in omega (arith, e, same, less, few))
         where
-          left-accepted : Meant t (leave a) (answered Answer.Accepted) left → leaveMeans t a ≡ accepted left
+          left-accepted : TableMeant t (leave a) (answered Answer.Accepted) left → leaveMeans t a ≡ accepted left
           left-accepted m = of-outcome (leaveMeans t a) (sym (m .answers)) (m .leaves)
             where
               refused-never : {A : Type 0} {x : Refusal} → answered (Answer.Refused x) ≡ answered Answer.Accepted → A

@@ -15,8 +15,9 @@ use Rattle.header.proofs.Addresses.{same-self, same-is}
 use Rattle.header.specs.Headers.{same}
 use Rattle.table.specs.declared.Table.{Table}
 use Rattle.claims.specs.Joinings.{accepts, comes, goes, joinedIn, leaveAnswer}
+use Rattle.claims.specs.Runs.{GoesOn, no-calls, called, Ran}
 use Rattle.claims.specs.TableHistories.{Leaves, NeverLeaves, StaySince}
-use Rattle.claims.specs.TableRuns.{TableCall, join, leave, tick, take, question, tpc, measurement, TableAnswer, answered, judged, asked, replied, Made, Does, GoesOn, TableStarts, TableRan}
+use Rattle.claims.specs.TableRuns.{TableCall, join, leave, tick, take, question, tpc, measurement, TableAnswer, answered, judged, asked, replied, TableMade, startedWith, TableStarts, Does, table}
 use Rattle.claims.proofs.WhoIsJoined.{leave-exactly}
 
 judged-never : {A : Type 0} {x : Answer} {v : Verdict} → answered x ≡ judged v → A
@@ -31,11 +32,11 @@ accepted-join t next a channel (judged (Verdict.Refused x)) does e = clash (sym 
 accepted-join t next a channel (asked x) does e = clash (sym e)
 accepted-join t next a channel (replied w buffer) does e = clash (sym e)
 
-module _ (ap' : List ℕ) (b : ℕ) (first : Table) (starts : TableStarts ap' b first) (own : List ℕ) where
+module _ (ap' : List ℕ) (b : ℕ) (first : Table) (starts : TableStarts (startedWith ap' b) first) (own : List ℕ) where
   -- the call by which it joins
-  comes-now : (c : TableCall) (r : TableAnswer) (ms : List Made) (before t : Table) → GoesOn first ms before → Does before c r t
+  comes-now : (c : TableCall) (r : TableAnswer) (ms : List TableMade) (before t : Table) → GoesOn table first ms before → Does before c r t
       → accepts r ≡ true → comes (λ a. same a own) c ≡ true → StaySince ap' b own (record { call = c; answer = r } ∷ ms) t
-  unfolding GoesOn NeverLeaves
+  unfolding NeverLeaves
   comes-now (join a channel) r ms before t rest does allowed is =
       let mine : a ≡ own = same-is a own is in
       let told = accepted-join before t a channel r does allowed in
@@ -49,7 +50,7 @@ module _ (ap' : List ℕ) (b : ℕ) (first : Table) (starts : TableStarts ap' b 
               ran = (first, starts, rest);
               joined = t;
               joins = subst (λ (o : List ℕ). Does before (join o channel) (answered Answer.Accepted) t) mine (subst (λ (x : TableAnswer). Does before (join a channel) x t) told does);
-              goes-on = refl;
+              goes-on = no-calls;
               never-leaves = tt;
             };
         all = ap (λ (o : List ℕ). record { call = join o channel; answer = r } ∷ ms) mine ∙ ap (λ (x : TableAnswer). record { call = join own channel; answer = x } ∷ ms) told;
@@ -62,7 +63,7 @@ module _ (ap' : List ℕ) (b : ℕ) (first : Table) (starts : TableStarts ap' b 
   comes-now (measurement f index readings buffer) r ms before t rest does allowed is = clash (sym is)
 
   -- while it is joined, leaving is accepted
-  not-leaving : (c : TableCall) (r : TableAnswer) (ms : List Made) (before t : Table) → GoesOn first ms before → Does before c r t
+  not-leaving : (c : TableCall) (r : TableAnswer) (ms : List TableMade) (before t : Table) → GoesOn table first ms before → Does before c r t
       → joinedIn own ms ≡ true → (accepts r && goes (λ a. same a own) c) ≡ false → Leaves own c → ⊥
   unfolding checked
   not-leaving (leave a) r ms before t rest does joined stays is =
@@ -81,9 +82,9 @@ module _ (ap' : List ℕ) (b : ℕ) (first : Table) (starts : TableStarts ap' b 
   not-leaving (measurement f index readings buffer) r ms before t rest does joined stays is = is
 
   -- one call more
-  goes-along : (m : Made) (ms : List Made) (before t : Table) → GoesOn first ms before → Does before (m .call) (m .answer) t → joinedIn own ms ≡ true
+  goes-along : (m : TableMade) (ms : List TableMade) (before t : Table) → GoesOn table first ms before → Does before (m .call) (m .answer) t → joinedIn own ms ≡ true
       → (accepts (m .answer) && goes (λ a. same a own) (m .call)) ≡ false → StaySince ap' b own ms before → StaySince ap' b own (m ∷ ms) t
-  unfolding GoesOn NeverLeaves
+  unfolding NeverLeaves
   goes-along m ms before t rest does joined stays s = record {
     channel = s .channel;
     before = s .before;
@@ -94,10 +95,10 @@ module _ (ap' : List ℕ) (b : ℕ) (first : Table) (starts : TableStarts ap' b 
           ran = s .stay .ran;
           joined = s .stay .joined;
           joins = s .stay .joins;
-          goes-on = (before, s .stay .goes-on, does);
+          goes-on = called m (s .stay .goes-on) does;
           never-leaves = (not-leaving (m .call) (m .answer) ms before t rest does joined stays, s .stay .never-leaves);
         };
-    all = ap (λ (ns : List Made). m ∷ ns) (s .all);
+    all = ap (λ (ns : List TableMade). m ∷ ns) (s .all);
   }
 
   still : (x y z : Bool) → x ≡ false → pick x true (pick y false z) ≡ true → (y ≡ false) × (z ≡ true)
@@ -105,18 +106,18 @@ module _ (ap' : List ℕ) (b : ℕ) (first : Table) (starts : TableStarts ap' b 
   still false true z e f = clash (sym f)
   still false false z e f = (refl, f)
 
-  stays-on : (ms : List Made) (t : Table) → GoesOn first ms t → joinedIn own ms ≡ true → StaySince ap' b own ms t
-  unfolding GoesOn joinedIn
-  stays-on [] t e joined = clash (sym joined)
-  stays-on (m ∷ ms) t (before, rest, does) joined =
+  stays-on : {ms : List TableMade} {t : Table} → GoesOn table first ms t → joinedIn own ms ≡ true → StaySince ap' b own ms t
+  unfolding joinedIn
+  stays-on no-calls joined = clash (sym joined)
+  stays-on (called {ms = ms} {before = before} {last = t} m rest does) joined =
       ⊎-elim
       (λ (y : (accepts (m .answer) && comes (λ a. same a own) (m .call)) ≡ true).
       let w = both (accepts (m .answer)) (comes (λ a. same a own) (m .call)) y in
       comes-now (m .call) (m .answer) ms before t rest does (w .0) (w .1))
       (λ (n : (accepts (m .answer) && comes (λ a. same a own) (m .call)) ≡ false).
       let w = still (accepts (m .answer) && comes (λ a. same a own) (m .call)) (accepts (m .answer) && goes (λ a. same a own) (m .call)) (joinedIn own ms) n joined in
-      goes-along m ms before t rest does (w .1) (w .0) (stays-on ms before rest (w .1)))
+      goes-along m ms before t rest does (w .1) (w .0) (stays-on rest (w .1)))
       (either (accepts (m .answer) && comes (λ a. same a own) (m .call)))
 
-pub joined-stays : (ap' : List ℕ) (b : ℕ) (own : List ℕ) (ms : List Made) (t : Table) → TableRan ap' b ms t → joinedIn own ms ≡ true → StaySince ap' b own ms t
-joined-stays ap' b own ms t (first, starts, rest) joined = stays-on ap' b first starts own ms t rest joined
+pub joined-stays : (ap' : List ℕ) (b : ℕ) (own : List ℕ) (ms : List TableMade) (t : Table) → Ran table (startedWith ap' b) ms t → joinedIn own ms ≡ true → StaySince ap' b own ms t
+joined-stays ap' b own ms t (first, starts, rest) joined = stays-on ap' b first starts own rest joined

@@ -11,8 +11,9 @@ use Rattle.answer.specs.declared.Verdict.{Verdict}
 use Rattle.header.specs.Headers.{same}
 use Rattle.station.specs.Starting.{startForbids}
 use Rattle.claims.specs.Histories.{tooFar, clockAfter}
-use Rattle.claims.specs.TableHistories.{callsOf, advancesOf}
-use Rattle.claims.specs.TableRuns.{TableCall, join, leave, tick, take, question, tpc, measurement, TableAnswer, answered, judged as frameJudged, asked, replied, Made}
+use Rattle.claims.specs.Runs.{callsOf}
+use Rattle.claims.specs.TableHistories.{advancesOf}
+use Rattle.claims.specs.TableRuns.{TableCall, join, leave, tick, take, question, tpc, measurement, TableAnswer, answered, judged as frameJudged, asked, replied, TableMade}
 
 -- the call was accepted: an address joined or left, the clock went on, a frame was taken
 abbrev pub accepts : TableAnswer → Bool
@@ -46,12 +47,12 @@ goes who (measurement f index readings buffer) = false
 abbrev pub joinedAfter : List ℕ → TableCall → TableAnswer → Bool → Bool
 joinedAfter own c r before = pick (accepts r && comes (λ a. same a own) c) true (pick (accepts r && goes (λ a. same a own) c) false before)
 
-unfoldable pub joinedIn : List ℕ → List Made → Bool
+unfoldable pub joinedIn : List ℕ → List TableMade → Bool
 joinedIn own [] = false
 joinedIn own (m ∷ ms) = joinedAfter own (m .call) (m .answer) (joinedIn own ms)
 
 -- how many such calls were accepted
-unfoldable pub acceptedOf : (TableCall → Bool) → List Made → ℕ
+unfoldable pub acceptedOf : (TableCall → Bool) → List TableMade → ℕ
 acceptedOf p [] = 0
 acceptedOf p (m ∷ ms) = pick (accepts (m .answer) && p (m .call)) (suc (acceptedOf p ms)) (acceptedOf p ms)
 
@@ -59,14 +60,14 @@ abbrev pub anybody : List ℕ → Bool
 anybody a = true
 
 -- "24 no free row": sixteen more have joined than have left
-abbrev pub isFull : List Made → Bool
+abbrev pub isFull : List TableMade → Bool
 isFull ms = eqb (acceptedOf (comes anybody) ms) (acceptedOf (goes anybody) ms + 16)
 
 -- ---- what is answered
 
 -- "24 no free row, 25 address already joined, 26 address not joined; 15 comes first, and 25 before 24"
 -- 15 is that of document 01's start
-abbrev pub joinAnswer : List ℕ → ℕ → List Made → List ℕ → ℕ → Answer
+abbrev pub joinAnswer : List ℕ → ℕ → List TableMade → List ℕ → ℕ → Answer
 joinAnswer ap b ms own channel =
     answerOf {A = Unit {0}}
     (judged
@@ -76,13 +77,13 @@ joinAnswer ap b ms own channel =
     ∷ [])
     tt)
 
-abbrev pub leaveAnswer : List Made → List ℕ → Answer
+abbrev pub leaveAnswer : List TableMade → List ℕ → Answer
 leaveAnswer ms own = answerOf {A = Unit {0}} (judged (not (joinedIn own ms) ⇒ Refusal.NotJoined ∷ []) tt)
 
 -- "or the clock would pass its limit", the clock by the advances
-abbrev pub tickAnswer : List Made → ℕ → Answer
+abbrev pub tickAnswer : List TableMade → ℕ → Answer
 tickAnswer ms n = pick (tooFar (clockAfter (advancesOf (callsOf ms))) n) (Answer.Refused Refusal.PastClock) Answer.Accepted
 
 -- who is joined is this one alone
-abbrev pub OnlyJoined : List ℕ → List Made → Type 0
+abbrev pub OnlyJoined : List ℕ → List TableMade → Type 0
 OnlyJoined own ms = (a : List ℕ) → joinedIn a ms ≡ same a own

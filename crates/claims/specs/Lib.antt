@@ -33,6 +33,7 @@ pub mod Reserved
 pub mod Runs
 pub mod SoundBefore
 pub mod Standing
+pub mod StationRuns
 pub mod TableHistories
 pub mod TableRuns
 pub mod TakenOut

@@ -4,19 +4,11 @@ use mathlib.Core.List.{List, [], _∷_}
 use mathlib.Core.Path.{_≡_}
 use Prim.Native.Nat.{ℕ, _+_, _≤_}
 use Rattle.answer.specs.declared.Answer.{Answer}
-use Rattle.station.proofs.Station.advance as Advance
 use Rattle.station.specs.Stations.{clockLimit, unitLimit}
-use Rattle.station.specs.declared.Station.{Station}
 use Rattle.table.specs.declared.Table.{Table}
-use Rattle.claims.specs.Runs.{Called}
 use Rattle.claims.specs.TableRuns.{tick, answered, Does}
 
--- `Station::advance` was called on a record, gave this answer and left this record
-abbrev pub StationAdvances : Station → ℕ → Answer → Station → Type 0
-StationAdvances s n r next =
-    Called 0 Advance.Kinds.ps Advance.Kinds.r Advance.Reads.Post (λ κs a x. (a .0 ≡ s) × (a .1 .0 ≡ n) × (x .answer ≡ r) × (x .station ≡ next))
-
--- the same of `Table::tick`
+-- `Table::tick` was called on a table, gave this answer and left that table
 abbrev pub TableTicks : Table → ℕ → Answer → Table → Type 0
 TableTicks t n r next = Does t (tick n) (answered r) next
 

@@ -5,10 +5,7 @@ use mathlib.Core.List.{List, map}
 use mathlib.Core.Path.{_≡_}
 use Prim.Native.Nat.{ℕ}
 use lib.ListN.{length}
-use denote.Ref.{now}
 use Rattle.answer.specs.Checks.{accepted}
-use Rattle.answer.specs.declared.Answer.{Answer}
-use Rattle.answer.specs.declared.Verdict.{Verdict}
 use Rattle.beacon.specs.IbssBeacons.{MaybeDfs, is}
 use Rattle.beacon.specs.Notices.{hasSwitch}
 use Rattle.capture_record.specs.declared.entry.Settings.{Settings}
@@ -18,11 +15,7 @@ use Rattle.frame.specs.Frames.{Sent, frameMeans}
 use Rattle.frame.specs.IbssFrames.{DfsSoundIn}
 use Rattle.header.specs.Headers.{sa, fromAp}
 use Rattle.octets.specs.Numbers.{bit, octet}
-use Rattle.station.proofs.Station.advance as Advance
-use Rattle.station.proofs.Station.take as Take
-use Rattle.station.specs.declared.Station.{Station}
 use Rattle.claims.specs.Histories.{Call, frame, advance, ask, History, Throughout}
-use Rattle.claims.specs.Runs.{Called}
 
 module _ (s : Settings) where
   -- a frame from the address `a`. The elements 41 of a beacon come to `dfs`, with none that is refused; and what of it document 01 reads as an announcement names that address
@@ -52,10 +45,3 @@ module _ (s : Settings) where
 
   abbrev pub allFromAp : History → History
   allFromAp h = map asFromAp h
-
--- document 01's station gives this verdict on a frame, and this answer to an advance
-abbrev pub StationJudges : Station → List ℕ → Verdict → Type 0
-StationJudges r f v = Called 1 Take.Kinds.ps Take.Kinds.r Take.Reads.Post (λ κs a x. (a .0 ≡ r) × (now (a .1 .0) ≡ f) × (x .verdict ≡ v))
-
-abbrev pub StationSteps : Station → ℕ → Answer → Type 0
-StationSteps r n v = Called 0 Advance.Kinds.ps Advance.Kinds.r Advance.Reads.Post (λ κs a x. (a .0 ≡ r) × (a .1 .0 ≡ n) × (x .answer ≡ v))

@@ -1,48 +1,38 @@
--- Runs of the code (00, demand 3: "Start a station and make any calls"): each call is made on the record that the call before it left,
--- and does what the function's own promise allows. Nothing more is known of it.
-use mathlib.Core.List.{List, [], _∷_}
-use mathlib.Core.Path.{_≡_}
+-- Runs of the code (00, demand 3: "Start a station and make any calls"), of whatever is started and then called: each call is made on what the call before it left,
+-- and does what its function's own promise allows. Nothing more is known of it.
+use mathlib.Core.List.{List, [], _∷_, map}
 use Prim.Native.Nat.{ℕ}
 use borrow.Fn.Kinds.{PK, RK, Dens, resT, endedOf, Out}
 use contract.Lifetimes.{Lfts}
-use denote.Ref.{now}
 use denote.Triple.Clauses.{AtExit}
-use Rattle.answer.specs.declared.Answer.{Answer}
-use Rattle.station.proofs.Station.advance as Advance
-use Rattle.station.proofs.Station.ask as Ask
-use Rattle.station.proofs.Station.start as Start
-use Rattle.station.proofs.Station.take as Take
-use Rattle.station.specs.declared.Station.{Station}
-use Rattle.station.specs.declared.asking.Permission.{Permission}
-use Rattle.capture_record.specs.declared.entry.Settings.{Settings}
-use Rattle.claims.specs.Histories.{frame, advance, ask, History}
 
--- a call that a promise allows, of which something is said
-abbrev pub Called : (n : ℕ) (ps : List (PK n)) (r : RK n) → Out n ps r → ((κs : Lfts n) → Dens κs ps → resT r κs .Denot → Type 0) → Type 0
+-- a call that a promise allows, of which something is said: of its arguments, its result, and what was lent to it at exit
+abbrev pub Called : (n : ℕ) (ps : List (PK n)) (r : RK n) → Out n ps r → ((κs : Lfts n) → Dens κs ps → resT r κs .Denot → AtExit (endedOf n ps r) κs → Type 0) → Type 0
 Called n ps r Promise About =
-    (κs : Lfts n) × (a : Dens κs ps) × (x : resT r κs .Denot) × (e : AtExit (endedOf n ps r) κs) × Promise κs a x e × About κs a x
+    (κs : Lfts n) × (a : Dens κs ps) × (x : resT r κs .Denot) × (e : AtExit (endedOf n ps r) κs) × Promise κs a x e × About κs a x e
 
--- `Station::start` was called with the settings, accepted them and gave this record
-abbrev pub Starts : Settings → Station → Type 0
-Starts s r =
-    Called 0 Start.Kinds.ps Start.Kinds.r Start.Reads.Post
-    (λ κs a x. (a .0 ≡ s .own) × (a .1 .0 ≡ s .ap) × (a .1 .1 .0 ≡ s .interval) × (a .1 .1 .1 .0 ≡ s .channel) × (x .answer ≡ Answer.Accepted) × (x .station ≡ r))
+-- what can be run: what it is started with, what is kept from call to call, what a call is, and what is said to one
+pub record Engine {ℓ} (Settings Kept Call Said : Type 0) : Type (ℓ + 1) where
+  -- its start was called with the settings, accepted them and gave this to keep
+  pub Starts : Settings → Kept → Type 0
+  -- the function of the call was called on what was kept, said this and left that
+  pub Does : Kept → Call → Said → Kept → Type ℓ
 
--- `Station::take` was called on a record with the octets of a frame, and left this one
-abbrev pub Takes : Station → List ℕ → Station → Type 0
-Takes before f r = Called 1 Take.Kinds.ps Take.Kinds.r Take.Reads.Post (λ κs a x. (a .0 ≡ before) × (now (a .1 .0) ≡ f) × (x .station ≡ r))
+-- a call as it was made, and what was said to it
+pub record Made (Call Said : Type 0) : Type 0 where
+  pub call : Call
+  pub answer : Said
 
--- `Station::advance` was called on a record, and left this one
-abbrev pub Advances : Station → ℕ → Station → Type 0
-Advances before n r = Called 0 Advance.Kinds.ps Advance.Kinds.r Advance.Reads.Post (λ κs a x. (a .0 ≡ before) × (a .1 .0 ≡ n) × (x .station ≡ r))
+-- the calls alone: the history
+abbrev pub callsOf : {Call Said : Type 0} → List (Made Call Said) → List Call
+callsOf ms = map (λ m. m .call) ms
 
--- `Station::ask` was called on a record, and answered this
-abbrev pub Asks : Station → ℕ → Permission → Type 0
-Asks r n p = Called 0 Ask.Kinds.ps Ask.Kinds.r Ask.Reads.Post (λ κs a x. (a .0 ≡ r) × (a .1 .0 ≡ n) × (x ≡ p))
+-- from what was kept first the calls were made one after the other, the latest of them first in the list, and the last one left this
+pub data GoesOn {ℓ} {Settings Kept Call Said : Type 0} (engine : Engine {ℓ} Settings Kept Call Said) (first : Kept) : List (Made Call Said) → Kept → Type ℓ where
+  no-calls : GoesOn engine first [] first
+  called : {ms : List (Made Call Said)} {before last : Kept} (m : Made Call Said)
+      → GoesOn engine first ms before → engine .Does before (m .call) (m .answer) last → GoesOn engine first (m ∷ ms) last
 
--- the calls of the history were made one after the other, and the last one left this record
-unfoldable pub Ran : Settings → History → Station → Type 0
-Ran s [] r = Starts s r
-Ran s (frame f ∷ h) r = (before : Station) × Ran s h before × Takes before f r
-Ran s (advance n ∷ h) r = (before : Station) × Ran s h before × Advances before n r
-Ran s (ask n ∷ h) r = (p : Permission) × Ran s h r × Asks r n p
+-- the same from an accepted start on
+abbrev pub Ran {ℓ} : {Settings Kept Call Said : Type 0} → Engine {ℓ} Settings Kept Call Said → Settings → List (Made Call Said) → Kept → Type ℓ
+Ran {Kept = K} engine s ms last = (first : K) × engine .Starts s first × GoesOn engine first ms last

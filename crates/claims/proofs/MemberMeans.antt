@@ -1,0 +1,95 @@
+-- What a call of a station of an IBSS answers and leaves, by its meaning, and so any calls of a run (02, Five). Assumes nothing.
+use mathlib.Core.Bool.{true, false}
+use mathlib.Core.List.{List, [], _∷_}
+use mathlib.Core.Logic.{⊎-elim}
+use mathlib.Core.Path.{_≡_, refl, sym, ap, _∙_, subst}
+use Prim.Native.Nat.{ℕ}
+use native.Mathlib.Omega.{arith}
+use Rattle.answer.specs.Checks.{checked}
+use Rattle.answer.proofs.Booleans.{either}
+use Rattle.answer.specs.declared.Answer.{Answer}
+use Rattle.answer.specs.declared.Refusal.{Refusal}
+use Rattle.answer.specs.declared.Verdict.{Verdict}
+use Rattle.capture_record.specs.declared.entry.Settings.{Settings}
+use Rattle.member.specs.Members.{memberOf, takeOf, advanceOf, startOf}
+use Rattle.member.specs.Validity.{ValidMember}
+use Rattle.member.specs.declared.Member.{Member}
+use Rattle.member.specs.declared.clock.Stepped.{Stepped}
+use Rattle.member.specs.declared.starting.Started.{Started}
+use Rattle.member.specs.declared.taking.Taken.{Taken}
+use Rattle.owner.specs.Owners.{unknown}
+use Rattle.station.specs.Asking.{permissionOf}
+use Rattle.station.specs.Starting.{startMeans, startForbids}
+use Rattle.station.specs.Stations.{fresh}
+use Rattle.station.specs.declared.asking.Permission.{Permission}
+use Rattle.station_record.specs.declared.Asked.{Asked}
+use Rattle.claims.specs.Histories.{Call, frame, advance, ask, History}
+use Rattle.claims.specs.MemberRecords.{memberAfter}
+use Rattle.claims.specs.MemberRuns.{MemberStarts, MemberTakes, MemberAdvances, MemberAsks, MemberDoes, member}
+use Rattle.claims.specs.StationRuns.{Said, answered, judged, asked}
+use Rattle.claims.proofs.RunsMeant.{Meaning, keptAfter, Meant, Exactly, Meets, meets-exactly}
+
+-- ---- what each call means
+
+abbrev saidBy : Member → Call → Said
+saidBy m (frame f) = judged (takeOf m f .verdict)
+saidBy m (advance n) = answered (advanceOf m n .answer)
+saidBy m (ask n) = asked (Asked.Is (permissionOf (m .station) n))
+
+abbrev leftBy : Member → Call → Member
+leftBy m (frame f) = takeOf m f .member
+leftBy m (advance n) = advanceOf m n .member
+leftBy m (ask n) = m
+
+abbrev pub memberMeans : Meaning Member Call Said
+memberMeans = record { answers = saidBy; leaves = leftBy }
+
+-- the record of a history is what its calls leave of the one at its beginning
+pub recorded : (s : Settings) (h : History) → keptAfter memberMeans (memberAfter s []) h ≡ memberAfter s h
+unfolding keptAfter memberAfter
+recorded s [] = refl
+recorded s (frame f ∷ h) = ap (λ (m : Member). takeOf m f .member) (recorded s h)
+recorded s (advance n ∷ h) = ap (λ (m : Member). advanceOf m n .member) (recorded s h)
+recorded s (ask n ∷ h) = recorded s h
+
+-- ---- what each promise allows
+
+start-accepted : (own bssid : List ℕ) (b channel : ℕ) → startOf own bssid b channel .answer ≡ Answer.Accepted
+    → startOf own bssid b channel .member ≡ memberOf (fresh own bssid b channel) unknown
+unfolding startMeans checked
+start-accepted own bssid b channel e =
+    ⊎-elim
+    (λ (y : startForbids own bssid b channel ≡ true).
+    let z : Answer.Refused Refusal.BadStart ≡ Answer.Accepted = simp y at e in
+    absurd (let w : _≡_ {A = ℕ} 0 1 = cc in omega arith))
+    (λ (n : startForbids own bssid b channel ≡ false). simp n)
+    (either (startForbids own bssid b channel))
+
+pub starts-means : (s : Settings) (m : Member) → MemberStarts s m → Exactly ValidMember m (memberAfter s [])
+unfolding memberAfter
+starts-means s m (κs, a, x, e, promise, (own, bssid, interval, channel, accepts, result)) =
+    let same : x ≡ startOf (s .own) (s .ap) (s .interval) (s .channel) = rw (← own, ← bssid, ← interval, ← channel) (promise .0) in (
+      sym result ∙ ap (λ (y : Started). y .member) same ∙ start-accepted (s .own) (s .ap) (s .interval) (s .channel) (ap (λ (y : Started). y .answer) (sym same) ∙ accepts),
+      subst ValidMember result (promise .1 accepts),
+    )
+
+pub takes-means : {before m : Member} {f : List ℕ} {v : Verdict} → MemberTakes before f v m → (v ≡ takeOf before f .verdict) × (m ≡ takeOf before f .member) × ValidMember m
+takes-means {before} {m} {f} (κs, a, x, e, promise, (self, octets, verdict, result)) =
+    let same : x ≡ takeOf before f = rw (← self, ← octets) (promise .0) in
+    (sym verdict ∙ ap (λ (y : Taken). y .verdict) same, sym result ∙ ap (λ (y : Taken). y .member) same, subst ValidMember result (promise .1))
+
+pub advances-means : {before m : Member} {n : ℕ} {r : Answer} → MemberAdvances before n r m → (r ≡ advanceOf before n .answer) × (m ≡ advanceOf before n .member) × ValidMember m
+advances-means {before} {m} {n} (κs, a, x, e, promise, (self, units, answer, result)) =
+    let same : x ≡ advanceOf before n = rw (← self, ← units) (promise .0) in
+    (sym answer ∙ ap (λ (y : Stepped). y .answer) same, sym result ∙ ap (λ (y : Stepped). y .member) same, subst ValidMember result (promise .1))
+
+pub asks-means : {m : Member} {n : ℕ} {p : Permission} → MemberAsks m n p → p ≡ permissionOf (m .station) n
+asks-means (κs, a, x, e, promise, (self, units, result)) = sym result ∙ rw (← self, ← units) promise
+
+pub does-means : (m : Member) (c : Call) (x : Said) (next : Member) → ValidMember m → MemberDoes m c x next → Meant memberMeans ValidMember m c x next
+does-means m c x next v (MemberDoes.takes y) = let w = takes-means y in record { answers = ap judged (w .0); leaves = w .1; valid = w .2 }
+does-means m c x next v (MemberDoes.advances y) = let w = advances-means y in record { answers = ap answered (w .0); leaves = w .1; valid = w .2 }
+does-means m c x next v (MemberDoes.asks y) = record { answers = ap (λ (p : Permission). asked (Asked.Is p)) (asks-means y); leaves = refl; valid = v }
+
+pub member-meets : (s : Settings) → Meets member memberMeans (Exactly ValidMember) s (memberAfter s [])
+member-meets s = meets-exactly member memberMeans ValidMember does-means s (memberAfter s []) (starts-means s)

@@ -1,0 +1,94 @@
+-- What a call of document 01's station answers and leaves, by its meaning, and so any calls of a run. Assumes nothing.
+use mathlib.Core.Bool.{true, false}
+use mathlib.Core.List.{List, [], _∷_}
+use mathlib.Core.Logic.{⊎-elim}
+use mathlib.Core.Path.{_≡_, refl, sym, ap, _∙_, subst}
+use Prim.Native.Nat.{ℕ}
+use native.Mathlib.Omega.{arith}
+use Rattle.answer.specs.Checks.{checked}
+use Rattle.answer.specs.declared.Answer.{Answer}
+use Rattle.answer.specs.declared.Refusal.{Refusal}
+use Rattle.answer.specs.declared.Verdict.{Verdict}
+use Rattle.answer.proofs.Booleans.{either}
+use Rattle.capture_record.specs.declared.entry.Settings.{Settings}
+use Rattle.station.specs.Asking.{permissionOf}
+use Rattle.station.specs.Clock.{advanceOf}
+use Rattle.station.specs.Starting.{startForbids, started, startMeans}
+use Rattle.station.specs.Stations.{fresh}
+use Rattle.station.specs.Taking.{takeOf}
+use Rattle.station.specs.Validity.{Valid}
+use Rattle.station.specs.declared.Station.{Station}
+use Rattle.station.specs.declared.asking.Permission.{Permission}
+use Rattle.station.specs.declared.clock.Stepped.{Stepped}
+use Rattle.station.specs.declared.starting.Started.{Started}
+use Rattle.station.specs.declared.taking.Taken.{Taken}
+use Rattle.station_record.specs.declared.Asked.{Asked}
+use Rattle.claims.specs.Histories.{Call, frame, advance, ask, History}
+use Rattle.claims.specs.Records.{recordFrom, recordAfter}
+use Rattle.claims.specs.StationRuns.{Said, answered, judged, asked, Starts, Takes, Advances, Asks, StationDoes, station}
+use Rattle.claims.proofs.RunsMeant.{Meaning, keptAfter, Meant, Exactly, Meets, meets-exactly}
+
+-- ---- what each call means
+
+abbrev saidBy : Station → Call → Said
+saidBy r (frame f) = judged (takeOf r f .verdict)
+saidBy r (advance n) = answered (advanceOf r n .answer)
+saidBy r (ask n) = asked (Asked.Is (permissionOf r n))
+
+abbrev leftBy : Station → Call → Station
+leftBy r (frame f) = takeOf r f .station
+leftBy r (advance n) = advanceOf r n .station
+leftBy r (ask n) = r
+
+abbrev pub stationMeans : Meaning Station Call Said
+stationMeans = record { answers = saidBy; leaves = leftBy }
+
+-- the record of a history is what its calls leave of the one at its beginning
+pub recorded : (t : ℕ) (s : Settings) (h : History) → keptAfter stationMeans (recordFrom t s []) h ≡ recordFrom t s h
+unfolding keptAfter recordFrom
+recorded t s [] = refl
+recorded t s (frame f ∷ h) = ap (λ (r : Station). takeOf r f .station) (recorded t s h)
+recorded t s (advance n ∷ h) = ap (λ (r : Station). advanceOf r n .station) (recorded t s h)
+recorded t s (ask n ∷ h) = recorded t s h
+
+-- ---- what each promise allows
+
+start-accepted : (own ap' : List ℕ) (b channel : ℕ) → started (startMeans own ap' b channel) .answer ≡ Answer.Accepted
+    → started (startMeans own ap' b channel) .station ≡ fresh own ap' b channel
+unfolding startMeans checked
+start-accepted own ap' b channel e =
+    ⊎-elim
+    (λ (y : startForbids own ap' b channel ≡ true).
+    let z : Answer.Refused Refusal.BadStart ≡ Answer.Accepted = simp y at e in
+    absurd (let w : _≡_ {A = ℕ} 0 1 = cc in omega arith))
+    (λ (n : startForbids own ap' b channel ≡ false). simp n)
+    (either (startForbids own ap' b channel))
+
+pub starts-means : (s : Settings) (r : Station) → Starts s r → Exactly Valid r (recordAfter s [])
+unfolding recordFrom
+starts-means s r (κs, a, x, e, promise, (own, ap', interval, channel, accepted, result)) =
+    let same : x ≡ started (startMeans (s .own) (s .ap) (s .interval) (s .channel)) = rw (← own, ← ap', ← interval, ← channel) (promise .0) in (
+      sym result ∙ ap (λ (y : Started). y .station) same ∙ start-accepted (s .own) (s .ap) (s .interval) (s .channel) (ap (λ (y : Started). y .answer) (sym same) ∙ accepted),
+      subst Valid result (promise .1 accepted),
+    )
+
+pub takes-means : {before r : Station} {f : List ℕ} {v : Verdict} → Takes before f v r → (v ≡ takeOf before f .verdict) × (r ≡ takeOf before f .station) × Valid r
+takes-means {before} {r} {f} (κs, a, x, e, promise, (self, octets, verdict, result)) =
+    let same : x ≡ takeOf before f = rw (← self, ← octets) (promise .0) in
+    (sym verdict ∙ ap (λ (y : Taken). y .verdict) same, sym result ∙ ap (λ (y : Taken). y .station) same, subst Valid result (promise .1))
+
+pub advances-means : {before r : Station} {n : ℕ} {v : Answer} → Advances before n v r → (v ≡ advanceOf before n .answer) × (r ≡ advanceOf before n .station) × Valid r
+advances-means {before} {r} {n} (κs, a, x, e, promise, (self, units, answer, result)) =
+    let same : x ≡ advanceOf before n = rw (← self, ← units) (promise .0) in
+    (sym answer ∙ ap (λ (y : Stepped). y .answer) same, sym result ∙ ap (λ (y : Stepped). y .station) same, subst Valid result (promise .1))
+
+pub asks-means : {r : Station} {n : ℕ} {p : Permission} → Asks r n p → p ≡ permissionOf r n
+asks-means (κs, a, x, e, promise, (self, units, result)) = sym result ∙ rw (← self, ← units) promise
+
+pub does-means : (r : Station) (c : Call) (x : Said) (next : Station) → Valid r → StationDoes r c x next → Meant stationMeans Valid r c x next
+does-means r c x next v (StationDoes.takes y) = let w = takes-means y in record { answers = ap judged (w .0); leaves = w .1; valid = w .2 }
+does-means r c x next v (StationDoes.advances y) = let w = advances-means y in record { answers = ap answered (w .0); leaves = w .1; valid = w .2 }
+does-means r c x next v (StationDoes.asks y) = record { answers = ap (λ (p : Permission). asked (Asked.Is p)) (asks-means y); leaves = refl; valid = v }
+
+pub station-meets : (s : Settings) → Meets station stationMeans (Exactly Valid) s (recordAfter s [])
+station-meets s = meets-exactly station stationMeans Valid does-means s (recordAfter s []) (starts-means s)
