@@ -33,13 +33,12 @@ use Rattle.lent.proofs.ask as Lent-ask
 use Rattle.octets.specs.Numbers.{Octets}
 use Rattle.octets.specs.Writing.{filled}
 use Rattle.station.proofs.Received.{valid-heard, read-means}
-use Rattle.station.proofs.StaysValid.{valid-fresh, advanced as advances-validly}
+use Rattle.station.proofs.StaysValid.{advanced as advances-validly}
 use Rattle.station.proofs.Station as Station-row
 use Rattle.station.proofs.asking.Permission as Permission-row
 use Rattle.station.specs.Asking.{permissionOf}
 use Rattle.station.specs.Clock.{stepped, advanceMeans, advanceOf}
 use Rattle.station.specs.Starting.{startMeans}
-use Rattle.station.specs.Stations.{fresh}
 use Rattle.station.specs.Taking.{taken, takeMeans, takeOf}
 use Rattle.station.specs.Validity.{Valid}
 use Rattle.station.specs.declared.Station.{Station}
@@ -54,12 +53,12 @@ use Rattle.station_record.specs.Records.{size, recordOf}
 use Rattle.station_record.specs.declared.Asked.{Asked}
 use Rattle.claims.specs.EitherWays.{WasKept, LentAdvances, LentAsks, EitherDoes, eitherWay, SettingsFit, RecordStarts, RecordDoes, inOctets}
 use Rattle.claims.specs.Histories.{Call}
-use Rattle.claims.specs.Records.{recordFrom, recordAfter}
+use Rattle.claims.specs.Records.{recordAfter}
 use Rattle.claims.specs.Runs.{Made, callsOf, Ran}
 use Rattle.claims.specs.StationRuns.{Said, answered, judged, asked}
 use Rattle.claims.proofs.OneOutcomeLent.{lent-advance, lent-ask}
 use Rattle.claims.proofs.RunsMeant.{madeAfter, Meant, Meets, as-meant, said-alike, Exactly, meets-exactly}
-use Rattle.claims.proofs.StationMeans.{stationMeans, recorded, starts-means, does-means}
+use Rattle.claims.proofs.StationMeans.{stationMeans, recorded, is-fresh, starts-means, does-means}
 use Rattle.claims.proofs.StaysFit.{started-fits, advanced-fits, taken-fits}
 
 -- ---- octets that hold a station, after a call on them
@@ -136,13 +135,6 @@ begins own ap' b channel os t e =
     let p = passed _ _ _ (w .2) in
     (w .1 ∙ ap accepted (kept (w .0) (p .1)), ltb-false (length os) size (p .0))
 
-is-fresh : (own ap' : List ℕ) (b channel : ℕ) (t : Station) → startMeans own ap' b channel ≡ accepted t → (fresh own ap' b channel ≡ t) × Valid t
-unfolding startMeans
-is-fresh own ap' b channel t e =
-    let p = passed _ _ _ e in
-    let same = kept (fresh own ap' b channel) (p .1) in
-    (same, subst Valid same (valid-fresh own ap' b channel (p .0)))
-
 -- each call on octets that hold a station is answered as it means, and leaves octets that hold what it means
 record-does : (before : List ℕ) (c : Call) (x : Said) (os : List ℕ) → RecordDoes before c x os → (r : Station) → Holds before r
     → (x ≡ stationMeans .answers r c) × Holds os (stationMeans .leaves r c)
@@ -162,7 +154,6 @@ record-does before c x os (RecordDoes.asks {n = n} {v = v} (κs, a, y, e, promis
 
 module _ (s : Settings) (f : SettingsFit s) where
   record-starts : (os : List ℕ) → RecordStarts s os → Holds os (recordAfter s [])
-  unfolding recordFrom
   record-starts os (κs, a, x, e, promise, (own, ap', interval, channel, said, left)) =
       by (startedIn (s .own) (s .ap) (s .interval) (s .channel) (now (a .1 .1 .1 .1 .0))) refl
       (sym said ∙ rw (← own, ← ap', ← interval, ← channel) (promise .0)) (sym left ∙ rw (← own, ← ap', ← interval, ← channel) (promise .1))
@@ -174,11 +165,11 @@ module _ (s : Settings) (f : SettingsFit s) where
       by (refused q) d said exit = absurd (let z : _≡_ {A = ℕ} 0 1 = cc in omega arith)
       by (accepted t) d said exit =
           let w = begins (s .own) (s .ap) (s .interval) (s .channel) entry t d in
-          let new = is-fresh (s .own) (s .ap) (s .interval) (s .channel) t (w .0) in
+          let new = is-fresh s t (w .0) in
           let g = started-fits (s .own) (s .ap) (s .interval) (s .channel) t (f .own-six) (f .own-octets) (f .ap-six) (f .ap-octets) (f .interval-fits) (w .0) in
           record {
-            held = ap heldIn exit ∙ laid-is-held entry t (w .1) (new .1) g ∙ ap accepted (sym (new .0));
-            fits = subst Fits (sym (new .0)) g;
+            held = ap heldIn exit ∙ laid-is-held entry t (w .1) (new .1) g ∙ ap accepted (new .0);
+            fits = subst Fits (new .0) g;
           }
 
   octets-meet : Meets inOctets stationMeans Holds s (recordAfter s [])

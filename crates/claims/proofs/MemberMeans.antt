@@ -1,17 +1,13 @@
 -- What a call of a station of an IBSS answers and leaves, by its meaning, and so any calls of a run (02, Five). Assumes nothing.
-use mathlib.Core.Bool.{true, false}
 use mathlib.Core.List.{List, [], _∷_}
-use mathlib.Core.Logic.{⊎-elim}
 use mathlib.Core.Path.{_≡_, refl, sym, ap, _∙_, subst}
 use Prim.Native.Nat.{ℕ}
 use native.Mathlib.Omega.{arith}
-use Rattle.answer.specs.Checks.{checked}
-use Rattle.answer.proofs.Booleans.{either}
+use Rattle.answer.specs.Checks.{Outcome, refused, accepted}
 use Rattle.answer.specs.declared.Answer.{Answer}
-use Rattle.answer.specs.declared.Refusal.{Refusal}
 use Rattle.answer.specs.declared.Verdict.{Verdict}
 use Rattle.capture_record.specs.declared.entry.Settings.{Settings}
-use Rattle.member.specs.Members.{memberOf, takeOf, advanceOf, startOf}
+use Rattle.member.specs.Members.{memberOf, memberStarted, takeOf, advanceOf, startOf}
 use Rattle.member.specs.Validity.{ValidMember}
 use Rattle.member.specs.declared.Member.{Member}
 use Rattle.member.specs.declared.clock.Stepped.{Stepped}
@@ -19,15 +15,17 @@ use Rattle.member.specs.declared.starting.Started.{Started}
 use Rattle.member.specs.declared.taking.Taken.{Taken}
 use Rattle.owner.specs.Owners.{unknown}
 use Rattle.station.specs.Asking.{permissionOf}
-use Rattle.station.specs.Starting.{startMeans, startForbids}
-use Rattle.station.specs.Stations.{fresh}
+use Rattle.station.specs.Starting.{startMeans}
+use Rattle.station.specs.declared.Station.{Station}
 use Rattle.station.specs.declared.asking.Permission.{Permission}
 use Rattle.station_record.specs.declared.Asked.{Asked}
 use Rattle.claims.specs.Histories.{Call, frame, advance, ask, History}
 use Rattle.claims.specs.MemberRecords.{memberAfter}
 use Rattle.claims.specs.MemberRuns.{MemberStarts, MemberTakes, MemberAdvances, MemberAsks, MemberDoes, member}
+use Rattle.claims.specs.Records.{recordFrom}
 use Rattle.claims.specs.StationRuns.{Said, answered, judged, asked}
 use Rattle.claims.proofs.RunsMeant.{Meaning, keptAfter, Meant, Exactly, Meets, meets-exactly}
+use Rattle.claims.proofs.StationMeans.{is-fresh}
 
 -- ---- what each call means
 
@@ -54,24 +52,17 @@ recorded s (ask n ∷ h) = recorded s h
 
 -- ---- what each promise allows
 
-start-accepted : (own bssid : List ℕ) (b channel : ℕ) → startOf own bssid b channel .answer ≡ Answer.Accepted
-    → startOf own bssid b channel .member ≡ memberOf (fresh own bssid b channel) unknown
-unfolding startMeans checked
-start-accepted own bssid b channel e =
-    ⊎-elim
-    (λ (y : startForbids own bssid b channel ≡ true).
-    let z : Answer.Refused Refusal.BadStart ≡ Answer.Accepted = simp y at e in
-    absurd (let w : _≡_ {A = ℕ} 0 1 = cc in omega arith))
-    (λ (n : startForbids own bssid b channel ≡ false). simp n)
-    (either (startForbids own bssid b channel))
-
 pub starts-means : (s : Settings) (m : Member) → MemberStarts s m → Exactly ValidMember m (memberAfter s [])
-unfolding memberAfter
+unfolding memberAfter recordFrom
 starts-means s m (κs, a, x, e, promise, (own, bssid, interval, channel, accepts, result)) =
     let same : x ≡ startOf (s .own) (s .ap) (s .interval) (s .channel) = rw (← own, ← bssid, ← interval, ← channel) (promise .0) in (
-      sym result ∙ ap (λ (y : Started). y .member) same ∙ start-accepted (s .own) (s .ap) (s .interval) (s .channel) (ap (λ (y : Started). y .answer) (sym same) ∙ accepts),
+      sym result ∙ ap (λ (y : Started). y .member) same ∙ by (startMeans (s .own) (s .ap) (s .interval) (s .channel)) refl (ap (λ (y : Started). y .answer) (sym same) ∙ accepts),
       subst ValidMember result (promise .1 accepts),
     )
+  where
+    by : (o : Outcome Station) → startMeans (s .own) (s .ap) (s .interval) (s .channel) ≡ o → memberStarted o .answer ≡ Answer.Accepted → memberStarted o .member ≡ memberAfter s []
+    by (refused q) given says = absurd (let z : _≡_ {A = ℕ} 0 1 = cc in omega arith)
+    by (accepted t) given says = ap (λ (r : Station). memberOf r unknown) (is-fresh s t given .0)
 
 pub takes-means : {before m : Member} {f : List ℕ} {v : Verdict} → MemberTakes before f v m → (v ≡ takeOf before f .verdict) × (m ≡ takeOf before f .member) × ValidMember m
 takes-means {before} {m} {f} (κs, a, x, e, promise, (self, octets, verdict, result)) =

@@ -1,20 +1,17 @@
 -- What a call of document 01's station answers and leaves, by its meaning, and so any calls of a run. Assumes nothing.
-use mathlib.Core.Bool.{true, false}
 use mathlib.Core.List.{List, [], _∷_}
-use mathlib.Core.Logic.{⊎-elim}
 use mathlib.Core.Path.{_≡_, refl, sym, ap, _∙_, subst}
 use Prim.Native.Nat.{ℕ}
 use native.Mathlib.Omega.{arith}
-use Rattle.answer.specs.Checks.{checked}
+use Rattle.answer.proofs.Judged.{passed, kept}
+use Rattle.answer.specs.Checks.{Outcome, refused, accepted}
 use Rattle.answer.specs.declared.Answer.{Answer}
-use Rattle.answer.specs.declared.Refusal.{Refusal}
 use Rattle.answer.specs.declared.Verdict.{Verdict}
-use Rattle.answer.proofs.Booleans.{either}
 use Rattle.capture_record.specs.declared.entry.Settings.{Settings}
+use Rattle.station.proofs.StaysValid.{valid-fresh}
 use Rattle.station.specs.Asking.{permissionOf}
 use Rattle.station.specs.Clock.{advanceOf}
-use Rattle.station.specs.Starting.{startForbids, started, startMeans}
-use Rattle.station.specs.Stations.{fresh}
+use Rattle.station.specs.Starting.{started, startMeans}
 use Rattle.station.specs.Taking.{takeOf}
 use Rattle.station.specs.Validity.{Valid}
 use Rattle.station.specs.declared.Station.{Station}
@@ -53,24 +50,22 @@ recorded t s (ask n ∷ h) = recorded t s h
 
 -- ---- what each promise allows
 
-start-accepted : (own ap' : List ℕ) (b channel : ℕ) → started (startMeans own ap' b channel) .answer ≡ Answer.Accepted
-    → started (startMeans own ap' b channel) .station ≡ fresh own ap' b channel
-unfolding startMeans checked
-start-accepted own ap' b channel e =
-    ⊎-elim
-    (λ (y : startForbids own ap' b channel ≡ true).
-    let z : Answer.Refused Refusal.BadStart ≡ Answer.Accepted = simp y at e in
-    absurd (let w : _≡_ {A = ℕ} 0 1 = cc in omega arith))
-    (λ (n : startForbids own ap' b channel ≡ false). simp n)
-    (either (startForbids own ap' b channel))
+-- an accepted start gives a fresh record, which is valid
+pub is-fresh : (s : Settings) (r : Station) → startMeans (s .own) (s .ap) (s .interval) (s .channel) ≡ accepted r → Exactly Valid r (recordAfter s [])
+unfolding startMeans recordFrom
+is-fresh s r e =
+    let p = passed _ _ _ e in
+    let same = kept (recordAfter s []) (p .1) in
+    (sym same, subst Valid same (valid-fresh (s .own) (s .ap) (s .interval) (s .channel) (p .0)))
 
 pub starts-means : (s : Settings) (r : Station) → Starts s r → Exactly Valid r (recordAfter s [])
-unfolding recordFrom
-starts-means s r (κs, a, x, e, promise, (own, ap', interval, channel, accepted, result)) =
-    let same : x ≡ started (startMeans (s .own) (s .ap) (s .interval) (s .channel)) = rw (← own, ← ap', ← interval, ← channel) (promise .0) in (
-      sym result ∙ ap (λ (y : Started). y .station) same ∙ start-accepted (s .own) (s .ap) (s .interval) (s .channel) (ap (λ (y : Started). y .answer) (sym same) ∙ accepted),
-      subst Valid result (promise .1 accepted),
-    )
+starts-means s r (κs, a, x, e, promise, (own, ap', interval, channel, accepts, result)) =
+    let same : x ≡ started (startMeans (s .own) (s .ap) (s .interval) (s .channel)) = rw (← own, ← ap', ← interval, ← channel) (promise .0) in
+    by (startMeans (s .own) (s .ap) (s .interval) (s .channel)) refl (ap (λ (y : Started). y .answer) (sym same) ∙ accepts) (sym result ∙ ap (λ (y : Started). y .station) same)
+  where
+    by : (o : Outcome Station) → startMeans (s .own) (s .ap) (s .interval) (s .channel) ≡ o → started o .answer ≡ Answer.Accepted → r ≡ started o .station → Exactly Valid r (recordAfter s [])
+    by (refused q) given says left = absurd (let z : _≡_ {A = ℕ} 0 1 = cc in omega arith)
+    by (accepted t) given says left = is-fresh s r (given ∙ ap accepted (sym left))
 
 pub takes-means : {before r : Station} {f : List ℕ} {v : Verdict} → Takes before f v r → (v ≡ takeOf before f .verdict) × (r ≡ takeOf before f .station) × Valid r
 takes-means {before} {r} {f} (κs, a, x, e, promise, (self, octets, verdict, result)) =
