@@ -24,16 +24,11 @@ use Rattle.answer.specs.Checks.{Outcome, refused, accepted, andThen, answerOf}
 use Rattle.answer.specs.Faults.{Placed, nowhere, verdictOf}
 use Rattle.answer.specs.declared.Answer.{Answer}
 use Rattle.capture_record.specs.declared.entry.Settings.{Settings}
-use Rattle.frame.proofs.Allowing.{read-allowed}
-use Rattle.frame.specs.Frames.{frameMeans}
-use Rattle.frame.specs.Laid.{frameLaid}
 use Rattle.lent.proofs.Lending.{given}
 use Rattle.lent.proofs.advance as Lent-advance
 use Rattle.lent.proofs.ask as Lent-ask
 use Rattle.octets.specs.Numbers.{Octets}
 use Rattle.octets.specs.Writing.{filled}
-use Rattle.station.proofs.Received.{valid-heard, read-means}
-use Rattle.station.proofs.StaysValid.{advanced as advances-validly}
 use Rattle.station.proofs.Station as Station-row
 use Rattle.station.proofs.asking.Permission as Permission-row
 use Rattle.station.specs.Asking.{permissionOf}
@@ -58,7 +53,7 @@ use Rattle.claims.specs.Runs.{Made, callsOf, Ran}
 use Rattle.claims.specs.StationRuns.{Said, answered, judged, asked}
 use Rattle.claims.proofs.OneOutcomeLent.{lent-advance, lent-ask}
 use Rattle.claims.proofs.RunsMeant.{madeAfter, Meant, Meets, as-meant, said-alike, Exactly, meets-exactly}
-use Rattle.claims.proofs.StationMeans.{stationMeans, recorded, is-fresh, starts-means, does-means}
+use Rattle.claims.proofs.StationMeans.{stationMeans, recorded, valid-advance, valid-take, is-fresh, starts-means, does-means}
 use Rattle.claims.proofs.StaysFit.{started-fits, advanced-fits, taken-fits}
 
 -- ---- octets that hold a station, after a call on them
@@ -73,10 +68,6 @@ laid-is-held : (os : List ℕ) (t : Station) → size ≤ length os → Valid t 
 laid-is-held os t room v f =
     laid-reads t v f (drop (length (recordOf t)) os) (omega (arith, room, length-append (recordOf t) (drop (length (recordOf t)) os), length-drop (length (recordOf t)) os))
 
-valid-advance : (r : Station) (n : ℕ) → Valid r → Valid (advanceOf r n .station)
-unfolding advanceMeans
-valid-advance r n v = advances-validly r n _ refl v .1
-
 -- octets hold this station, which fits them
 pub record Holds (os : List ℕ) (r : Station) : Type 0 where
   pub held : heldIn os ≡ accepted r
@@ -85,35 +76,29 @@ pub record Holds (os : List ℕ) (r : Station) : Type 0 where
 module _ (os : List ℕ) (r : Station) (h : Holds os r) where
   -- an advance
   after-advance : (n : ℕ) → Holds (relaid os (advanceMeans r n)) (advanceOf r n .station)
-  after-advance n = by (advanceMeans r n) refl (valid-advance r n (held-is-valid os r (h .held)))
+  after-advance n = by (advanceMeans r n) refl (valid-advance r (held-is-valid os r (h .held)) n)
     where
       by : (o : Outcome Station) → advanceMeans r n ≡ o → Valid (stepped r o .station) → Holds (relaid os o) (stepped r o .station)
       by (refused q) e v = h
       by (accepted t) e v = let f = advanced-fits r n t (h .fits) e in record { held = laid-is-held os t (held-room os r (h .held)) v f; fits = f }
 
   -- a frame of octets
-  valid-take : (f : List ℕ) → Valid (takeOf r f .station)
-  valid-take f =
-      let read = frameLaid (frameMeans (r .own) (r .ap) (r .interval) f) in
-      subst (λ (o : Placed Station). Valid (taken r o .station)) (read-means r f read refl)
-      (valid-heard r (held-is-valid os r (h .held)) read (read-allowed (r .interval) (r .own) (r .ap) f))
-
   after-take : (f : List ℕ) → Octets f → Holds (relaid os (takeMeans r f)) (takeOf r f .station)
-  after-take f octets = by (takeMeans r f) refl (valid-take f)
+  after-take f octets = by (takeMeans r f) refl (valid-take r (held-is-valid os r (h .held)) f)
     where
       by : (o : Placed Station) → takeMeans r f ≡ o → Valid (taken r o .station) → Holds (relaid os o) (taken r o .station)
       by (refused q) e v = h
       by (accepted t) e v = let g = taken-fits r f t (h .fits) octets e in record { held = laid-is-held os t (held-room os r (h .held)) v g; fits = g }
 
 -- what an advance and a frame are answered
-advance-said : (r : Station) (n : ℕ) → answerOf (advanceMeans r n) ≡ advanceOf r n .answer
+pub advance-said : (r : Station) (n : ℕ) → answerOf (advanceMeans r n) ≡ advanceOf r n .answer
 advance-said r n = by (advanceMeans r n)
   where
     by : (o : Outcome Station) → answerOf o ≡ stepped r o .answer
     by (refused q) = refl
     by (accepted t) = refl
 
-take-said : (r : Station) (f : List ℕ) → verdictOf (takeMeans r f) ≡ takeOf r f .verdict
+pub take-said : (r : Station) (f : List ℕ) → verdictOf (takeMeans r f) ≡ takeOf r f .verdict
 take-said r f = by (takeMeans r f)
   where
     by : (o : Placed Station) → verdictOf o ≡ taken r o .verdict
@@ -172,7 +157,7 @@ module _ (s : Settings) (f : SettingsFit s) where
             fits = subst Fits (new .0) g;
           }
 
-  octets-meet : Meets inOctets stationMeans Holds s (recordAfter s [])
+  pub octets-meet : Meets inOctets stationMeans Holds s (recordAfter s [])
   octets-meet = record { starts = record-starts; does = record-does }
 
   -- octets that were started with these settings hold the record that the calls since mean, which fits them, and the calls were answered as they mean
@@ -218,7 +203,7 @@ module _ {M : Type 1} (𝓤 : URA M) (H : Heap 𝓤) (A : Atoms 𝓤) (at-mem : 
   either-does r c x next v (EitherDoes.by-value y) = does-means r c x next v y
   either-does r c x next v (EitherDoes.advances-lent {n = n} y) =
       let w = lent-advances y in
-      record { answers = ap answered (w .0); leaves = w .1; valid = subst Valid (sym (w .1)) (valid-advance r n v) }
+      record { answers = ap answered (w .0); leaves = w .1; valid = subst Valid (sym (w .1)) (valid-advance r v n) }
   either-does r c x next v (EitherDoes.asks-lent y) =
       let w = lent-asks y in
       record { answers = ap (λ (p : Permission). asked (Asked.Is p)) (w .0); leaves = w .1; valid = subst Valid (sym (w .1)) v }
@@ -234,7 +219,7 @@ module _ {M : Type 1} (𝓤 : URA M) (H : Heap 𝓤) (A : Atoms 𝓤) (at-mem : 
           x .answer,
           atExit Lent-advance.ended (κ, tt) a (x .station, (tt, tt)),
           kept-where-it-follows 𝓤 H A at-mem run _
-              (via 𝓤 _ (emp∗ 𝓤 (emp 𝓤)) (mono∗ 𝓤 (factI 𝓤 _ (emp 𝓤) (refl, refl)) (factI 𝓤 (Valid (x .station)) (emp 𝓤) (valid-advance before n v)))),
+              (via 𝓤 _ (emp∗ 𝓤 (emp 𝓤)) (mono∗ 𝓤 (factI 𝓤 _ (emp 𝓤) (refl, refl)) (factI 𝓤 (Valid (x .station)) (emp 𝓤) (valid-advance before v n)))),
           refl,
           refl,
           refl,
@@ -256,7 +241,7 @@ module _ {M : Type 1} (𝓤 : URA M) (H : Heap 𝓤) (A : Atoms 𝓤) (at-mem : 
         )
 
   module _ (s : Settings) where
-    either-way-meets : Meets (eitherWay 𝓤 H A at-mem run) stationMeans (Exactly Valid) s (recordAfter s [])
+    pub either-way-meets : Meets (eitherWay 𝓤 H A at-mem run) stationMeans (Exactly Valid) s (recordAfter s [])
     either-way-meets = meets-exactly (eitherWay 𝓤 H A at-mem run) stationMeans Valid either-does s (recordAfter s []) (starts-means s)
 
     -- the record is the one that the calls mean, and the calls were answered as they mean

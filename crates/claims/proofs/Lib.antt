@@ -78,6 +78,7 @@ pub mod ReplyParts
 pub mod ReservedClear
 pub mod ReservedIgnored
 pub mod RunItems
+pub mod RunsExist
 pub mod RunsMeant
 pub mod Same
 pub mod SameBits

@@ -5,14 +5,19 @@ use Prim.Native.Nat.{ℕ}
 use native.Mathlib.Omega.{arith}
 use Rattle.answer.proofs.Judged.{passed, kept}
 use Rattle.answer.specs.Checks.{Outcome, refused, accepted}
+use Rattle.answer.specs.Faults.{Placed}
 use Rattle.answer.specs.declared.Answer.{Answer}
 use Rattle.answer.specs.declared.Verdict.{Verdict}
 use Rattle.capture_record.specs.declared.entry.Settings.{Settings}
-use Rattle.station.proofs.StaysValid.{valid-fresh}
+use Rattle.frame.proofs.Allowing.{read-allowed}
+use Rattle.frame.specs.Frames.{frameMeans}
+use Rattle.frame.specs.Laid.{frameLaid}
+use Rattle.station.proofs.Received.{valid-heard, read-means}
+use Rattle.station.proofs.StaysValid.{valid-fresh, advanced as advances-validly}
 use Rattle.station.specs.Asking.{permissionOf}
-use Rattle.station.specs.Clock.{advanceOf}
+use Rattle.station.specs.Clock.{advanceMeans, advanceOf}
 use Rattle.station.specs.Starting.{started, startMeans}
-use Rattle.station.specs.Taking.{takeOf}
+use Rattle.station.specs.Taking.{taken, takeOf}
 use Rattle.station.specs.Validity.{Valid}
 use Rattle.station.specs.declared.Station.{Station}
 use Rattle.station.specs.declared.asking.Permission.{Permission}
@@ -47,6 +52,18 @@ recorded t s [] = refl
 recorded t s (frame f ∷ h) = ap (λ (r : Station). takeOf r f .station) (recorded t s h)
 recorded t s (advance n ∷ h) = ap (λ (r : Station). advanceOf r n .station) (recorded t s h)
 recorded t s (ask n ∷ h) = recorded t s h
+
+-- an advance and a frame leave a station valid
+module _ (r : Station) (v : Valid r) where
+  pub valid-advance : (n : ℕ) → Valid (advanceOf r n .station)
+  unfolding advanceMeans
+  valid-advance n = advances-validly r n _ refl v .1
+
+  pub valid-take : (f : List ℕ) → Valid (takeOf r f .station)
+  valid-take f =
+      let read = frameLaid (frameMeans (r .own) (r .ap) (r .interval) f) in
+      subst (λ (o : Placed Station). Valid (taken r o .station)) (read-means r f read refl)
+      (valid-heard r v read (read-allowed (r .interval) (r .own) (r .ap) f))
 
 -- ---- what each promise allows
 

@@ -1,6 +1,7 @@
 -- Runs of the code (00, demand 3: "Start a station and make any calls"), of whatever is started and then called: each call is made on what the call before it left,
 -- and does what its function's own promise allows. Nothing more is known of it.
 use mathlib.Core.List.{List, [], _∷_, map}
+use mathlib.Core.Path.{_≡_}
 use Prim.Native.Nat.{ℕ}
 use borrow.Fn.Kinds.{PK, RK, Dens, resT, endedOf, Out}
 use contract.Lifetimes.{Lfts}
@@ -36,3 +37,10 @@ pub data GoesOn {ℓ} {Settings Kept Call Said : Type 0} (engine : Engine {ℓ} 
 -- the same from an accepted start on
 abbrev pub Ran {ℓ} : {Settings Kept Call Said : Type 0} → Engine {ℓ} Settings Kept Call Said → Settings → List (Made Call Said) → Kept → Type ℓ
 Ran {Kept = K} engine s ms last = (first : K) × engine .Starts s first × GoesOn engine first ms last
+
+-- these calls can be made after an accepted start: there is a run of them
+pub record CanRun {ℓ} {Settings Kept Call Said : Type 0} (engine : Engine {ℓ} Settings Kept Call Said) (s : Settings) (h : List Call) : Type ℓ where
+  pub made : List (Made Call Said)
+  pub last : Kept
+  pub ran : Ran engine s made last
+  pub its-calls : callsOf made ≡ h
