@@ -36,6 +36,7 @@ pub mod MeasurementsIgnored
 pub mod MemberDemand3
 pub mod MemberFollows
 pub mod MemberMeans
+pub mod MemberRunsExist
 pub mod Merged
 pub mod MergedLists
 pub mod MergedStations
@@ -94,6 +95,7 @@ pub mod TableAnswers
 pub mod TableDemand3
 pub mod TableMeans
 pub mod TableRows
+pub mod TableRunsExist
 pub mod TableStays
 pub mod TableWitnesses
 pub mod TakenOut

@@ -1,4 +1,4 @@
--- Each relation of runs has runs: after a start that is not forbidden any calls can be made. Assumes nothing.
+-- Each relation of runs has runs: after a start that is not forbidden any calls can be made, on a station by value, lent and on octets. Assumes nothing.
 use mathlib.Core.Bool.{Bool, false}
 use mathlib.Core.List.{List, [], _∷_}
 use mathlib.Core.Path.{_≡_, refl, sym, ap, _∙_, subst}
@@ -87,19 +87,19 @@ module _ {ℓ} {Settings Kept Call Said : Type 0} {engine : Engine {ℓ} Setting
     whatever [] = tt
     whatever (c ∷ cs) = (tt, whatever cs)
 
-    can-run-exactly : (first : Kept) → engine .Starts s first → (cs : List Call) → CanRun engine s cs
+    pub can-run-exactly : (first : Kept) → engine .Starts s first → (cs : List Call) → CanRun engine s cs
     can-run-exactly first starts cs =
         can-run meets (λ c. Unit {0})
         (λ k had (same, v) c such. (means .leaves k c, subst (λ (y : Kept). engine .Does k c (means .answers y c) (means .leaves k c)) same (does-can k v c))) first starts cs (whatever cs)
 
 -- what is lent, at some place
-abbrev lent : {X : Type 0} → X → RefT X
+abbrev pub lent : {X : Type 0} → X → RefT X
 lent x = record { ptr = (0, 0); name = 0; now = x }
 
 -- ---- document 01's station
 
 module _ (s : Settings) (may : startForbids (s .own) (s .ap) (s .interval) (s .channel) ≡ false) where
-  accepts : startMeans (s .own) (s .ap) (s .interval) (s .channel) ≡ accepted (recordAfter s [])
+  pub accepts : startMeans (s .own) (s .ap) (s .interval) (s .channel) ≡ accepted (recordAfter s [])
   unfolding startMeans checked recordFrom
   accepts = simp may
 

@@ -16,8 +16,11 @@ use Rattle.octets.specs.declared.writing.Wrote.{Wrote}
 use Rattle.reply.specs.Replies.{leftBy, Replied}
 use Rattle.station.specs.Stations.{unitLimit, clockLimit}
 use Rattle.station.specs.declared.asking.Permission.{Permission}
+use Rattle.row.specs.Rows.{isOf}
+use Rattle.table.proofs.Outcomes.{join-forbidden, join-seats, join-valid, tick-refused, tick-accepted, take-valid}
+use Rattle.table.proofs.StaysValid.{valid-left}
 use Rattle.table.specs.Replies.{tpcReplyOf, measurementReplyOf}
-use Rattle.table.specs.Tables.{withRows, heardRows, stepped, empty, started, startForbids, startMeans, joinMeans, joinOf, leaveMeans, leaveOf, tickedTable, tickMeans, tickOf, readerOf, takeMeans, taken, takeOf, askMeans, askedTold}
+use Rattle.table.specs.Tables.{withRows, heardRows, stepped, empty, started, startForbids, startMeans, joinForbids, joinMeans, joinOf, leaveMeans, leaveOf, tickedTable, tickMeans, tickOf, readerOf, takeMeans, taken, takeOf, askMeans, askedTold}
 use Rattle.table.specs.Validity.{ValidTable}
 use Rattle.table.specs.declared.Stepped.{Stepped}
 use Rattle.table.specs.declared.Table.{Table}
@@ -26,8 +29,8 @@ use Rattle.table.specs.declared.starting.Started.{Started}
 use Rattle.table.specs.declared.taking.Taken.{Taken}
 use Rattle.claims.specs.Histories.{History, tooFar, clockFrom}
 use Rattle.claims.specs.TableHistories.{advanceIn}
-use Rattle.claims.specs.TableRuns.{TableCall, join, leave, tick, take, question, tpc, measurement, TableAnswer, answered, judged, asked, replied, startedWith, TableStarts, Does}
-use Rattle.claims.proofs.RunsMeant.{Meaning, Meant, Exactly}
+use Rattle.claims.specs.TableRuns.{TableCall, join, leave, tick, take, question, tpc, measurement, TableAnswer, answered, judged, asked, replied, startedWith, TableStarts, Does, table}
+use Rattle.claims.proofs.RunsMeant.{Meaning, Meant, Exactly, Meets, meets-exactly}
 use Rattle.claims.proofs.Same.{answer, answer-told}
 
 pub answered-once : {x y : Answer} → answered x ≡ answered y → x ≡ y
@@ -176,6 +179,42 @@ clock-after t (question own n) u h e = e
 clock-after t (tpc f report buffer) u h e = e
 clock-after t (measurement f index readings buffer) u h e = e
 
+-- ---- a call leaves a table valid
+
+module _ (t : Table) (v : ValidTable t) where
+  joined-valid : (own : List ℕ) (channel : ℕ) → ValidTable (joinOf t own channel .table)
+  joined-valid own channel = by (joinForbids own channel) refl
+    where
+      by : (bad : Bool) → joinForbids own channel ≡ bad → ValidTable (joinOf t own channel .table)
+      by true e = subst (λ (x : Stepped). ValidTable (x .table)) (join-forbidden t v own channel e) v
+      by false e = subst (λ (x : Stepped). ValidTable (x .table)) (join-seats t v own channel e) (join-valid t v own channel e)
+
+  ticked-valid : (n : ℕ) → ValidTable (tickOf t n .table)
+  ticked-valid n = by (far t n) refl
+    where
+      by : (b : Bool) → far t n ≡ b → ValidTable (tickOf t n .table)
+      by true e = let w = tick-refused t v n e in subst (λ (x : Stepped). ValidTable (x .table)) (w .0) (w .1)
+      by false e = let w = tick-accepted t v n e _ refl in subst (λ (x : Stepped). ValidTable (x .table)) (w .0) (w .1)
+
+  taken-valid : (f : List ℕ) → ValidTable (takeOf t f .table)
+  unfolding takeMeans
+  taken-valid f = by (frameMeans (readerOf t f) (t .ap) (t .interval) f) refl
+    where
+      by : (o : Placed Sent) → frameMeans (readerOf t f) (t .ap) (t .interval) f ≡ o
+          → ValidTable (taken t (andThen o (λ x. accepted (withRows t (heardRows f x (t .rows))))) .table)
+      by (refused r) e = v
+      by (accepted x) e = take-valid t v f x e
+
+  pub valid-after : (c : TableCall) → ValidTable (tableAfter t c)
+  unfolding leaveMeans
+  valid-after (join own channel) = joined-valid own channel
+  valid-after (leave own) = through-checks ValidTable t _ v (valid-left t v (isOf own)) _
+  valid-after (tick n) = ticked-valid n
+  valid-after (take f) = taken-valid f
+  valid-after (question own n) = v
+  valid-after (tpc f report buffer) = v
+  valid-after (measurement f index readings buffer) = v
+
 -- ---- a refused call changes nothing, in the whole table
 
 abbrev pub Refuses : TableAnswer → Type 0
@@ -226,3 +265,6 @@ starts-empty ap' b t (κs, a, x, e, promise, (address, interval, told, result)) 
       sym result ∙ ap (λ (y : Started). y .table) same ∙ start-gives ap' b (ap (λ (y : Started). y .answer) (sym same) ∙ told),
       subst ValidTable result (promise .1 told),
     )
+
+pub table-meets : (ap' : List ℕ) (b : ℕ) → Meets table tableMeans (Exactly ValidTable) (startedWith ap' b) (empty ap' b)
+table-meets ap' b = meets-exactly table tableMeans ValidTable does-means (startedWith ap' b) (empty ap' b) (starts-empty ap' b)
