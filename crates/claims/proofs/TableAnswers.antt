@@ -27,15 +27,14 @@ use Rattle.reply.specs.Replies.{owedTo, tpcAnswerTo, measurementAnswerTo, tpcRe
 use Rattle.station.specs.Stations.{fresh}
 use Rattle.station.specs.Starting.{startForbids as stationForbids, startMeans as stationStarts}
 use Rattle.table.proofs.Readers.{reader-joined, reader-else, read-alike}
-use Rattle.table.proofs.Table.start as Start
 use Rattle.table.specs.Tables.{withRows, isJoined, stepped, empty, started, startForbids, startMeans, tickedTable, tickMeans, heardRows, readerOf, takeMeans, taken}
 use Rattle.table.specs.Validity.{ValidTable}
 use Rattle.table.specs.declared.Table.{Table}
 use Rattle.table.specs.declared.starting.Started.{Started}
 use Rattle.claims.specs.Histories.{tooFar}
 use Rattle.claims.specs.Joinings.{joinedIn, tickAnswer, OnlyJoined}
-use Rattle.claims.specs.Runs.{Called, Ran}
-use Rattle.claims.specs.TableRuns.{tick, take, tpc, measurement, TableAnswer, answered, judged, replied, TableMade, startedWith, Does, table}
+use Rattle.claims.specs.Runs.{Ran}
+use Rattle.claims.specs.TableRuns.{tick, take, tpc, measurement, TableAnswer, answered, judged, replied, TableMade, startedWith, TableStartGives, Does, table}
 use Rattle.claims.proofs.Same.{answer}
 use Rattle.claims.proofs.TableMeans.{repliedWith, does-means}
 use Rattle.claims.proofs.TableStays.{reaches}
@@ -47,10 +46,10 @@ same-start : (own ap' : List ℕ) (b channel : ℕ) → bit 0 (octet 0 own) ≡ 
 same-start own ap' b channel single known =
     ap₂ (λ (x y : Bool). eqb b 0 || (x || (y || bit 0 (octet 0 ap')))) (sym (le-ltb highest channel known)) (sym single)
 
-pub start-exactly : (ap' own : List ℕ) (b channel : ℕ) (r : Answer) → bit 0 (octet 0 own) ≡ false → channel ≤ highest
-    → Called 0 Start.Kinds.ps Start.Kinds.r Start.Reads.Post (λ κs a x e. (a .0 ≡ ap') × (a .1 .0 ≡ b) × (x .answer ≡ r)) → r ≡ answerOf (stationStarts own ap' b channel)
+pub start-exactly : (ap' own : List ℕ) (b channel : ℕ) (r : Answer) (t : Table) → bit 0 (octet 0 own) ≡ false → channel ≤ highest
+    → TableStartGives (startedWith ap' b) r t → r ≡ answerOf (stationStarts own ap' b channel)
 unfolding startMeans stationStarts checked
-start-exactly ap' own b channel r single known (κs, a, x, e, promise, (address, interval, told)) =
+start-exactly ap' own b channel r t single known (κs, a, x, e, promise, (address, interval, told, result)) =
     let mine : x ≡ started (startMeans ap' b) = rw (← address, ← interval) (promise .0) in
     sym told ∙ ap (λ (y : Started). y .answer) mine ∙ by (startForbids ap' b)
     ∙ ap (λ (bad : Bool). answerOf {A = Unit {0}} (pick bad (refused Refusal.BadStart) (accepted tt))) (same-start own ap' b channel single known) ∙ by-station (stationForbids own ap' b channel)

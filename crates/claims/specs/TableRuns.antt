@@ -50,10 +50,14 @@ pub record TableSettings : Type 0 where
 abbrev pub startedWith : List ℕ → ℕ → TableSettings
 startedWith ap b = record { ap = ap; interval = b }
 
--- `Table::start` was called, accepted its settings and gave this table
+-- `Table::start` was called with the settings, answered this and gave this table
+abbrev pub TableStartGives : TableSettings → Answer → Table → Type 0
+TableStartGives s v t =
+    Called 0 Start.Kinds.ps Start.Kinds.r Start.Reads.Post (λ κs a x e. (a .0 ≡ s .ap) × (a .1 .0 ≡ s .interval) × (x .answer ≡ v) × (x .table ≡ t))
+
+-- it accepted them
 abbrev pub TableStarts : TableSettings → Table → Type 0
-TableStarts s t =
-    Called 0 Start.Kinds.ps Start.Kinds.r Start.Reads.Post (λ κs a x e. (a .0 ≡ s .ap) × (a .1 .0 ≡ s .interval) × (x .answer ≡ Answer.Accepted) × (x .table ≡ t))
+TableStarts s t = TableStartGives s Answer.Accepted t
 
 -- the function of the call was called on a table, answered this and left that table
 abbrev pub Does : Table → TableCall → TableAnswer → Table → Type 0
