@@ -20,7 +20,6 @@ use Rattle.answer.specs.Checks.{Outcome, refused, accepted, pick, checked, andT
 use Rattle.answer.specs.Faults.{nowhere, verdictOf}
 use Rattle.answer.specs.declared.Refusal.{Refusal}
 use Rattle.capture_record.specs.declared.entry.Settings.{Settings}
-use Rattle.octets.specs.Numbers.{Octets}
 use Rattle.station.proofs.Station.advance as Advance
 use Rattle.station.proofs.Station.ask as Ask
 use Rattle.station.proofs.Station.start as Start
@@ -38,20 +37,16 @@ use Rattle.station_record.proofs.take as Record-take
 use Rattle.station_record.specs.Calls.{relaid, startedIn, takenIn, advancedIn}
 use Rattle.station_record.specs.Records.{size}
 use Rattle.station_record.specs.declared.Asked.{Asked}
-use Rattle.claims.specs.EitherWays.{EitherDoes, eitherWay, SettingsFit, RecordStarts, RecordDoes, inOctets}
+use Rattle.claims.specs.EitherWays.{EitherDoes, eitherWay, SettingsFit, RecordStarts, OctetsIn, RecordDoes, inOctets}
 use Rattle.claims.specs.Histories.{Call, frame, advance, ask, History}
 use Rattle.claims.specs.Records.{recordFrom, recordAfter}
-use Rattle.claims.specs.Runs.{Engine, callsOf, GoesOn, no-calls, called, CanRun}
+use Rattle.claims.specs.Runs.{Engine, callsOf, GoesOn, no-calls, called, Each, CanRun}
 use Rattle.claims.specs.StationRuns.{Starts, Takes, Advances, Asks, StationDoes, station}
 use Rattle.claims.proofs.EitherWaysMeet.{Holds, advance-said, take-said, lent-advance-can, lent-ask-can, octets-meet, either-way-meets}
 use Rattle.claims.proofs.RunsMeant.{Meaning, keptAfter, madeOf, madeAfter, Meets, Exactly}
 use Rattle.claims.proofs.StationMeans.{stationMeans, valid-advance, valid-take, is-fresh, station-meets}
 
 -- ---- any engine
-
-unfoldable pub Each : {A : Type 0} → (A → Type 0) → List A → Type 0
-Each P [] = Unit {0}
-Each P (a ∷ as') = P a × Each P as'
 
 -- where it can do what a call means, any such calls can be made
 module _ {ℓ} {Settings Kept Had Call Said : Type 0} {engine : Engine {ℓ} Settings Kept Call Said} {means : Meaning Had Call Said} {StandsFor : Kept → Had → Type 0}
@@ -158,11 +153,6 @@ module _ {M : Type 1} (𝓤 : URA M) (H : Heap 𝓤) (A : Atoms 𝓤) (at-mem : 
 
 -- ---- on octets, with room for a record; each frame is octets
 
-abbrev pub OctetsIn : Call → Type 0
-OctetsIn (frame f) = Octets f
-OctetsIn (advance n) = Unit {0}
-OctetsIn (ask n) = Unit {0}
-
 record-can : (os : List ℕ) (r : Station) → Holds os r → (c : Call) → OctetsIn c → (next : List ℕ) × RecordDoes os c (stationMeans .answers r c) next
 record-can os r h (frame f) octets =
     let next = relaid os (takenIn f os) in (
@@ -221,5 +211,5 @@ module _ (s : Settings) (may : startForbids (s .own) (s .ap) (s .interval) (s .c
     (refl, refl, refl, refl, ap answerOf lays, refl),
   )
 
-  pub octets-run : SettingsFit s → (h : History) → Each OctetsIn h → CanRun inOctets s h
-  octets-run f h all = can-run (octets-meet s f) OctetsIn record-can (relaid entry laid) record-starts-can h all
+  pub octets-runs : SettingsFit s → (h : History) → Each OctetsIn h → CanRun inOctets s h
+  octets-runs f h all = can-run (octets-meet s f) OctetsIn record-can (relaid entry laid) record-starts-can h all

@@ -90,6 +90,12 @@ RecordAdvances before n v os =
 abbrev pub RecordAsks : List ℕ → ℕ → Asked → Type 0
 RecordAsks os n v = Called 1 Record-ask.Kinds.ps Record-ask.Kinds.r Record-ask.Reads.Post (λ κs a x e. (now (a .0) ≡ os) × (a .1 .0 ≡ n) × (x ≡ v))
 
+-- a frame is octets
+abbrev pub OctetsIn : Call → Type 0
+OctetsIn (frame f) = Octets f
+OctetsIn (advance n) = Unit {0}
+OctetsIn (ask n) = Unit {0}
+
 -- the function of each call; a frame is octets, and a question leaves the octets as they are
 pub data RecordDoes : List ℕ → Call → Said → List ℕ → Type 0 where
   takes : {before os f : List ℕ} {v : Verdict} → Octets f → RecordTakes before f v os → RecordDoes before (frame f) (judged v) os

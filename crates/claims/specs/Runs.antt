@@ -38,6 +38,11 @@ pub data GoesOn {ℓ} {Settings Kept Call Said : Type 0} (engine : Engine {ℓ} 
 abbrev pub Ran {ℓ} : {Settings Kept Call Said : Type 0} → Engine {ℓ} Settings Kept Call Said → Settings → List (Made Call Said) → Kept → Type ℓ
 Ran {Kept = K} engine s ms last = (first : K) × engine .Starts s first × GoesOn engine first ms last
 
+-- each of the calls is such
+unfoldable pub Each : {Call : Type 0} → (Call → Type 0) → List Call → Type 0
+Each Such [] = Unit {0}
+Each Such (c ∷ h) = Such c × Each Such h
+
 -- these calls can be made after an accepted start: there is a run of them
 pub record CanRun {ℓ} {Settings Kept Call Said : Type 0} (engine : Engine {ℓ} Settings Kept Call Said) (s : Settings) (h : List Call) : Type ℓ where
   pub made : List (Made Call Said)
