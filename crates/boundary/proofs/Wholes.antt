@@ -10,20 +10,16 @@ use Rattle.octets.specs.Writing.{left, Written}
 use Rattle.octets.specs.declared.writing.Wrote.{Wrote}
 use Rattle.octets.proofs.Overwriting.{written-as}
 use Rattle.octets.proofs.Storing.{left-not, short-written, parts-written}
-use Rattle.pen.specs.Lines.{closingOf}
-use Rattle.capture.specs.Lists.{fileTold, listOf}
+use Rattle.capture.specs.Lists.{closingFor, fileTold, listOf}
 use Rattle.capture.specs.declared.lister.Lister.{Lister}
 
--- what the lines and the closing line are
+-- the lines before the closing line
 abbrev linesIn : List ℕ → List ℕ
 linesIn file = fileTold file .text
 
-abbrev closingIn : Lister → List ℕ
-closingIn l = closingOf (l .blocks) (l .damaged)
-
-pub list-length : (file : List ℕ) → length (listOf file) ≡ length (linesIn file) + length (closingIn (fileTold file .lister))
+pub list-length : (file : List ℕ) → length (listOf file) ≡ length (linesIn file) + length (closingFor (fileTold file .lister))
 unfolding listOf
-list-length file = length-append (linesIn file) (closingIn (fileTold file .lister))
+list-length file = length-append (linesIn file) (closingFor (fileTold file .lister))
 
 module _ (file out passed : List ℕ) (first : passed ≡ left false (linesIn file) 0 out) where
   -- the first pass stores nothing
@@ -35,10 +31,10 @@ module _ (file out passed : List ℕ) (first : passed ≡ left false (linesIn fi
   too-short h = subst (Written true (listOf file) 0 out (Wrote.Refused Refusal.BufferShort)) (sym same-out) (short-written (listOf file) 0 out (omega (arith, h)))
 
   -- the second pass stores the lines, and the closing line is put after them
-  module _ (lines exit : List ℕ) (l : Lister) (count n : ℕ) (second : lines ≡ left true (linesIn file) 0 passed) (last : exit ≡ left true (closingIn l) count lines) where
-    pub whole : l ≡ fileTold file .lister → count ≡ length (linesIn file) → n ≡ count + length (closingIn l) → n ≤ length out → Written true (listOf file) 0 out (Wrote.Length n) exit
+  module _ (lines exit : List ℕ) (l : Lister) (count n : ℕ) (second : lines ≡ left true (linesIn file) 0 passed) (last : exit ≡ left true (closingFor l) count lines) where
+    pub whole : l ≡ fileTold file .lister → count ≡ length (linesIn file) → n ≡ count + length (closingFor l) → n ≤ length out → Written true (listOf file) 0 out (Wrote.Length n) exit
     unfolding listOf
     whole same many total fits =
         subst (λ (k : ℕ). Written true (listOf file) 0 out (Wrote.Length k) exit) (sym total)
-        (written-as refl (ap (λ (x : Lister). linesIn file ++ closingIn x) same)
-        (parts-written (linesIn file) (closingIn l) out count many (omega (arith, total, fits)) lines exit (second ∙ ap (left true (linesIn file) 0) same-out) last))
+        (written-as refl (ap (λ (x : Lister). linesIn file ++ closingFor x) same)
+        (parts-written (linesIn file) (closingFor l) out count many (omega (arith, total, fits)) lines exit (second ∙ ap (left true (linesIn file) 0) same-out) last))

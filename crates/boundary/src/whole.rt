@@ -103,7 +103,7 @@ pub fn list(file: &[u8], out: &mut [u8]) -> Wrote
         return Wrote::Refused(Refusal::BufferShort);
     }
     let lister = lines.lister;
-    let closing = pen::closing(lister.blocks, lister.damaged);
+    let closing = lister.closing();
     let bytes = closing.bytes;
     let last = closing.count;
     let count = lines.count;

@@ -130,8 +130,11 @@ blocksTold [] l = nothing l
 blocksTold (b ∷ bs) l = before (blockTold b l .text) (blocksTold bs (blockTold b l .lister))
 
 -- "The last line is blocks, how many in all, damaged, how many were."
+abbrev pub closingFor : Lister → List ℕ
+closingFor l = closingOf (l .blocks) (l .damaged)
+
 abbrev pub closed : Told → List ℕ
-closed t = t .text ++ closingOf (t .lister .blocks) (t .lister .damaged)
+closed t = t .text ++ closingFor (t .lister)
 
 abbrev pub fileTold : List ℕ → Told
 fileTold file = blocksTold (blocksIn file) fresh

@@ -1,6 +1,8 @@
 // What the lister keeps from block to block.
 ghost use mathlib.Core.Path.{_≡_};
+ghost use Rattle.pen.specs.Rooms.{fronted};
 ghost use Rattle.capture.specs.Listers.{fresh, without, following, Fits};
+ghost use Rattle.capture.specs.Lists.{closingFor};
 use pen::Text;
 use station::Station;
 
@@ -36,6 +38,13 @@ impl Lister {
             active: false,
             station: Station::nobody(),
         }
+    }
+
+    // The closing line of the list.
+    pub fn closing(self) -> Text
+        ensures { λ r. ⌜ r ≡ fronted (closingFor self) ⌝ }
+    {
+        pen::closing(self.blocks, self.damaged)
     }
 }
 

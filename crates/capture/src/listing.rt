@@ -156,7 +156,7 @@ pub fn put_blocks(lister: Lister, blocks: &[u8], out: &mut [u8]) -> Put
                     parts.apart = next;
                     match verdict {
                         Verdict::Accepted => {
-                            pen = pen::put_heard(pen, &mut digits, out);
+                            pen = pen::put_accepted(pen, &mut digits, Word::Frame, out);
                         }
                         Verdict::Refused(_) => {
                             let number = verdict.number();

@@ -11,6 +11,7 @@ ghost use Rattle.capture.specs.Listers.{lineLimit};
 use capture_record::Entry;
 use capture_record::Found;
 use pen::Pen;
+use pen::Word;
 use pending::Pending;
 use station::Advanced;
 
@@ -111,12 +112,12 @@ pub fn run(
                 return Ran { at, clock, pen };
             }
             Plain::Goes { clock: later, end } => {
-                pen = pen::put_advanced(pen, digits, out);
+                pen = pen::put_accepted(pen, digits, Word::Advance, out);
                 clock = later;
                 at = end;
             }
             Plain::Granted { end } => {
-                pen = pen::put_granted(pen, digits, out);
+                pen = pen::put_accepted(pen, digits, Word::Ask, out);
                 at = end;
             }
         }

@@ -8,10 +8,9 @@ use Rattle.capture.proofs.FedBlocks.{told-after}
 use Rattle.capture.proofs.Fitting.{has-lines, fed-is}
 use Rattle.octets.proofs.Storing.{filled-front}
 use Rattle.capture.specs.Listers.{fresh}
-use Rattle.capture.specs.Lists.{Told, before, blocksAfter, blocksIn, blocksTold, listOf}
+use Rattle.capture.specs.Lists.{Told, before, blocksAfter, blocksIn, blocksTold, closingFor, listOf}
 use Rattle.capture.specs.declared.lister.Lister.{Lister}
 use Rattle.pen.proofs.InRoom.{in-front}
-use Rattle.pen.specs.Lines.{closingOf}
 use Rattle.claims.specs.FedFiles.{Begins, Feeds, FedAll, CutAtBlocks, joined, Closes}
 
 -- ---- a piece
@@ -52,14 +51,13 @@ all-told (p ∷ q ∷ ps) c l text last (next, first, rest, fed, others, whole) 
       v .1 ∙ ap (λ (t : Told). t .lister) after ∙ sym (ap (λ (t : Told). t .lister) same),
     )
 
-closes-told : (l : Lister) (text : List ℕ) → Closes l text → text ≡ closingOf (l .blocks) (l .damaged)
-closes-told l text (κs, a, x, e, post, blocks, damaged, whole) =
-    sym whole ∙ in-front x (closingOf (a .0) (a .1 .0)) post ∙ ap₂ closingOf blocks damaged
+closes-told : (l : Lister) (text : List ℕ) → Closes l text → text ≡ closingFor l
+closes-told l text (κs, a, x, e, post, same-lister, whole) = sym whole ∙ in-front x (closingFor (a .0)) post ∙ ap closingFor same-lister
 
--- a file that is fed in pieces, each but the last cut at the end of a block, and closed with the lister's counts, gives its list
+-- a file that is fed in pieces, each but the last cut at the end of a block, and closed by the lister, gives its list
 pub fed-file : (pieces : List (List ℕ)) → CutAtBlocks pieces → (lines closing : List ℕ) (first last : Lister) → Begins first → FedAll pieces first lines last → Closes last closing
     → lines ++ closing ≡ listOf (joined pieces)
 unfolding listOf
 fed-file pieces cut lines closing first last (κs, a, e, post) fed closes =
     let w = all-told pieces cut fresh lines last (subst (λ (l : Lister). FedAll pieces l lines last) (post .0) fed) in
-    ap₂ _++_ (w .0) (closes-told last closing closes ∙ ap (λ (l : Lister). closingOf (l .blocks) (l .damaged)) (w .1))
+    ap₂ _++_ (w .0) (closes-told last closing closes ∙ ap closingFor (w .1))

@@ -13,7 +13,7 @@ use Rattle.block.specs.Blocks.{usedLength, isDamaged, usedPart, blockMeans}
 use Rattle.block.specs.declared.Block.{Block}
 use Rattle.pen.specs.Lines.{closingOf}
 use Rattle.capture.specs.Listers.{fresh, withLines, without, following, oneBlockMore}
-use Rattle.capture.specs.Lists.{Told, responseNumber, responseOffset, refusal, answerLine, line, before, started, stepped, noStation, badRecord, noted, isMalformed, recorded, judged, blockTold, blocksIn, blocksTold, listOf}
+use Rattle.capture.specs.Lists.{Told, responseNumber, responseOffset, refusal, answerLine, line, before, started, stepped, noStation, badRecord, noted, isMalformed, recorded, judged, blockTold, blocksIn, blocksTold, closingFor, closed, listOf}
 use Rattle.capture.specs.declared.lister.Lister.{Lister}
 use Rattle.capture.specs.declared.response.Response.{Response}
 use Rattle.pen.specs.declared.words.Word.{Word}
@@ -373,11 +373,8 @@ module _ (block block' : List ℕ) (later : List (List ℕ)) (sound : isDamaged 
             (merged-after (λ n. blockTold e (withLines l n)) (blocksTold (es ++ (block ∷ later))) (blocksTold (es ++ (block' ∷ later))) s _ (w .lists went));
       }
 
-abbrev closedBy : Told → List ℕ
-closedBy t = t .text ++ closingOf (t .lister .blocks) (t .lister .damaged)
-
 -- the closing line is that of the first file's blocks
-closing-is : (file : List ℕ) (base : Lister) (said : List Said) → blocksTold (blocksIn file) fresh ≡ toldFrom base said 0 → closingOf (base .blocks) (base .damaged) ≡ closingLine file
+closing-is : (file : List ℕ) (base : Lister) (said : List Said) → blocksTold (blocksIn file) fresh ≡ toldFrom base said 0 → closingFor base ≡ closingLine file
 closing-is file base said e =
     let w = blocks-counted (blocksIn file) fresh in
     ap₂ closingOf
@@ -398,8 +395,8 @@ lists-merge file file' m allowed =
       lines-before = z .lines-before;
       lines-after = z .lines-after;
       placed = z .placed;
-      first-list = ap closedBy whole ∙ ap (λ (os : List ℕ). numberedFrom 0 (z .lines-before ++ (wentOn ∷ wentOn ∷ z .lines-after)) ++ os) closing;
+      first-list = ap closed whole ∙ ap (λ (os : List ℕ). numberedFrom 0 (z .lines-before ++ (wentOn ∷ wentOn ∷ z .lines-after)) ++ os) closing;
       second-list =
-          ap (λ (bs : List (List ℕ)). closedBy (blocksTold bs fresh)) (m .is-second) ∙ ap closedBy (z .together 0)
+          ap (λ (bs : List (List ℕ)). closed (blocksTold bs fresh)) (m .is-second) ∙ ap closed (z .together 0)
           ∙ ap (λ (os : List ℕ). numberedFrom 0 (z .lines-before ++ (wentOn ∷ z .lines-after)) ++ os) closing;
     }

@@ -9,6 +9,7 @@ use Rattle.block.proofs.count_in as Block-count-in
 use Rattle.block.proofs.end_after as End-after
 use Rattle.block.proofs.judge as Judge
 use Rattle.pen.proofs.closing as Closing
+use Rattle.capture.proofs.lister.Lister.closing as Lister-closing
 use Rattle.capture.proofs.lister.Lister.feed as Feed-block
 use Rattle.capture.proofs.lister.Lister.feed_all as Feed-all
 use Rattle.capture.proofs.lister.Lister.fresh as Fresh
@@ -44,6 +45,9 @@ lister-feed κs a e f x y p q = (once (p .0 .answers) (q .0 .answers), once (p .
 
 pub lister-feed-all : OneOutcome 2 Feed-all.Kinds.ps Feed-all.Kinds.r Feed-all.Reads.Post (λ κs e. now (e .1 .1 .0))
 lister-feed-all κs a e f x y p q = (once (p .0 .answers) (q .0 .answers), once (p .0 .leaves) (q .0 .leaves))
+
+pub lister-closing : OneResult 0 Lister-closing.Kinds.ps Lister-closing.Kinds.r Lister-closing.Reads.Post
+lister-closing κs a e f x y p q = once p q
 
 pub block-count-in : OneResult 0 Block-count-in.Kinds.ps Block-count-in.Kinds.r Block-count-in.Reads.Post
 block-count-in κs a e f x y p q = once p q

@@ -10,9 +10,7 @@ use denote.Triple.Clauses.{AtExit}
 use Rattle.answer.specs.Outcomes.{OneOutcome}
 use Rattle.pen.proofs.InNumeral.{placed-digits}
 use Rattle.pen.proofs.begin as Begin
-use Rattle.pen.proofs.put_advanced as Put-advanced
-use Rattle.pen.proofs.put_granted as Put-granted
-use Rattle.pen.proofs.put_heard as Put-heard
+use Rattle.pen.proofs.put_accepted as Put-accepted
 use Rattle.pen.proofs.put_told as Put-told
 use Rattle.pen.specs.Numerals.{Spells}
 use Rattle.pen.specs.Penning.{Penned}
@@ -48,14 +46,8 @@ module _ (n : ℕ) (ps : List (PK n)) (r : RK n) (Promise : Out n ps r) where
       (κs : Lfts n) (a : Dens κs ps) (e f : AtExit (endedOf n ps r) κs) (x y : resT r κs .Denot)
       → Promise κs a x e → Promise κs a y f → ((x ≡ y) × (second κs e ≡ second κs f)) × (first κs e ≡ first κs f)
 
-pub pen-put-advanced : OneInBoth 2 Put-advanced.Kinds.ps Put-advanced.Kinds.r Put-advanced.Reads.Post (λ κs e. now (e .1 .0)) (λ κs e. now (e .1 .1 .0))
-pen-put-advanced κs a e f x y p q = (penned-once (p .0) (q .0), once (p .1) (q .1))
-
-pub pen-put-granted : OneInBoth 2 Put-granted.Kinds.ps Put-granted.Kinds.r Put-granted.Reads.Post (λ κs e. now (e .1 .0)) (λ κs e. now (e .1 .1 .0))
-pen-put-granted κs a e f x y p q = (penned-once (p .0) (q .0), once (p .1) (q .1))
-
-pub pen-put-heard : OneInBoth 2 Put-heard.Kinds.ps Put-heard.Kinds.r Put-heard.Reads.Post (λ κs e. now (e .1 .0)) (λ κs e. now (e .1 .1 .0))
-pen-put-heard κs a e f x y p q = (penned-once (p .0) (q .0), once (p .1) (q .1))
+pub pen-put-accepted : OneInBoth 2 Put-accepted.Kinds.ps Put-accepted.Kinds.r Put-accepted.Reads.Post (λ κs e. now (e .1 .0)) (λ κs e. now (e .1 .1 .1 .0))
+pen-put-accepted κs a e f x y p q = (penned-once (p .0) (q .0), once (p .1) (q .1))
 
 pub pen-put-told : OneInBoth 2 Put-told.Kinds.ps Put-told.Kinds.r Put-told.Reads.Post (λ κs e. now (e .1 .0)) (λ κs e. now (e .1 .1 .1 .1 .1 .0))
 pen-put-told κs a e f x y p q = (penned-once (p .0) (q .0), once (p .1) (q .1))

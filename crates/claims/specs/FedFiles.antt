@@ -9,10 +9,10 @@ use denote.Ref.{now}
 use denote.Triple.Clauses.{AtExit}
 use lib.ListN.{length, take}
 use Rattle.block.specs.Blocks.{blockSize}
+use Rattle.capture.proofs.lister.Lister.closing as Closing
 use Rattle.capture.proofs.lister.Lister.feed_all as Feed-all
 use Rattle.capture.proofs.lister.Lister.fresh as Fresh
 use Rattle.capture.specs.declared.lister.Lister.{Lister}
-use Rattle.pen.proofs.closing as Closing
 use Rattle.octets.specs.declared.writing.Wrote.{Wrote}
 
 -- `Lister::fresh` was called, and gave this lister
@@ -51,7 +51,7 @@ unfoldable pub joined : List (List ℕ) → List ℕ
 joined [] = []
 joined (p ∷ ps) = p ++ joined ps
 
--- `capture::closing` was called with the lister's counts, and these are its octets
+-- `Lister::closing` was called on the lister, and these are its octets
 abbrev pub Closes : Lister → List ℕ → Type 0
 Closes l text =
     (κs : Lfts 0)
@@ -59,6 +59,5 @@ Closes l text =
     × (x : resT Closing.Kinds.r κs .Denot)
     × (e : AtExit (endedOf 0 Closing.Kinds.ps Closing.Kinds.r) κs)
     × Closing.Reads.Post κs a x e
-    × (a .0 ≡ l .blocks)
-    × (a .1 .0 ≡ l .damaged)
+    × (a .0 ≡ l)
     × (take (x .count) (x .bytes) ≡ text)

@@ -3,14 +3,11 @@ ghost use mathlib.Core.Bool.{true};
 ghost use mathlib.Core.Path.{_≡_};
 ghost use lib.ListN.{length};
 ghost use Rattle.capture.specs.Listers.{Fits};
-ghost use Rattle.pen.specs.Lines.{closingOf};
-ghost use Rattle.pen.specs.Rooms.{fronted};
 ghost use Rattle.list.specs.Program.{ClosedAs, PieceListed};
 ghost use Rattle.list.specs.CodeTerms.Writing.{CountWithin, WroteAs, going};
 use capture::Lister;
 use libc::STDOUT_FILENO;
 use octets::Wrote;
-use pen::Text;
 
 // How the listing stands, or ended.
 pub enum Fate {
@@ -68,15 +65,8 @@ pub fn list_blocks(lister: Lister, piece: &[u8], out: &mut [u8], said: Fate) -> 
     Progress { lister: next, fate }
 }
 
-// The closing line of a listing.
-fn closing(lister: Lister) -> Text
-    ensures { λ r. ⌜ r ≡ fronted (closingOf (lister .blocks) (lister .damaged)) ⌝ }
-{
-    pen::closing(lister.blocks, lister.damaged)
-}
-
 fn write_closing(lister: Lister) -> bool {
-    let text = closing(lister);
+    let text = lister.closing();
     let bytes = text.bytes;
     let count = text.count;
     io::write_all(STDOUT_FILENO, &bytes[..count])

@@ -1,21 +1,37 @@
--- A text stands whole in front of its room. Assumes nothing.
+-- A text, and the letters of a word, stand whole in front of their room. Assumes nothing.
 use mathlib.Core.List.{List, _++_}
 use mathlib.Core.Path.{_≡_, sym, ap, ap₂, _∙_}
 use Prim.Native.Nat.{ℕ, _+_, _-_, _≤_}
 use native.Mathlib.Omega.{arith}
 use lib.ListN.{length, take, drop, replicate, length-append, length-replicate, replicate-append-replicate}
 use lib.Seq.{take-append-seam, drop-at}
+use Rattle.pen.specs.CodeTerms.Letters.{lettered}
 use Rattle.pen.specs.CodeTerms.Putting.{OctetsPut}
-use Rattle.pen.specs.Rooms.{lineRoom, fronted}
+use Rattle.pen.specs.Rooms.{lineRoom, mostLetters, roomy, fronted}
 use Rattle.pen.specs.declared.last_line.Text.{Text}
+use Rattle.pen.specs.declared.words.Letters.{Letters}
+
+module _ (room : ℕ) (os : List ℕ) where
+  front : take (length os) (roomy room os) ≡ os
+  front = take-append-seam os (replicate (room - length os) 0)
+
+  within : length os ≤ length (roomy room os)
+  within = omega (arith, length-append os (replicate (room - length os) 0))
 
 -- the octets of a text are the first ones
 pub in-front : (t : Text) (os : List ℕ) → t ≡ fronted os → take (t .count) (t .bytes) ≡ os
-in-front t os e = ap (λ (x : Text). take (x .count) (x .bytes)) e ∙ take-append-seam os (replicate (lineRoom - length os) 0)
+in-front t os e = ap (λ (x : Text). take (x .count) (x .bytes)) e ∙ front lineRoom os
 
 -- which lie in its room
 pub count-within : (t : Text) (os : List ℕ) → t ≡ fronted os → t .count ≤ length (t .bytes)
-count-within t os e = omega (arith, ap (λ (x : Text). x .count) e, ap (λ (x : Text). length (x .bytes)) e, length-append os (replicate (lineRoom - length os) 0))
+count-within t os e = omega (arith, ap (λ (x : Text). x .count) e, ap (λ (x : Text). length (x .bytes)) e, within lineRoom os)
+
+-- and so do the letters of a word
+pub letters-front : (x : Letters) (os : List ℕ) → x ≡ lettered os → take (x .count) (x .octets) ≡ os
+letters-front x os e = ap (λ (x : Letters). take (x .count) (x .octets)) e ∙ front mostLetters os
+
+pub letters-within : (x : Letters) (os : List ℕ) → x ≡ lettered os → x .count ≤ length (x .octets)
+letters-within x os e = omega (arith, ap (λ (x : Letters). x .count) e, ap (λ (x : Letters). length (x .octets)) e, within mostLetters os)
 
 -- ---- octets that are put in front of an empty room
 

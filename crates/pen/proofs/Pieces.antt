@@ -1,4 +1,4 @@
--- Octets that are copied in whole pieces: one piece, the next, and the digits of a number so. Assumes nothing.
+-- Octets of which the first are copied in a whole piece: the piece, what follows it, and the digits of a number so. Assumes nothing.
 use mathlib.Core.List.{List, [], _++_, append-nil}
 use mathlib.Core.Path.{_≡_, sym, ap, ap₂, _∙_}
 use Prim.Native.Nat.{ℕ, suc, _+_, _-_, _<_, _≤_}
@@ -43,27 +43,27 @@ module _ (s out : List ℕ) (from at : ℕ) (there : from + piece ≤ length s) 
       (next 1 (omega arith) first))))))
       ∙ ap (λ (k : ℕ). take at out ++ take piece (drop from s) ++ drop (at + k) out) (sym (length-take-le piece (drop from s) (omega (arith, long))))
 
--- ---- the next piece
+-- ---- what follows the first piece
 
-module _ (s out : List ℕ) (from at done : ℕ) (there : from + done + piece ≤ length s) (fits : at + done + piece ≤ length out) where
-  abbrev sofar : List ℕ
-  sofar = take done (drop from s)
+module _ (s out : List ℕ) (from at k : ℕ) (there : from + piece + k ≤ length s) (fits : at + piece + k ≤ length out) where
+  abbrev first-piece : List ℕ
+  first-piece = take piece (drop from s)
 
   abbrev following : List ℕ
-  following = take piece (drop (from + done) s)
+  following = take k (drop (from + piece) s)
 
-  sofar-long : length sofar ≡ done
-  sofar-long = length-take-le done (drop from s) (omega (arith, length-drop from s))
+  first-long : length first-piece ≡ piece
+  first-long = length-take-le piece (drop from s) (omega (arith, length-drop from s))
 
-  following-long : length following ≡ piece
-  following-long = length-take-le piece (drop (from + done) s) (omega (arith, length-drop (from + done) s))
+  following-long : length following ≡ k
+  following-long = length-take-le k (drop (from + piece) s) (omega (arith, length-drop (from + piece) s))
 
-  pub piece-more : over (over out at sofar) (at + done) following ≡ over out at (take (done + piece) (drop from s))
-  piece-more =
-      ap₂ (λ (xs : List ℕ) (k : ℕ). over (over out at xs) (at + k) following) (sym (append-nil sofar)) (sym sofar-long)
-      ∙ put-over out at sofar [] following (omega (arith, sofar-long, following-long)) (omega arith)
-      ∙ ap (λ (xs : List ℕ). over out at (sofar ++ take piece xs)) (sym (drop-drop done from s))
-      ∙ ap (over out at) (sym (take-add done piece (drop from s)))
+  pub more-put : over (over out at first-piece) (at + piece) following ≡ over out at (take (piece + k) (drop from s))
+  more-put =
+      ap₂ (λ (xs : List ℕ) (k : ℕ). over (over out at xs) (at + k) following) (sym (append-nil first-piece)) (sym first-long)
+      ∙ put-over out at first-piece [] following (omega (arith, first-long, following-long)) (omega arith)
+      ∙ ap (λ (xs : List ℕ). over out at (first-piece ++ take k xs)) (sym (drop-drop piece from s))
+      ∙ ap (over out at) (sym (take-add piece k (drop from s)))
 
 -- ---- the digits of a number, and what comes along after them
 

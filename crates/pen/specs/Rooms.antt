@@ -12,5 +12,9 @@ lineRoom = 64
 abbrev pub mostLetters : ℕ
 mostLetters = 7
 
+-- so many octets at least, with zeros after those that are meant
+abbrev pub roomy : ℕ → List ℕ → List ℕ
+roomy room os = os ++ replicate (room - length os) 0
+
 abbrev pub fronted : List ℕ → Text
-fronted os = record { bytes = os ++ replicate (lineRoom - length os) 0; count = length os }
+fronted os = record { bytes = roomy lineRoom os; count = length os }

@@ -11,7 +11,6 @@ ghost use Rattle.answer.specs.declared.Offset.{Offset};
 ghost use Rattle.pen.specs.Lines.{lineOf};
 ghost use Rattle.pen.specs.Numerals.{numeralRoom, Spells, withNumeral};
 ghost use Rattle.pen.specs.Penning.{Ready, Penned};
-ghost use Rattle.pen.specs.declared.words.Word.{Word};
 use answer::Offset;
 pub use last_line::Text;
 pub use last_line::closing;
@@ -41,44 +40,14 @@ pub fn begin(lines: u64, digits: &mut [u8]) -> Pen
     }
 }
 
-// The next line tells an accepted advance.
-pub fn put_advanced(pen: Pen, digits: &mut [u8], out: &mut [u8]) -> Pen
+// The next line tells a call that was accepted: this word, the answer 0, and no offset.
+pub fn put_accepted(pen: Pen, digits: &mut [u8], word: Word, out: &mut [u8]) -> Pen
     requires { ⌜ Ready pen (now digits) (now out) ⌝ }
-    ensures { λ r. ⌜ Penned (lineOf (pen .lines + 1) Word.Advance 0 Offset.Absent) pen (now (out .entry)) r (now (digits .exit)) (now (out .exit)) ⌝ }
+    ensures { λ r. ⌜ Penned (lineOf (pen .lines + 1) word 0 Offset.Absent) pen (now (out .entry)) r (now (digits .exit)) (now (out .exit)) ⌝ }
     ensures { λ _. ⌜ now (digits .exit) ≡ withNumeral (now (digits .entry)) (pen .lines + 1) ⌝ }
 {
     let from = numeral::count_up(digits, pen.from);
-    let count = putting::put_advanced(digits, from, out, pen.count);
-    Pen {
-        lines: pen.lines + 1,
-        from,
-        count,
-    }
-}
-
-// The next line tells a question that is granted.
-pub fn put_granted(pen: Pen, digits: &mut [u8], out: &mut [u8]) -> Pen
-    requires { ⌜ Ready pen (now digits) (now out) ⌝ }
-    ensures { λ r. ⌜ Penned (lineOf (pen .lines + 1) Word.Ask 0 Offset.Absent) pen (now (out .entry)) r (now (digits .exit)) (now (out .exit)) ⌝ }
-    ensures { λ _. ⌜ now (digits .exit) ≡ withNumeral (now (digits .entry)) (pen .lines + 1) ⌝ }
-{
-    let from = numeral::count_up(digits, pen.from);
-    let count = putting::put_granted(digits, from, out, pen.count);
-    Pen {
-        lines: pen.lines + 1,
-        from,
-        count,
-    }
-}
-
-// The next line tells a frame that was accepted.
-pub fn put_heard(pen: Pen, digits: &mut [u8], out: &mut [u8]) -> Pen
-    requires { ⌜ Ready pen (now digits) (now out) ⌝ }
-    ensures { λ r. ⌜ Penned (lineOf (pen .lines + 1) Word.Frame 0 Offset.Absent) pen (now (out .entry)) r (now (digits .exit)) (now (out .exit)) ⌝ }
-    ensures { λ _. ⌜ now (digits .exit) ≡ withNumeral (now (digits .entry)) (pen .lines + 1) ⌝ }
-{
-    let from = numeral::count_up(digits, pen.from);
-    let count = putting::put_heard(digits, from, out, pen.count);
+    let count = putting::put_accepted(digits, from, word, out, pen.count);
     Pen {
         lines: pen.lines + 1,
         from,

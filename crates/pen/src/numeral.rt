@@ -9,7 +9,7 @@ ghost use Rattle.pen.specs.Numerals.{numeralEnd, numeralRoom, numeralLim
 // The digits end here: the longest number has so many.
 pub const END: usize = 20;
 
-// After the digits there is room for a whole piece more, so that they can be copied in pieces of eight octets.
+// After the digits there is room for a whole piece more, so that the first of them can be copied as a piece of eight octets.
 pub const ROOM: usize = 28;
 
 // The digits of a number, and where they begin.

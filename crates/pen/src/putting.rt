@@ -10,8 +10,8 @@ ghost use Rattle.pen.specs.Lines.{spelled, placed, lineOf};
 ghost use Rattle.pen.specs.Numerals.{numeralRoom, Spells};
 ghost use Rattle.pen.specs.CodeTerms.Putting.{OctetsPut, piece, PiecesPut, LinePut};
 ghost use Rattle.pen.specs.Rooms.{lineRoom, mostLetters};
-ghost use Rattle.pen.specs.declared.words.Word.{Word};
 use crate::numeral;
+use crate::words;
 use crate::words::Word;
 use answer::Offset;
 
@@ -54,7 +54,8 @@ fn put_piece(octets: &[u8], from: usize, out: &mut [u8], at: usize)
     out[at + 7] = eighth;
 }
 
-// The digits in whole pieces, which is quicker than one by one, and where they end. What comes along after them is put over by the rest of the line.
+// The digits, and where they end: the first of them in a whole piece, which is quicker than one by one, and few numbers have more. What comes along after
+// them is put over by the rest of the line.
 fn put_digits(digits: &[u8], from: usize, out: &mut [u8], at: usize) -> usize
     requires { ⌜ ((n : ℕ) × Spells n (now digits) from) ⌝ }
     requires { ⌜ at + numeralRoom ≤ length (now out) ⌝ }
@@ -62,49 +63,10 @@ fn put_digits(digits: &[u8], from: usize, out: &mut [u8], at: usize) -> usize
 {
     let count = numeral::END - from;
     put_piece(digits, from, out, at);
-    let mut done = PIECE;
-    while done < count {
-        put_piece(digits, from + done, out, at + done);
-        done += PIECE;
+    if PIECE < count {
+        put(&digits[from + PIECE..numeral::END], out, at + PIECE);
     }
     at + count
-}
-
-// The digits and the rest of a line, and where it ends.
-fn put_numbered(digits: &[u8], from: usize, rest: &[u8], out: &mut [u8], at: usize) -> usize
-    requires { ⌜ ((n : ℕ) × Spells n (now digits) from) ⌝ }
-    requires { ⌜ (piece ≤ length (now rest) + 1) × (at + numeralRoom + length (now rest) ≤ length (now out)) ⌝ }
-    ensures { λ r. ⌜ ((n : ℕ) → Spells n (now (digits .entry)) from → OctetsPut (decimal n ++ now (rest .entry)) at (now (out .entry)) r (now (out .exit))) ⌝ }
-{
-    let numbered = put_digits(digits, from, out, at);
-    put(rest, out, numbered)
-}
-
-// The line of an advance that was accepted, and where it ends.
-pub fn put_advanced(digits: &[u8], from: usize, out: &mut [u8], at: usize) -> usize
-    requires { ⌜ ((n : ℕ) × Spells n (now digits) from) ⌝ }
-    requires { ⌜ at + lineRoom ≤ length (now out) ⌝ }
-    ensures { λ r. ⌜ ((n : ℕ) → Spells n (now (digits .entry)) from → LinePut (lineOf n Word.Advance 0 Offset.Absent) at (now (out .entry)) r (now (out .exit))) ⌝ }
-{
-    put_numbered(digits, from, b" advance 0\n", out, at)
-}
-
-// The line of an ask that was granted, and where it ends.
-pub fn put_granted(digits: &[u8], from: usize, out: &mut [u8], at: usize) -> usize
-    requires { ⌜ ((n : ℕ) × Spells n (now digits) from) ⌝ }
-    requires { ⌜ at + lineRoom ≤ length (now out) ⌝ }
-    ensures { λ r. ⌜ ((n : ℕ) → Spells n (now (digits .entry)) from → LinePut (lineOf n Word.Ask 0 Offset.Absent) at (now (out .entry)) r (now (out .exit))) ⌝ }
-{
-    put_numbered(digits, from, b" ask 0\n", out, at)
-}
-
-// The line of a frame that was accepted, and where it ends.
-pub fn put_heard(digits: &[u8], from: usize, out: &mut [u8], at: usize) -> usize
-    requires { ⌜ ((n : ℕ) × Spells n (now digits) from) ⌝ }
-    requires { ⌜ at + lineRoom ≤ length (now out) ⌝ }
-    ensures { λ r. ⌜ ((n : ℕ) → Spells n (now (digits .entry)) from → LinePut (lineOf n Word.Frame 0 Offset.Absent) at (now (out .entry)) r (now (out .exit))) ⌝ }
-{
-    put_numbered(digits, from, b" frame 0\n", out, at)
 }
 
 // The word, with a space on either side, and where they end.
@@ -112,14 +74,23 @@ fn put_word(word: Word, out: &mut [u8], at: usize) -> usize
     requires { ⌜ at + mostLetters + 2 ≤ length (now out) ⌝ }
     ensures { λ r. ⌜ OctetsPut ((32 ∷ []) ++ (spelled word ++ (32 ∷ []))) at (now (out .entry)) r (now (out .exit)) ⌝ }
 {
-    match word {
-        Word::Start => put(b" start ", out, at),
-        Word::Advance => put(b" advance ", out, at),
-        Word::Frame => put(b" frame ", out, at),
-        Word::Ask => put(b" ask ", out, at),
-        Word::Record => put(b" record ", out, at),
-        Word::Block => put(b" block ", out, at),
-    }
+    let letters = words::spelled(word);
+    let octets = letters.octets;
+    let count = letters.count;
+    let spaced = put(b" ", out, at);
+    let worded = put(&octets[..count], out, spaced);
+    put(b" ", out, worded)
+}
+
+// The line of an accepted call, and where it ends: its number, its word, and constant octets.
+pub fn put_accepted(digits: &[u8], from: usize, word: Word, out: &mut [u8], at: usize) -> usize
+    requires { ⌜ ((n : ℕ) × Spells n (now digits) from) ⌝ }
+    requires { ⌜ at + lineRoom ≤ length (now out) ⌝ }
+    ensures { λ r. ⌜ ((n : ℕ) → Spells n (now (digits .entry)) from → LinePut (lineOf n word 0 Offset.Absent) at (now (out .entry)) r (now (out .exit))) ⌝ }
+{
+    let numbered = put_digits(digits, from, out, at);
+    let worded = put_word(word, out, numbered);
+    put(b"0\n", out, worded)
 }
 
 // A number in decimal, and where it ends.

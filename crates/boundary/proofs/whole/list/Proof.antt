@@ -13,9 +13,8 @@ use lib.Seq.{length-take-le}
 use Rattle.answer.proofs.Booleans.{clash}
 use Rattle.octets.specs.Writing.{left}
 use Rattle.pen.proofs.InRoom.{in-front, count-within}
-use Rattle.pen.specs.Lines.{closingOf}
 use Rattle.pen.specs.declared.last_line.Text.{Text}
-use Rattle.capture.specs.Lists.{fileTold, listOf}
+use Rattle.capture.specs.Lists.{closingFor, fileTold, listOf}
 use Rattle.capture.specs.declared.lister.Lister.{Lister}
 use Rattle.boundary.proofs.Wholes.{list-length, same-out, too-short, whole}
 use Rattle.boundary.proofs.whole.list.Statement.{statement}
@@ -49,7 +48,7 @@ abbrev passIn : tie.After-closing → tie.After-pass-all
 passIn c = c .before .before .before .before .before .before
 
 abbrev closingIn : tie.After-closing → List ℕ
-closingIn c = let l = passIn c .pass-all .result .lister in closingOf (l .blocks) (l .damaged)
+closingIn c = closingFor (passIn c .pass-all .result .lister)
 
 fits : (c : tie.After-closing) → passIn c .pass-all .result .fits ≡ true
 fits c = not-false (passIn c .pass-all .result .fits) (c .before .before .if1 .left)
@@ -61,7 +60,7 @@ its-count c = ap (λ (x : Text). x .count) (c .closing .ensures)
 total : (c : tie.After-closing) → length (listOf (fileIn (passIn c))) ≡ passIn c .pass-all .result .count + length (closingIn c)
 total c =
     let p = passIn c .pass-all in
-    let same = ap (λ (l : Lister). length (closingOf (l .blocks) (l .damaged))) (p .ensures .0 .same (fits c)) in
+    let same = ap (λ (l : Lister). length (closingFor l)) (p .ensures .0 .same (fits c)) in
     omega (arith, list-length (fileIn (passIn c)), p .ensures .0 .many (fits c), same)
 
 returns-2 : tie.Need-returns-2

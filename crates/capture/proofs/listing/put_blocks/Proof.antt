@@ -475,14 +475,14 @@ heard-room h =
     (frame-says (partsIn r) (columnsIn p) (a-frame c .1) _ (h .hear .result) (columnsHeard h) (h .hear .ensures) n)
     (frame-follows (partsIn r) (columnsIn p) (a-frame c .1) _ (h .hear .result) (columnsHeard h) (h .hear .ensures) n)
 
-slice-aggregate-put-heard : tie.Need-slice-aggregate-put-heard Inv-loop μ-loop
-slice-aggregate-put-heard c = sym (standing (ran-heard (c .before .before .before .before .before .before .before)) .spells .room)
+slice-aggregate-put-accepted : tie.Need-slice-aggregate-put-accepted Inv-loop μ-loop
+slice-aggregate-put-accepted c = sym (standing (ran-heard (c .before .before .before .before .before .before .before)) .spells .room)
 
 slice-aggregate-put-told-3 : tie.Need-slice-aggregate-put-told-3 Inv-loop μ-loop
 slice-aggregate-put-told-3 c = sym (standing (ran-heard (c .before .before .before .before .before .before .before .before)) .spells .room)
 
-put-heard-requires : tie.Need-put-heard-requires Inv-loop μ-loop
-put-heard-requires c κs = let h = c .before .before .before .before .before .before .before .before in may-put (standing (ran-heard h) .spells) (heard-room h)
+put-accepted-requires : tie.Need-put-accepted-requires Inv-loop μ-loop
+put-accepted-requires c κs = let h = c .before .before .before .before .before .before .before .before in may-put (standing (ran-heard h) .spells) (heard-room h)
 
 put-told-requires-3 : tie.Need-put-told-requires-3 Inv-loop μ-loop
 put-told-requires-3 c κs = let h = c .before .before .before .before .before .before .before .before .before .before in may-put (standing (ran-heard h) .spells) (heard-room h)
@@ -532,7 +532,7 @@ loop-again-4 : tie.Need-loop-again-4 Inv-loop μ-loop
 loop-again-4 c =
     let h = c .before .before .before .before .before .before .before .before .before .before .before .before in
     heard-standing h _ _ _
-    (penned-as (ap (λ (v : Verdict). answerLine (ran-heard h .run .result .pen .lines + 1) Word.Frame (Response.Frame v)) (sym (c .before .before .before .before .before .before .enum-told4 .given .1))) (c .before .before .before .put-heard .ensures .0))
+    (penned-as (ap (λ (v : Verdict). answerLine (ran-heard h .run .result .pen .lines + 1) Word.Frame (Response.Frame v)) (sym (c .before .before .before .before .before .before .enum-told4 .given .1))) (c .before .before .before .put-accepted .ensures .0))
 
 -- a refused one
 
@@ -664,8 +664,8 @@ put-blocks-spec =
     slice-aggregate-hear-3
     hear-requires
     (λ c. search needs)
-    slice-aggregate-put-heard
-    put-heard-requires
+    slice-aggregate-put-accepted
+    put-accepted-requires
     (λ c. search needs)
     (λ c κs. search needs)
     slice-aggregate-put-told-3

@@ -78,8 +78,8 @@ goes : (c : tie.After-known-told Inv-loop μ-loop)
     PlainAt (now (a .used)) (l .at) (l .clock) (a .pending) (a .clear) (Plain.Goes (g .0) (g .1 .0))
 goes c = stands (goes-at c) _ (c .before .later .given .1)
 
-put-advanced-requires : tie.Need-put-advanced-requires Inv-loop μ-loop
-put-advanced-requires c κs =
+put-accepted-requires : tie.Need-put-accepted-requires Inv-loop μ-loop
+put-accepted-requires c κs =
     let k = c .before .before in
     let l = goes-at k .before in
     let n = goes k .1 in
@@ -96,7 +96,7 @@ loop-again c =
     let k = p .before .before .before in
     let l = goes-at k .before in
     let g = goes k in
-    ran-advance (big l) (l .loop .inv) (g .0) _ (p .put-advanced .result) _ _ _ (g .2) (g .1) (p .put-advanced .ensures .0)
+    ran-advance (big l) (l .loop .inv) (g .0) _ (p .put-accepted .result) _ _ _ (g .2) (g .1) (p .put-accepted .ensures .0)
 
 -- ---- a question
 
@@ -109,8 +109,8 @@ granted : (c : tie.After-known-told2 Inv-loop μ-loop)
     PlainAt (now (a .used)) (l .at) (l .clock) (a .pending) (a .clear) (Plain.Granted (c .before .end .given .0 .0))
 granted c = stands (granted-at c) _ (c .before .end .given .1)
 
-put-granted-requires : tie.Need-put-granted-requires Inv-loop μ-loop
-put-granted-requires c κs =
+put-accepted-requires-2 : tie.Need-put-accepted-requires-2 Inv-loop μ-loop
+put-accepted-requires-2 c κs =
     let k = c .before .before in
     let l = granted-at k .before in
     let n = granted k .1 in
@@ -127,7 +127,7 @@ loop-again-2 c =
     let k = p .before .before .before in
     let l = granted-at k .before in
     let g = granted k in
-    ran-question (big l) (l .loop .inv) (g .0) _ (p .put-granted .result) _ _ (g .1) (g .2) (g .3) (p .put-granted .ensures .0)
+    ran-question (big l) (l .loop .inv) (g .0) _ (p .put-accepted2 .result) _ _ (g .1) (g .2) (g .3) (p .put-accepted2 .ensures .0)
 
 pub run-spec : {M : Type 1} → statement M
 run-spec =
@@ -143,10 +143,10 @@ run-spec =
     same-length-2
     returns-2
     (λ c. search needs)
-    put-advanced-requires
+    put-accepted-requires
     loop-less
     loop-again
     (λ c. search needs)
-    put-granted-requires
+    put-accepted-requires-2
     loop-less-2
     loop-again-2)

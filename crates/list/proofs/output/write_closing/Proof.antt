@@ -5,14 +5,12 @@ use borrow.Author.Needs.{needs}
 use lib.ListN.{length}
 use lib.Seq.{length-take-le}
 use Rattle.pen.proofs.InRoom.{count-within}
-use Rattle.pen.specs.Lines.{closingOf}
+use Rattle.capture.specs.Lists.{closingFor}
 use Rattle.list.proofs.output.write_closing.Statement.{statement}
 use Rattle.list.proofs.output.write_closing.Tie as tie
 
 within : (c : tie.After-closing) → c .closing .result .count ≤ length (c .closing .result .bytes)
-within c =
-    let l = c .before .args .lister in
-    count-within (c .closing .result) (closingOf (l .blocks) (l .damaged)) (c .closing .ensures)
+within c = count-within (c .closing .result) (closingFor (c .before .args .lister)) (c .closing .ensures)
 
 array-share-prefix-bytes : tie.Need-array-share-prefix-bytes
 array-share-prefix-bytes c = within (c .before)

@@ -6,10 +6,9 @@ use borrow.Author.Needs.{needs}
 use lib.ListN.{length}
 use Rattle.pen.specs.Decimals.{decimal}
 use Rattle.pen.specs.Lines.{placed}
-use Rattle.pen.proofs.InNumeral.{placed-digits}
 use Rattle.pen.proofs.Lengths.{offset-short}
 use Rattle.pen.proofs.Spelling.{few-digits}
-use Rattle.pen.proofs.WholeLines.{spaced-long, parts-put}
+use Rattle.pen.proofs.WholeLines.{number-ends, word-ends, parts-put}
 use Rattle.pen.proofs.putting.put_line.Statement.{statement}
 use Rattle.pen.proofs.putting.put_line.Tie as tie
 
@@ -27,13 +26,16 @@ abbrev start : tie.After-put-digits → tie.Start
 start c = c .before .before .before .before
 
 at-number : (c : tie.After-put-digits) → c .put-digits .result ≤ start c .args .at + 20
-at-number c = let p = start c .pre .0 in omega (arith, placed-digits (p .1), c .put-digits .ensures (p .0) (p .1) .ends)
+at-number c = let p = start c .pre .0 in number-ends (p .1) (c .put-digits .ensures (p .0) (p .1))
 
 abbrev numbered : tie.After-put-word → tie.After-put-digits
 numbered c = c .before .before .before .before
 
 at-word : (c : tie.After-put-word) → c .put-word .result ≤ start (numbered c) .args .at + 29
-at-word c = omega (arith, at-number (numbered c), spaced-long (start (numbered c) .args .word), c .put-word .ensures .ends)
+at-word c =
+    let d = numbered c in
+    let p = start d .pre .0 in
+    word-ends (p .1) (d .put-digits .ensures (p .0) (p .1)) (start d .args .word) (c .put-word .ensures)
 
 abbrev worded : tie.After-put-answer → tie.After-put-word
 worded c = c .before .before .before .before
