@@ -1,6 +1,5 @@
-// Frames as they are read, in words and numbers on a line of the scenes.
+// Frames: who sends them to whom in a scene, and frames as they are read, in words and numbers on a line.
 ghost use Prim.Native.Nat.{_≤_};
-ghost use lib.ListN.{length};
 use crate::AP;
 use crate::INTERVAL;
 use crate::OWN;
@@ -8,9 +7,36 @@ use element::ibss_dfs::Pair;
 use frame::Frame;
 use frame::Reading;
 use scene::answers;
+use scene::call::Call;
 use scene::fields;
-use scene::made::Made;
+use scene::made;
+use scene::made::LONGEST;
 use scene::say;
+use scene::verb::Form;
+
+// A frame of the AP to the station.
+pub fn of_ap(form: Form, call: Call, frame: &mut [u8]) -> usize
+    ensures { λ r. ⌜ r ≤ 2400 ⌝ }
+{
+    made::put(form, call, 1, AP, OWN, frame)
+}
+
+// A frame in the IBSS to the station, of the sender that the call names at a place.
+pub fn of_member(form: Form, call: Call, place: usize, frame: &mut [u8]) -> usize
+    requires { ⌜ place ≤ 2 ⌝ }
+    ensures { λ r. ⌜ r ≤ 2400 ⌝ }
+{
+    let sender = made::named(OWN[0], call.octets[place]);
+    made::put(form, call, place + 1, sender, OWN, frame)
+}
+
+// A frame of the AP to the receiver that the call names first.
+pub fn to_row(form: Form, call: Call, frame: &mut [u8]) -> usize
+    ensures { λ r. ⌜ r ≤ 2400 ⌝ }
+{
+    let receiver = made::receiver(call.octets[1], call.octets[2]);
+    made::put(form, call, 3, AP, receiver, frame)
+}
 
 // A frame of an exchange, and its dialog token.
 fn exchanged(word: &[u8], token: u8) {
@@ -60,11 +86,9 @@ fn answer(reading: Reading, broadcast: bool) {
 }
 
 // As document 01's station reads it: the answer, the frame and its Quiet elements.
-pub fn read(made: Made)
-    requires { ⌜ made .length ≤ length (made .octets) ⌝ }
-{
-    let octets = made.octets;
-    let length = made.length;
+pub fn read(form: Form, call: Call) {
+    let mut octets = [0u8; LONGEST];
+    let length = of_ap(form, call, &mut octets);
     let received = frame::read(&octets[0..length], OWN, AP, INTERVAL);
     let reading = received.reading;
     answer(reading, received.broadcast);
@@ -76,11 +100,9 @@ pub fn read(made: Made)
 }
 
 // As a station of an IBSS reads it: its sender and element 41 too.
-pub fn read_in_ibss(made: Made)
-    requires { ⌜ made .length ≤ length (made .octets) ⌝ }
-{
-    let octets = made.octets;
-    let length = made.length;
+pub fn read_in_ibss(form: Form, call: Call) {
+    let mut octets = [0u8; LONGEST];
+    let length = of_member(form, call, 1, &mut octets);
     let heard = frame::read_in_ibss(&octets[0..length], OWN, AP, INTERVAL);
     let received = heard.received;
     let reading = received.reading;
@@ -99,12 +121,11 @@ pub fn read_in_ibss(made: Made)
     fields::quiets(slots, received.count);
 }
 
-// A pair of element 41: the answer's number, and the pair's channel and map.
-pub fn pair(made: Made, index: usize)
-    requires { ⌜ made .length ≤ length (made .octets) ⌝ }
-{
-    let octets = made.octets;
-    let length = made.length;
+// A pair of a beacon's element 41, by its index: the answer's number, and the pair's channel and map.
+pub fn pair(call: Call) {
+    let mut octets = [0u8; LONGEST];
+    let length = of_member(Form::Beacon, call, 2, &mut octets);
+    let index = call.numbers[1] as usize;
     match frame::dfs_pair_at(&octets[0..length], OWN, AP, INTERVAL, index) {
         Pair::Refused(refusal) => say::octet(refusal.number()),
         Pair::Is(pair) => {

@@ -1,6 +1,4 @@
 // A station of an IBSS (document 02, Five) as it is played.
-ghost use Prim.Native.Nat.{_≤_};
-ghost use lib.ListN.{length};
 ghost use Rattle.member.specs.Validity.{ValidMember};
 use crate::AP;
 use crate::OWN;
@@ -8,22 +6,21 @@ use crate::frames;
 use crate::kept;
 use answer::Answer;
 use member::Member;
+use member::Stepped;
 use owner::Owner;
 use scene::answers;
 use scene::call::Call;
 use scene::last;
 use scene::made;
-use scene::made::Made;
 use scene::say;
 use scene::verb::Form;
 use scene::verb::Verb;
 use station::Station;
 
-fn advance(member: Member, units: u32, always: bool) -> Member
-    requires { ⌜ ValidMember member ⌝ }
+fn told(stepped: Stepped, always: bool) -> Member
+    requires { ⌜ ValidMember (stepped .member) ⌝ }
     ensures { λ r. ⌜ ValidMember r ⌝ }
 {
-    let stepped = member.advance(units);
     let answer = stepped.answer;
     answers::tell(answer, always);
     stepped.member
@@ -38,10 +35,10 @@ fn at(member: Member, call: Call) -> Member
     let mut next = member;
     let mut left = call.units_from(station.clock);
     while Station::UNIT_LIMIT < left {
-        next = advance(next, Station::UNIT_LIMIT, false);
+        next = told(next.advance(Station::UNIT_LIMIT), false);
         left -= Station::UNIT_LIMIT;
     }
-    advance(next, left, false)
+    told(next.advance(left), false)
 }
 
 // Where the start is refused the scene keeps the station that it has.
@@ -60,28 +57,13 @@ fn start(member: Member, call: Call) -> Member
     }
 }
 
-// A frame to the station, of the sender that the call names at a place.
-fn frame(form: Form, call: Call, place: usize) -> Made
-    requires { ⌜ place ≤ 2 ⌝ }
-    ensures { λ r. ⌜ r .length ≤ length (r .octets) ⌝ }
-{
-    made::frame(
-        form,
-        call,
-        place + 1,
-        made::named(2, call.octets[place]),
-        OWN,
-    )
-}
-
-fn take(member: Member, made: Made) -> Member
+fn take(member: Member, form: Form, call: Call) -> Member
     requires { ⌜ ValidMember member ⌝ }
-    requires { ⌜ made .length ≤ length (made .octets) ⌝ }
     ensures { λ r. ⌜ ValidMember r ⌝ }
 {
-    let octets = made.octets;
-    let length = made.length;
-    let taken = member.take(&octets[0..length]);
+    let mut frame = [0u8; made::LONGEST];
+    let length = frames::of_member(form, call, 1, &mut frame);
+    let taken = member.take(&frame[0..length]);
     let verdict = taken.verdict;
     answers::verdict(verdict);
     taken.member
@@ -111,8 +93,8 @@ fn asked(member: Member, call: Call)
             let permission = member.ask(call.first());
             say::octet(permission.number());
         }
-        Verb::Read(form) => frames::read_in_ibss(frame(form, call, 1)),
-        Verb::Pair => frames::pair(frame(Form::Beacon, call, 2), call.numbers[1] as usize),
+        Verb::Read(form) => frames::read_in_ibss(form, call),
+        Verb::Pair => frames::pair(call),
         Verb::Owner => owner(known),
         _ => kept::show(station, call),
     }
@@ -127,8 +109,8 @@ pub fn run(member: Member, call: Call) -> Member
     match verb {
         Verb::At => at(member, call),
         Verb::Start => start(member, call),
-        Verb::Advance => advance(member, call.first(), call.expected),
-        Verb::Take(form) => take(member, frame(form, call, 1)),
+        Verb::Advance => told(member.advance(call.first()), call.expected),
+        Verb::Take(form) => take(member, form, call),
         _ => {
             asked(member, call);
             member

@@ -1,6 +1,4 @@
 // Document 01's station as it is played.
-ghost use Prim.Native.Nat.{_≤_};
-ghost use lib.ListN.{length};
 ghost use Rattle.station.specs.Validity.{Valid};
 use crate::AP;
 use crate::OWN;
@@ -11,20 +9,20 @@ use scene::answers;
 use scene::call::Call;
 use scene::last;
 use scene::made;
-use scene::made::Made;
 use scene::replies;
 use scene::replies::BLANK;
 use scene::replies::ROOM;
 use scene::say;
+use scene::verb::Form;
 use scene::verb::Reply;
 use scene::verb::Verb;
 use station::Station;
+use station::Stepped;
 
-fn advance(station: Station, units: u32, always: bool) -> Station
-    requires { ⌜ Valid station ⌝ }
+fn told(stepped: Stepped, always: bool) -> Station
+    requires { ⌜ Valid (stepped .station) ⌝ }
     ensures { λ r. ⌜ Valid r ⌝ }
 {
-    let stepped = station.advance(units);
     let answer = stepped.answer;
     answers::tell(answer, always);
     stepped.station
@@ -38,10 +36,10 @@ fn at(station: Station, call: Call) -> Station
     let mut next = station;
     let mut left = call.units_from(station.clock);
     while Station::UNIT_LIMIT < left {
-        next = advance(next, Station::UNIT_LIMIT, false);
+        next = told(next.advance(Station::UNIT_LIMIT), false);
         left -= Station::UNIT_LIMIT;
     }
-    advance(next, left, false)
+    told(next.advance(left), false)
 }
 
 // Where the start is refused the scene keeps the station that it has.
@@ -60,14 +58,13 @@ fn start(station: Station, call: Call) -> Station
     }
 }
 
-fn take(station: Station, made: Made) -> Station
+fn take(station: Station, form: Form, call: Call) -> Station
     requires { ⌜ Valid station ⌝ }
-    requires { ⌜ made .length ≤ length (made .octets) ⌝ }
     ensures { λ r. ⌜ Valid r ⌝ }
 {
-    let octets = made.octets;
-    let length = made.length;
-    let taken = station.take(&octets[0..length]);
+    let mut frame = [0u8; made::LONGEST];
+    let length = frames::of_ap(form, call, &mut frame);
+    let taken = station.take(&frame[0..length]);
     let verdict = taken.verdict;
     answers::verdict(verdict);
     taken.station
@@ -75,10 +72,9 @@ fn take(station: Station, made: Made) -> Station
 
 // A reply is asked for without a station.
 fn reply(reply: Reply, call: Call) {
-    let asked = replies::asked(reply, call);
-    let frame = asked.frame;
-    let length = asked.length;
-    let room = asked.room;
+    let mut frame = [0u8; replies::LONGEST];
+    let length = replies::put(reply, call, &mut frame);
+    let room = replies::room(call);
     let report = replies::report(call);
     let readings = replies::readings(call);
     let mut buffer = [BLANK; ROOM];
@@ -113,7 +109,7 @@ fn asked(station: Station, call: Call)
             let permission = station.ask(call.first());
             say::octet(permission.number());
         }
-        Verb::Read(form) => frames::read(made::frame(form, call, 1, AP, OWN)),
+        Verb::Read(form) => frames::read(form, call),
         Verb::Reply(to) => reply(to, call),
         _ => kept::show(station, call),
     }
@@ -128,8 +124,8 @@ pub fn run(station: Station, call: Call) -> Station
     match verb {
         Verb::At => at(station, call),
         Verb::Start => start(station, call),
-        Verb::Advance => advance(station, call.first(), call.expected),
-        Verb::Take(form) => take(station, made::frame(form, call, 1, AP, OWN)),
+        Verb::Advance => told(station.advance(call.first()), call.expected),
+        Verb::Take(form) => take(station, form, call),
         _ => {
             asked(station, call);
             station

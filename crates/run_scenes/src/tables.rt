@@ -1,8 +1,7 @@
 // A table of sixteen stations (document 02, Six) as it is played.
-ghost use Prim.Native.Nat.{_≤_};
-ghost use lib.ListN.{length};
 ghost use Rattle.table.specs.Validity.{ValidTable};
 use crate::AP;
+use crate::frames;
 use crate::kept;
 use answer::Answer;
 use answer::Refusal;
@@ -11,11 +10,11 @@ use scene::answers;
 use scene::call::Call;
 use scene::last;
 use scene::made;
-use scene::made::Made;
 use scene::replies;
 use scene::replies::BLANK;
 use scene::replies::ROOM;
 use scene::say;
+use scene::verb::Form;
 use scene::verb::Reply;
 use scene::verb::Verb;
 use station::Station;
@@ -60,14 +59,13 @@ fn start(table: Table, call: Call) -> Table
     }
 }
 
-fn take(table: Table, made: Made) -> Table
+fn take(table: Table, form: Form, call: Call) -> Table
     requires { ⌜ ValidTable table ⌝ }
-    requires { ⌜ made .length ≤ length (made .octets) ⌝ }
     ensures { λ r. ⌜ ValidTable r ⌝ }
 {
-    let octets = made.octets;
-    let length = made.length;
-    let taken = table.take(&octets[0..length]);
+    let mut frame = [0u8; made::LONGEST];
+    let length = frames::to_row(form, call, &mut frame);
+    let taken = table.take(&frame[0..length]);
     let verdict = taken.verdict;
     answers::verdict(verdict);
     taken.table
@@ -92,10 +90,9 @@ fn row(table: Table, own: [u8; 6]) {
 }
 
 fn reply(table: Table, reply: Reply, call: Call) {
-    let asked = replies::asked(reply, call);
-    let frame = asked.frame;
-    let length = asked.length;
-    let room = asked.room;
+    let mut frame = [0u8; replies::LONGEST];
+    let length = replies::put(reply, call, &mut frame);
+    let room = replies::room(call);
     let report = replies::report(call);
     let readings = replies::readings(call);
     let mut buffer = [BLANK; ROOM];
@@ -136,7 +133,6 @@ pub fn run(table: Table, call: Call) -> Table
 {
     let octets = call.octets;
     let own = made::named(octets[1], octets[2]);
-    let to = made::receiver(octets[1], octets[2]);
     let verb = call.verb;
     match verb {
         Verb::At => at(table, call),
@@ -144,7 +140,7 @@ pub fn run(table: Table, call: Call) -> Table
         Verb::Join => told(table.join(own, octets[3]), call.expected),
         Verb::Leave => told(table.leave(own), call.expected),
         Verb::Tick => told(table.tick(call.first()), call.expected),
-        Verb::Take(form) => take(table, made::frame(form, call, 3, AP, to)),
+        Verb::Take(form) => take(table, form, call),
         _ => {
             asked(table, call);
             table

@@ -1,6 +1,5 @@
 // Frames as the octets of a call make them.
 ghost use Prim.Native.Nat.{_≤_};
-ghost use lib.ListN.{length};
 use crate::call::Call;
 use crate::verb::Form;
 
@@ -29,12 +28,6 @@ pub const LONGEST: usize = 2400;
 // A receiver that is named by this first octet is all ones.
 const ALL: u8 = 255;
 
-// A frame: so many of these octets.
-pub struct Made {
-    pub octets: [u8; LONGEST],
-    pub length: usize,
-}
-
 // An address by its first and its last octet.
 pub fn named(first: u8, last: u8) -> [u8; 6] {
     [first, 0, 0, 0, 0, last]
@@ -48,40 +41,46 @@ pub fn receiver(first: u8, last: u8) -> [u8; 6] {
     named(first, last)
 }
 
-// All of the frame, after its length: it is cut there, or zeros follow.
-fn whole(call: Call) -> Made
-    ensures { λ r. ⌜ r .length ≤ length (r .octets) ⌝ }
+// After a header with 2, 0, 0, 0, 0, 9 for the BSSID and, where there is room before `front`, a timestamp of 7.
+fn headed(
+    first: u8,
+    front: usize,
+    call: Call,
+    place: usize,
+    by: [u8; 6],
+    to: [u8; 6],
+    frame: &mut [u8],
+) -> usize
+    requires { ⌜ (front ≤ 32) × (place ≤ 128) ⌝ }
+    ensures { λ r. ⌜ r ≤ 2400 ⌝ }
 {
-    let mut octets = [0u8; LONGEST];
-    call.put(2, &mut octets, 0);
-    let length = (call.numbers[1] % 2401) as usize;
-    Made { octets, length }
+    octets::put(true, &[first], frame, 0);
+    octets::put(true, &to, frame, RECEIVER);
+    octets::put(true, &by, frame, SENDER);
+    octets::put(true, b"\x02\0\0\0\0\x09\0\0\x07", frame, BSSID);
+    front + call.put(place, frame, front)
 }
 
-// The octets of the frame from `front` on, after a header with 2, 0, 0, 0, 0, 9 for the BSSID and, where there is room before them, a timestamp of 7.
-fn headed(first: u8, front: usize, call: Call, place: usize, by: [u8; 6], to: [u8; 6]) -> Made
-    requires { ⌜ front ≤ 32 ⌝ }
+// Puts the frame that a call gives into zeros, and tells how long it is. A whole one is cut at the length that the call says, or zeros follow. Of the other forms the
+// call has the octets from a place on, and does not spell by whom and to whom the frame is sent.
+pub fn put(
+    form: Form,
+    call: Call,
+    place: usize,
+    by: [u8; 6],
+    to: [u8; 6],
+    frame: &mut [u8],
+) -> usize
     requires { ⌜ place ≤ 128 ⌝ }
-    ensures { λ r. ⌜ r .length ≤ length (r .octets) ⌝ }
-{
-    let mut octets = [0u8; LONGEST];
-    octets[0] = first;
-    octets::put(true, &to, &mut octets, RECEIVER);
-    octets::put(true, &by, &mut octets, SENDER);
-    octets::put(true, b"\x02\0\0\0\0\x09\0\0\x07", &mut octets, BSSID);
-    let length = front + call.put(place, &mut octets, front);
-    Made { octets, length }
-}
-
-// The frame that a call gives in a form: but for a whole one its octets begin at a place of the call, and the call does not spell by whom and to whom it is sent.
-pub fn frame(form: Form, call: Call, place: usize, by: [u8; 6], to: [u8; 6]) -> Made
-    requires { ⌜ place ≤ 128 ⌝ }
-    ensures { λ r. ⌜ r .length ≤ length (r .octets) ⌝ }
+    ensures { λ r. ⌜ r ≤ 2400 ⌝ }
 {
     match form {
-        Form::Whole => whole(call),
-        Form::Action => headed(ACTION, BODY, call, place, by, to),
-        Form::Beacon => headed(BEACON, INTERVAL, call, place, by, to),
-        Form::Probe => headed(PROBE, INTERVAL, call, place, by, to),
+        Form::Whole => {
+            call.put(2, frame, 0);
+            (call.numbers[1] % 2401) as usize
+        }
+        Form::Action => headed(ACTION, BODY, call, place, by, to, frame),
+        Form::Beacon => headed(BEACON, INTERVAL, call, place, by, to, frame),
+        Form::Probe => headed(PROBE, INTERVAL, call, place, by, to, frame),
     }
 }

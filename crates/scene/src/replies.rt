@@ -1,7 +1,6 @@
 // What a call for a reply gives, and the reply as it is told: the answer's number, of a reply its length and its octets, and whether the buffer is as it was after
 // them, or whole where there is none.
 ghost use Prim.Native.Nat.{_≤_};
-ghost use lib.ListN.{length};
 use crate::call::Call;
 use crate::last;
 use crate::say;
@@ -18,14 +17,7 @@ pub const BLANK: u8 = 170;
 pub const ROOM: usize = 2400;
 
 // How many octets a frame may have that a reply is made to.
-const LONGEST: usize = 2496;
-
-// What is to be replied to, so many octets of a frame, and so much room.
-pub struct Request {
-    pub frame: [u8; LONGEST],
-    pub length: usize,
-    pub room: usize,
-}
+pub const LONGEST: usize = 2496;
 
 // At which place of the call the frame begins.
 fn place(reply: Reply) -> usize
@@ -37,19 +29,19 @@ fn place(reply: Reply) -> usize
     }
 }
 
-// The frame is the call's octets, and as many zeros as it says. Sizes past their limits wrap, so that every scene runs.
-pub fn asked(reply: Reply, call: Call) -> Request
-    ensures { λ r. ⌜ (r .length ≤ length (r .frame)) × (r .room ≤ 2400) ⌝ }
+// Puts the frame into zeros, and tells how long it is: the call's octets, and as many zeros as it says. Sizes past their limits wrap, so that every scene runs.
+pub fn put(reply: Reply, call: Call, frame: &mut [u8]) -> usize
+    ensures { λ r. ⌜ r ≤ 2496 ⌝ }
 {
-    let room = (call.numbers[1] % 2401) as usize;
     let zeros = (call.numbers[2] % 2337) as usize;
-    let mut frame = [0u8; LONGEST];
-    let length = call.put(place(reply), &mut frame, 0) + zeros;
-    Request {
-        frame,
-        length,
-        room,
-    }
+    call.put(place(reply), frame, 0) + zeros
+}
+
+// How much of the buffer is lent.
+pub fn room(call: Call) -> usize
+    ensures { λ r. ⌜ r ≤ 2400 ⌝ }
+{
+    (call.numbers[1] % 2401) as usize
 }
 
 // A TPC Report, in which power and margin are octets.

@@ -1,7 +1,6 @@
 -- `play` is safe and ends: buffers are left, and the stage stays valid.
-use mathlib.Core.Path.{_≡_, sym}
+use mathlib.Core.Path.{_≡_}
 use lib.ListN.{length}
-use lib.Seq.{length-take-le}
 use Rattle.run_scenes.specs.Stages.{ValidStage}
 use borrow.Author.Needs.{needs}
 use Rattle.run_scenes.proofs.stage.play.Statement.{statement}
@@ -12,9 +11,6 @@ Inv-loop text₀ stage₀ left₀ text stage left = (length text ≡ 65536) × V
 
 abbrev μ-loop : tie.MeasureT-loop
 μ-loop text₀ stage₀ left₀ text stage left = left
-
-slice-aggregate-scenes : tie.Need-slice-aggregate-scenes Inv-loop μ-loop
-slice-aggregate-scenes c = sym (length-take-le _ _ (search needs))
 
 pub play-spec : {M : Type 1} → statement M
 play-spec =
@@ -29,7 +25,8 @@ play-spec =
     (λ c κs. search needs)
     (λ c. search needs)
     (λ c. search needs)
-    slice-aggregate-scenes
+    (λ c. search needs)
+    (λ c. search needs)
     (λ c κs. search needs)
     (λ c. search needs)
     (λ c. search needs)
