@@ -2,12 +2,12 @@
 ghost use mathlib.Core.Path.{_≡_};
 ghost use Prim.Native.Nat.{_<_, _≤_};
 ghost use lib.ListN.{length};
+use crate::call::Call;
+use crate::call::ROOM;
 use crate::say;
 use crate::verb;
 use crate::verb::Verb;
-
-// How many numbers a call may have, with place 0, which is the verb's.
-pub const ROOM: usize = 128;
+use check::same;
 
 // The longest verb has 17 letters.
 const LETTERS: usize = 17;
@@ -15,6 +15,7 @@ const LETTERS: usize = 17;
 // Which part of a line the next character belongs to.
 pub enum Part {
     Remark,
+    // Its word, and of a scene the word that says what it plays.
     Verb,
     Numbers,
     // After the =. It is not looked at: the program writes what it finds.
@@ -23,13 +24,13 @@ pub enum Part {
 
 // Where in the line the next character stands, and the call so far.
 pub struct Line {
-    pub part: Part,
+    part: Part,
     word: [u8; LETTERS],
     letters: usize,
-    // How many places are taken, each number as an octet, and the first of them whole too. Those that are left out are 0.
-    pub count: u8,
-    pub octets: [u8; ROOM],
-    pub numbers: [u64; 16],
+    // As in a call.
+    count: u8,
+    octets: [u8; ROOM],
+    numbers: [u64; 16],
     // The place of the number that the next digit belongs to, and what its digits make so far.
     at: u8,
     number: u64,
@@ -65,13 +66,28 @@ fn spelt(word: [u8; LETTERS], letters: usize) -> Verb {
     if LETTERS < letters {
         return Verb::Unknown;
     }
-    verb::verb_of(&word[..letters])
+    verb::verb_of(&word[0..letters])
+}
+
+// Whether the word begins a scene.
+fn opens(word: [u8; LETTERS], letters: usize) -> bool {
+    letters == 5 && same(&word[0..5], b"scene")
 }
 
 impl Line {
-    pub fn verb(self) -> Verb {
+    // The call that it holds.
+    pub fn call(self, expected: bool) -> Call {
         let word = self.word;
-        spelt(word, self.letters)
+        let verb = spelt(word, self.letters);
+        let octets = self.octets;
+        let numbers = self.numbers;
+        Call {
+            verb,
+            count: self.count as usize,
+            octets,
+            numbers,
+            expected,
+        }
     }
 
     // Whether a call stands here that this character ends.
@@ -151,7 +167,8 @@ impl Line {
         if c == b'#' && self.letters == 0 {
             return self.in_part(Part::Remark);
         }
-        if c == b' ' {
+        let word = self.word;
+        if c == b' ' && !opens(word, self.letters) {
             return self.in_part(Part::Numbers);
         }
         self.letter(c)
@@ -170,7 +187,7 @@ impl Line {
     }
 
     // A call, read to this place. A number that found none must not go by unseen.
-    fn call(self, at: usize, expected: bool) -> Read
+    fn ended(self, at: usize, expected: bool) -> Read
         ensures { λ r. ⌜ r .at ≡ at ⌝ }
     {
         if expected {
@@ -199,7 +216,7 @@ impl Line {
             let c = text[at];
             if line.ends_at(c) {
                 say::text(&text[written..at]);
-                return line.call(at + 1, c == b'=');
+                return line.ended(at + 1, c == b'=');
             }
             at += 1;
             written = line.unwritten(c, written, at);

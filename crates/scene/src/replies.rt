@@ -1,9 +1,10 @@
-// What a call for a reply gives, and the reply as it is told: the answer's number, of a reply its length and its octets, of a long one the first and whether zeros
-// follow, and whether the buffer is as it was after the reply, or whole where there is none.
+// What a call for a reply gives, and the reply as it is told: the answer's number, of a reply its length and its octets, and whether the buffer is as it was after
+// them, or whole where there is none.
 ghost use Prim.Native.Nat.{_≤_};
-use crate::after;
-use crate::line;
+use crate::call::Call;
+use crate::last;
 use crate::say;
+use crate::verb::Reply;
 use element::tpc_report::TpcReport;
 use measured_report::Finding;
 use measured_report::Readings;
@@ -18,65 +19,81 @@ pub const ROOM: usize = 2400;
 // How many octets a frame may have that a reply is made to.
 pub const LONGEST: usize = 2496;
 
-// How many octets of a reply are told.
-const TOLD: usize = 96;
+// At which place of the call the frame begins.
+fn place(reply: Reply) -> usize
+    ensures { λ r. ⌜ r ≤ 128 ⌝ }
+{
+    match reply {
+        Reply::Tpc => 5,
+        Reply::Measurement => 15,
+    }
+}
 
-// The last 32 bits of a number.
-pub fn short(n: u64) -> u32 {
-    (n % 4294967296) as u32
+// Puts the frame into zeros, and tells how long it is: the call's octets, and as many zeros as it says. Sizes past their limits wrap, so that every scene runs.
+pub fn put(reply: Reply, call: Call, frame: &mut [u8]) -> usize
+    ensures { λ r. ⌜ r ≤ 2496 ⌝ }
+{
+    let zeros = (call.numbers[2] % 2337) as usize;
+    call.put(place(reply), frame, 0) + zeros
+}
+
+// How much of the buffer is lent.
+pub fn room(call: Call) -> usize
+    ensures { λ r. ⌜ r ≤ 2400 ⌝ }
+{
+    (call.numbers[1] % 2401) as usize
+}
+
+// A TPC Report, in which power and margin are octets.
+pub fn report(call: Call) -> TpcReport {
+    let power = octets::to_signed(call.octets[3]);
+    let margin = octets::to_signed(call.octets[4]);
+    TpcReport { power, margin }
 }
 
 fn finding(sort: u64, value: u64) -> Finding {
     match sort {
         0 => Finding::Refused,
-        1 => Finding::Map((value % 256) as u8),
-        2 => Finding::Busy(short(value)),
+        1 => Finding::Map(last::one(value)),
+        2 => Finding::Busy(last::four(value)),
         _ => Finding::Times,
     }
 }
 
 // What was found, from the call's fifth number on.
-pub fn readings(n: [u64; 16]) -> Readings {
+pub fn readings(call: Call) -> Readings {
+    let n = call.numbers;
     let finding = finding(n[5], n[6]);
     let times = [
-        short(n[7]),
-        short(n[8]),
-        short(n[9]),
-        short(n[10]),
-        short(n[11]),
-        short(n[12]),
-        short(n[13]),
-        short(n[14]),
+        last::four(n[7]),
+        last::four(n[8]),
+        last::four(n[9]),
+        last::four(n[10]),
+        last::four(n[11]),
+        last::four(n[12]),
+        last::four(n[13]),
+        last::four(n[14]),
     ];
     Readings { finding, times }
 }
 
-// The first octets, and whether the others are as they were.
-fn octets(buffer: &[u8; ROOM], count: usize) {
-    let mut zeros = true;
-    let mut kept = true;
-    let mut i = 0;
-    while i < ROOM {
-        let octet = buffer[i];
-        if i < count {
-            if i < TOLD {
-                say::octet(octet);
-            } else if octet != 0 {
-                zeros = false;
-            }
-        } else if octet != BLANK {
-            kept = false;
-        }
-        i += 1;
+fn is_blank(part: &[u8]) -> bool {
+    if part.len() == 0 {
+        return true;
     }
-    if TOLD < count {
-        if zeros {
-            say::text(b" zeros");
-        } else {
-            say::text(b" others");
-        }
+    if part[0] != BLANK {
+        return false;
     }
-    if kept {
+    say::alike(part, 0) == part.len()
+}
+
+// The first octets, and whether the others are as they were lent.
+fn octets(buffer: &[u8], count: usize) {
+    if buffer.len() < count {
+        return;
+    }
+    say::octets(&buffer[0..count]);
+    if is_blank(&buffer[count..]) {
         say::text(b" kept");
     } else {
         say::text(b" changed");
@@ -95,27 +112,4 @@ pub fn tell(wrote: Wrote, buffer: &[u8; ROOM]) {
             octets(buffer, count);
         }
     }
-}
-
-// The frame is the octets from `from` on, and as many zeros as asked. Sizes past their limits wrap, so that every scene runs.
-pub fn size(n: [u64; 16], count: usize, from: usize) -> usize
-    requires { ⌜ from ≤ 128 ⌝ }
-    ensures { λ r. ⌜ r ≤ 2496 ⌝ }
-{
-    let octets = after::end(count, from) - from;
-    octets + ((n[2] % 2337) as usize)
-}
-
-// These octets, and zeros.
-pub fn frame(octets: &[u8]) -> [u8; LONGEST] {
-    let mut frame = [0u8; LONGEST];
-    octets::put(true, octets, &mut frame, 0);
-    frame
-}
-
-// A TPC Report, in which power and margin are octets.
-pub fn report(octets: [u8; line::ROOM]) -> TpcReport {
-    let power = octets::to_signed(octets[3]);
-    let margin = octets::to_signed(octets[4]);
-    TpcReport { power, margin }
 }

@@ -1,8 +1,29 @@
-// What a line asks for, by its first word.
+// What a line asks for, by its first word, and by the second too where it begins a scene.
 use check::same;
 
+// What a scene plays.
+pub enum Subject {
+    Station,
+    Ibss,
+    Table,
+}
+
+// How a call gives a frame.
+pub enum Form {
+    Whole,
+    Action,
+    Beacon,
+    Probe,
+}
+
+// To which request a reply is asked for.
+pub enum Reply {
+    Tpc,
+    Measurement,
+}
+
 pub enum Verb {
-    Scene,
+    Scene(Subject),
     At,
     Start,
     Advance,
@@ -16,17 +37,10 @@ pub enum Verb {
     Pending,
     Owner,
     Row,
-    Frame,
-    Action,
-    Beacon,
-    Probe,
-    ReadFrame,
-    ReadAction,
-    ReadBeacon,
-    ReadProbe,
+    Take(Form),
+    Read(Form),
     Pair,
-    ReplyTpc,
-    ReplyMeasurement,
+    Reply(Reply),
     Contents,
     Write,
     Centre,
@@ -48,19 +62,16 @@ pub fn verb_of(word: &[u8]) -> Verb {
         return Verb::Advance;
     }
     if same(word, b"frame") {
-        return Verb::Frame;
+        return Verb::Take(Form::Whole);
     }
     if same(word, b"action") {
-        return Verb::Action;
+        return Verb::Take(Form::Action);
     }
     if same(word, b"beacon") {
-        return Verb::Beacon;
+        return Verb::Take(Form::Beacon);
     }
     if same(word, b"probe") {
-        return Verb::Probe;
-    }
-    if same(word, b"scene") {
-        return Verb::Scene;
+        return Verb::Take(Form::Probe);
     }
     stepping(word)
 }
@@ -108,25 +119,25 @@ fn asking(word: &[u8]) -> Verb {
 // Verbs that read a frame, or reply to it, without a station.
 fn framing(word: &[u8]) -> Verb {
     if same(word, b"read-frame") {
-        return Verb::ReadFrame;
+        return Verb::Read(Form::Whole);
     }
     if same(word, b"read-action") {
-        return Verb::ReadAction;
+        return Verb::Read(Form::Action);
     }
     if same(word, b"read-beacon") {
-        return Verb::ReadBeacon;
+        return Verb::Read(Form::Beacon);
     }
     if same(word, b"read-probe") {
-        return Verb::ReadProbe;
+        return Verb::Read(Form::Probe);
     }
     if same(word, b"pair") {
         return Verb::Pair;
     }
     if same(word, b"reply-tpc") {
-        return Verb::ReplyTpc;
+        return Verb::Reply(Reply::Tpc);
     }
     if same(word, b"reply-measurement") {
-        return Verb::ReplyMeasurement;
+        return Verb::Reply(Reply::Measurement);
     }
     counting(word)
 }
@@ -150,6 +161,20 @@ fn counting(word: &[u8]) -> Verb {
     }
     if same(word, b"densities") {
         return Verb::Densities;
+    }
+    opening(word)
+}
+
+// The verb of a scene, with what it plays.
+fn opening(word: &[u8]) -> Verb {
+    if same(word, b"scene station") {
+        return Verb::Scene(Subject::Station);
+    }
+    if same(word, b"scene ibss") {
+        return Verb::Scene(Subject::Ibss);
+    }
+    if same(word, b"scene table") {
+        return Verb::Scene(Subject::Table);
     }
     Verb::Unknown
 }

@@ -1,6 +1,7 @@
 // An element as it is written: the answer's number, of one that is written its length, and the whole buffer.
 ghost use Prim.Native.Nat.{_≤_};
-use crate::line;
+use crate::call::Call;
+use crate::last;
 use crate::say;
 use element::channel_switch;
 use element::channel_switch::ChannelSwitch;
@@ -20,22 +21,14 @@ use measurement_element::measurement_request;
 use measurement_element::measurement_request::Request;
 use octets::Wrote;
 
-fn octet(n: u64) -> u8 {
-    (n % 256) as u8
-}
-
-fn two(n: u64) -> u16 {
-    (n % 65536) as u16
-}
-
 // The fields from these places on, in the order of the element.
 fn span(n: [u64; 16], at: usize) -> Span
     requires { ⌜ at ≤ 13 ⌝ }
 {
     Span {
-        channel: octet(n[at]),
+        channel: last::one(n[at]),
         start: n[at + 1],
-        duration: two(n[at + 2]),
+        duration: last::two(n[at + 2]),
     }
 }
 
@@ -62,25 +55,25 @@ fn said(n: [u64; 16]) -> measurement_report::Matter {
         0 => measurement_report::Matter::NotMeasured(Reason::Late),
         1 => measurement_report::Matter::NotMeasured(Reason::Incapable),
         2 => measurement_report::Matter::NotMeasured(Reason::Refused),
-        3 => measured(n, Found::Map(octet(n[7]))),
-        4 => measured(n, Found::Busy(octet(n[7]))),
+        3 => measured(n, Found::Map(last::one(n[7]))),
+        4 => measured(n, Found::Busy(last::one(n[7]))),
         5 => measured(n, Found::Densities),
         _ => measurement_report::Matter::Uninterpreted,
     }
 }
 
 fn report(n: [u64; 16], buffer: &mut [u8], at: usize) -> Wrote {
-    let power = octets::to_signed(octet(n[4]));
-    let margin = octets::to_signed(octet(n[5]));
+    let power = octets::to_signed(last::one(n[4]));
+    let margin = octets::to_signed(last::one(n[5]));
     tpc_report::write(TpcReport { power, margin }, buffer, at)
 }
 
 fn switch(n: [u64; 16], buffer: &mut [u8], at: usize) -> Wrote {
     channel_switch::write(
         ChannelSwitch {
-            mode: octet(n[4]),
-            channel: octet(n[5]),
-            count: octet(n[6]),
+            mode: last::one(n[4]),
+            channel: last::one(n[5]),
+            count: last::one(n[6]),
         },
         buffer,
         at,
@@ -90,12 +83,12 @@ fn switch(n: [u64; 16], buffer: &mut [u8], at: usize) -> Wrote {
 fn quiet_of(n: [u64; 16], buffer: &mut [u8], at: usize) -> Wrote {
     quiet::write(
         Quiet {
-            count: octet(n[5]),
-            period: octet(n[6]),
-            duration: two(n[7]),
-            offset: two(n[8]),
+            count: last::one(n[5]),
+            period: last::one(n[6]),
+            duration: last::two(n[7]),
+            offset: last::two(n[8]),
         },
-        two(n[4]),
+        last::two(n[4]),
         buffer,
         at,
     )
@@ -105,8 +98,8 @@ fn request_of(n: [u64; 16], buffer: &mut [u8], at: usize) -> Wrote {
     let matter = asked(n);
     measurement_request::write(
         Request {
-            token: octet(n[4]),
-            kind: octet(n[5]),
+            token: last::one(n[4]),
+            kind: last::one(n[5]),
             matter,
         },
         buffer,
@@ -118,8 +111,8 @@ fn report_of(n: [u64; 16], densities: [u8; 8], buffer: &mut [u8], at: usize) -> 
     let matter = said(n);
     measurement_report::write(
         Report {
-            token: octet(n[4]),
-            kind: octet(n[5]),
+            token: last::one(n[4]),
+            kind: last::one(n[5]),
             matter,
             densities,
         },
@@ -131,10 +124,10 @@ fn report_of(n: [u64; 16], densities: [u8; 8], buffer: &mut [u8], at: usize) -> 
 // An element by its ID. One that there is not must not go by unseen.
 fn written(n: [u64; 16], densities: [u8; 8], buffer: &mut [u8]) -> Wrote {
     let at = n[3] as usize;
-    let id = octet(n[1]);
+    let id = last::one(n[1]);
     match id {
         power_constraint::ID => {
-            let decibels = octet(n[4]);
+            let decibels = last::one(n[4]);
             power_constraint::write(PowerConstraint { decibels }, buffer, at)
         }
         tpc_request::ID => tpc_request::write(buffer, at),
@@ -163,10 +156,12 @@ fn tell(wrote: Wrote, buffer: &[u8; 32]) {
 }
 
 // Of the buffer's octets only as many are lent as the call says.
-pub fn show(n: [u64; 16], o: [u8; line::ROOM]) {
+pub fn show(call: Call) {
+    let n = call.numbers;
+    let o = call.octets;
     let densities = [o[11], o[12], o[13], o[14], o[15], o[16], o[17], o[18]];
     let mut buffer = [170u8; 32];
     let room = (n[2] % 33) as usize;
-    let wrote = written(n, densities, &mut buffer[..room]);
+    let wrote = written(n, densities, &mut buffer[0..room]);
     tell(wrote, &buffer);
 }

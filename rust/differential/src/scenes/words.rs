@@ -2,8 +2,22 @@
 
 use twin::{PendingSwitch, Refusal};
 
+/// So many octets one after the other that are alike, or more, are told as one
+/// of them and how many they are, as in `0*312`.
+const RUN: usize = 8;
+
 pub fn octets(octets: &[u8]) -> String {
-    let words: Vec<String> = octets.iter().map(u8::to_string).collect();
+    let mut words = Vec::new();
+    let mut rest = octets;
+    while let Some(octet) = rest.first() {
+        let times = rest.iter().take_while(|&next| next == octet).count();
+        if times < RUN {
+            words.extend(vec![octet.to_string(); times]);
+        } else {
+            words.push(format!("{octet}*{times}"));
+        }
+        rest = &rest[times..];
+    }
     words.join(" ")
 }
 

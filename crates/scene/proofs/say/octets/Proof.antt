@@ -1,4 +1,4 @@
--- `octets` ends: the count rises to the length.
+-- `octets` is safe and ends: the place rises to the length.
 use Prim.Native.Nat.{_≤_, _-_}
 use lib.ListN.{length}
 use borrow.Author.Needs.{needs}
@@ -6,10 +6,10 @@ use Rattle.scene.proofs.say.octets.Statement.{statement}
 use Rattle.scene.proofs.say.octets.Tie as tie
 
 abbrev Inv-loop : tie.InvT-loop
-Inv-loop s i₀ i = i ≤ length s
+Inv-loop s at₀ t4 at = at ≤ length s
 
 abbrev μ-loop : tie.MeasureT-loop
-μ-loop s i₀ i = length s - i
+μ-loop s at₀ t4 at = length s - at
 
 pub octets-spec : {M : Type 1} → statement M
 octets-spec =
@@ -18,7 +18,14 @@ octets-spec =
     Inv-loop
     μ-loop
     (λ c. search needs)
+    (λ c κs. search needs)
     (λ c. search needs)
+    (λ c κs. search needs)
+    (λ c. search needs)
+    (λ c. search needs)
+    (λ c. search needs)
+    (λ c. search needs)
+    (λ c κs. search needs)
     (λ c κs. search needs)
     (λ c. search needs)
     (λ c. search needs)

@@ -1,7 +1,7 @@
 //! Scenes of a station of an IBSS (02, Five), in the words of the program
-//! `run_ibss_scenes`: long runs of calls from several senders, each with the
-//! answer that the twin gives. Without the answers the text is the program's
-//! input, and what it writes must be this text.
+//! `run_scenes`: long runs of calls from several senders, each with the answer
+//! that the twin gives. Without the answers the text is the program's input, and
+//! what it writes must be this text.
 //!
 //! All of it comes from fixed seeds. What was given how often is told on
 //! standard error; the run fails if something that can occur never did.

@@ -88,11 +88,10 @@ pub enum Event {
     Map,
     Busy,
     Densities,
-    ZerosFollow,
-    OthersFollow,
+    ReplyWithRun,
 }
 
-const EVENTS: [&str; 46] = [
+const EVENTS: [&str; 45] = [
     "the last free row joined",
     "a row joined that another had left, as there is no other",
     "an address joined again that had left",
@@ -137,8 +136,7 @@ const EVENTS: [&str; 46] = [
     "a map as reply",
     "a busy fraction as reply",
     "densities as reply",
-    "a reply of more than 96 octets that ends in zeros",
-    "a reply of more than 96 octets that ends in others",
+    "a reply with a run of octets that are alike",
 ];
 
 impl Counts {

@@ -1,7 +1,7 @@
 //! Scenes of a table of sixteen stations (02, Six), in the words of the program
-//! `run_table_scenes`: long runs of joins, frames, ticks, questions and replies,
-//! each with the answer that the twin gives. Without the answers the text is
-//! the program's input, and what it writes must be this text.
+//! `run_scenes`: long runs of joins, frames, ticks, questions and replies, each
+//! with the answer that the twin gives. Without the answers the text is the
+//! program's input, and what it writes must be this text.
 //!
 //! All of it comes from fixed seeds. What was given how often is told on
 //! standard error; the run fails if something that can occur never did.

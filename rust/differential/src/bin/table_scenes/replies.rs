@@ -12,8 +12,6 @@ use twin::Finding;
 
 /// What each octet of a buffer holds before the call.
 const FILL: u8 = 170;
-/// So many octets of a reply are told.
-const TOLD: usize = 96;
 /// So many zeros may follow the octets of a frame.
 const MOST_ZEROS: usize = 2336;
 
@@ -48,30 +46,12 @@ impl Lent {
         &self.buffer[..self.answer.unwrap_or(0)]
     }
 
-    /// What follows the octets of a reply that are told.
-    fn rest(&self) -> &[u8] {
-        let reply = self.reply();
-        &reply[reply.len().min(TOLD)..]
-    }
-
-    fn ends_in_zeros(&self) -> bool {
-        self.rest().iter().all(|&octet| octet == 0)
-    }
-
     /// In the words of the scenes.
     fn told(&self) -> String {
         let mut words = self.number().to_string();
         let reply = self.reply();
         if self.answer.is_ok() {
-            let told = &reply[..reply.len() - self.rest().len()];
-            words += &format!(" {} {}", reply.len(), octets(told));
-        }
-        if !self.rest().is_empty() {
-            words += if self.ends_in_zeros() {
-                " zeros"
-            } else {
-                " others"
-            };
+            words += &format!(" {} {}", reply.len(), octets(reply));
         }
         let after = &self.buffer[reply.len()..];
         let is_kept = after.iter().all(|&octet| octet == FILL);
@@ -322,17 +302,12 @@ impl Scene<'_> {
     }
 
     fn replied(&mut self, call: Call, words: &str, lent: &Lent) {
+        let told = lent.told();
         self.counts.given(call, lent.number());
-        self.say(words, &lent.told());
+        self.counts.event_if(told.contains('*'), Event::ReplyWithRun);
+        self.say(words, &told);
         if lent.answer.is_ok() {
             self.counts.event(sort_of(lent.reply()));
-        }
-        if !lent.rest().is_empty() {
-            self.counts.event(if lent.ends_in_zeros() {
-                Event::ZerosFollow
-            } else {
-                Event::OthersFollow
-            });
         }
     }
 }
