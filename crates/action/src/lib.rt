@@ -1,4 +1,6 @@
 // How an action body begins (document 01, "Octets" and "Order"; 802.11h 7.2.3.12, 7.3.1.11 and 7.4.1): category, action and, but for action 4, a dialog token.
+#![tactic(auto)]
+
 ghost use Rattle.std.specs.Prelude.{◌≡◌};
 ghost use Rattle.action.specs.Openings.{forbids_token, opening_told, opens_with};
 
@@ -17,7 +19,7 @@ pub const FIXED_FIELDS: usize = 3;
 pub const SWITCH_FIXED_FIELDS: usize = 2;
 
 // How a body begins: with no token (action 4), or with an action below 4 and its token.
-#[derive(Drop)]
+#[derive(Clone, Copy)]
 pub enum Opening {
     Refused(Fault),
     Switch,

@@ -1,10 +1,12 @@
 // The answers of every call (document 01, "Answer numbers"; 02, One, Five and Six): accepted, or one of twenty-six refusals, and where a frame broke.
+#![tactic(auto)]
+
 ghost use Rattle.std.specs.Prelude.{◌≡◌};
 ghost use Rattle.answer.specs.Faults.{fault_at, fault_nowhere, verdict_offset};
 ghost use Rattle.answer.specs.Numbers.{number_of, answer_number, verdict_number};
 
 // A refusal, in the order of the table.
-#[derive(Drop)]
+#[derive(Clone, Copy)]
 pub enum Refusal {
     // The frame is under 24 octets, or a fixed field of its body is missing.
     TooShort,
@@ -62,7 +64,7 @@ pub enum Refusal {
 }
 
 // What a call answers where its value stands beside it.
-#[derive(Drop)]
+#[derive(Clone, Copy)]
 pub enum Answer {
     Accepted,
     Refused(Refusal),
@@ -117,14 +119,14 @@ impl Answer {
 }
 
 // Where a frame broke: so many octets stand before the one at fault.
-#[derive(Drop)]
+#[derive(Clone, Copy)]
 pub enum Offset {
     Absent,
     At(usize),
 }
 
 // Why a frame is refused, and where it broke. No octet is at fault where it is too short, too long or not for this station (1 to 4).
-#[derive(Drop)]
+#[derive(Clone, Copy)]
 pub struct Fault {
     pub refusal: Refusal,
     pub offset: Offset,
@@ -153,7 +155,7 @@ impl Fault {
 }
 
 // What a call that is handed a frame answers.
-#[derive(Drop)]
+#[derive(Clone, Copy)]
 pub enum Verdict {
     Accepted,
     Refused(Fault),

@@ -1,5 +1,7 @@
 // A station taken apart (document 01, "The station"): its quiet schedules stand in columns of numbers, which can be lent and changed where they are. A
 // station is long to copy, and most of it is its schedules.
+#![tactic(auto)]
+
 mod columns;
 
 ghost use Rattle.std.specs.Prelude.{◌≡◌, ◌/◌, ◌≤◌, take};
@@ -18,7 +20,7 @@ use element::quiet::Quiet;
 use station::{Rest, Station};
 
 // What a station keeps beside its schedules, and how many of these are in use.
-#[derive(Drop)]
+#[derive(Clone, Copy)]
 pub struct Apart {
     pub own: [u8; 6],
     pub ap: [u8; 6],
@@ -27,7 +29,7 @@ pub struct Apart {
 }
 
 // The verdict on a frame, and the station after it.
-#[derive(Drop)]
+#[derive(Clone, Copy)]
 pub struct Told {
     pub verdict: Verdict,
     pub apart: Apart,

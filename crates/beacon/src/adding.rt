@@ -10,7 +10,7 @@ use crate::{MaybePower, MaybeReport, MaybeSwitch, Notice, elements};
 use answer::Refusal;
 
 // A refusal, or the notice with the element in it.
-#[derive(Drop)]
+#[derive(Clone, Copy)]
 pub enum Added {
     Refused(Refusal),
     Notice(Notice),

@@ -10,7 +10,7 @@ use element::quiet::Quiet;
 use element::tpc_report::TpcReport;
 use element::{channel_switch, power_constraint, quiet, tpc_report};
 
-#[derive(Drop)]
+#[derive(Clone, Copy)]
 pub enum Element {
     Power(PowerConstraint),
     Report(TpcReport),
@@ -20,7 +20,7 @@ pub enum Element {
     Other,
 }
 
-#[derive(Drop)]
+#[derive(Clone, Copy)]
 pub enum Reading {
     Refused(Refusal),
     Is(Element),

@@ -1,4 +1,6 @@
 // Beacon and Probe Response bodies (document 01, "Answer numbers" and "Octets"; 02, Five; 802.11h 7.2.3.1 and 7.2.3.9).
+#![tactic(auto)]
+
 mod adding;
 mod elements;
 mod held;
@@ -30,26 +32,26 @@ const FIXED_LENGTH: usize = 12;
 
 const INTERVAL: usize = 8;
 
-#[derive(Drop)]
+#[derive(Clone, Copy)]
 pub enum MaybePower {
     Absent,
     Is(PowerConstraint),
 }
 
-#[derive(Drop)]
+#[derive(Clone, Copy)]
 pub enum MaybeReport {
     Absent,
     Is(TpcReport),
 }
 
-#[derive(Drop)]
+#[derive(Clone, Copy)]
 pub enum MaybeSwitch {
     Absent,
     Is(ChannelSwitch),
 }
 
 // What a beacon or a probe response says, but for its Quiet elements.
-#[derive(Drop)]
+#[derive(Clone, Copy)]
 pub struct Notice {
     pub timestamp: u64,
     pub capability: u16,
@@ -70,7 +72,7 @@ impl Notice {
 }
 
 // Whether a beacon has an element 41, what that says, and its pair at an index: 16 past the last, and where there is no element 41.
-#[derive(Drop)]
+#[derive(Clone, Copy)]
 pub struct HeardDfs {
     pub names: bool,
     pub dfs: IbssDfs,
@@ -88,7 +90,7 @@ impl HeardDfs {
 
 // The verdict, the notice, and the Quiet elements beside it: the first `count` slots in the order of the frame, the others blank.
 // Element 41 is read where it is asked for, and else skipped. A refusal leaves everything blank.
-#[derive(Drop)]
+#[derive(Clone, Copy)]
 pub struct Heard {
     pub verdict: Verdict,
     pub notice: Notice,

@@ -8,7 +8,7 @@ use answer::{Answer, Refusal};
 use element::ibss_dfs;
 
 // The answer, and what was read: beside a refusal nothing was.
-#[derive(Drop)]
+#[derive(Clone, Copy)]
 pub struct Naming {
     pub answer: Answer,
     pub dfs: HeardDfs,

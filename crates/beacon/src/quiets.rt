@@ -12,7 +12,7 @@ pub const LENGTH: usize = 8;
 // Its ID and its length as one number, of which the ID is the low octet: 40 + 256 * 6.
 const HEADER: u16 = 1576;
 
-#[derive(Drop)]
+#[derive(Clone, Copy)]
 pub enum MaybeQuiet {
     Absent,
     Is(Quiet),

@@ -1,4 +1,6 @@
 // A block of the capture (document 01, "Capture blocks and the evening list").
+#![tactic(auto)]
+
 ghost use Rattle.std.specs.Prelude.{◌≡◌, ◌*◌, ◌≤◌, length, take};
 ghost use Rattle.octets.specs.Sums.{sum_of};
 ghost use Rattle.block.specs.Blocks.{checked_length, end_after, block_means, blocks_of};
@@ -10,7 +12,7 @@ pub const CHECKED: usize = 510;
 
 pub const PAYLOAD: usize = 508;
 
-#[derive(Drop)]
+#[derive(Clone, Copy)]
 pub enum Block {
     Damaged,
     // So many octets of the payload are used.

@@ -50,7 +50,7 @@ pub fn put_pair(pair: ChannelMap, out: &mut [u8]) -> Wrote
 }
 
 // What is asked, by the numbers that a writer takes.
-#[derive(Drop)]
+#[derive(Clone, Copy)]
 pub struct Asked {
     pub asks: u8,
     pub request: u8,
@@ -106,7 +106,7 @@ pub fn put_request(request: Request, out: &mut [u8]) -> Wrote
 }
 
 // What is said, by the numbers that a writer takes; the value is the map or the busy fraction.
-#[derive(Drop)]
+#[derive(Clone, Copy)]
 pub struct Said {
     pub says: u8,
     pub value: u8,

@@ -28,7 +28,7 @@ const SWITCH: usize = 34;
 const LENGTH: usize = 38;
 
 // What the seven kinds have in common: the kind's number, its token, how many measurement elements it has, and what it says of a notice's fields.
-#[derive(Drop)]
+#[derive(Clone, Copy)]
 pub struct Fields {
     pub kind: u8,
     pub token: u8,

@@ -1,4 +1,6 @@
 // What programs in C and Rust call: functions on numbers and octets that keep nothing between calls (docs/BOUNDARY.md).
+#![tactic(auto)]
+
 mod bodies;
 mod codes;
 mod element_fields;

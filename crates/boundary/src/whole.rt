@@ -11,7 +11,7 @@ use capture::Lister;
 use octets::Wrote;
 
 // Where a pass over the blocks stands: whether their lines fit the buffer so far, how many octets they are, and the lister.
-#[derive(Drop)]
+#[derive(Clone, Copy)]
 pub struct Progress {
     pub fits: bool,
     pub count: usize,

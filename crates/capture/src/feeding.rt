@@ -13,7 +13,7 @@ use answer::{Answer, Refusal};
 use octets::Wrote;
 
 // How many octets of the buffer are lines, or why there are none, and the lister after them: the same as before where there are none.
-#[derive(Drop)]
+#[derive(Clone, Copy)]
 pub struct Listing {
     pub wrote: Wrote,
     pub lister: Lister,

@@ -1,4 +1,6 @@
 // The capture and its list (document 01, "Capture blocks and the evening list").
+#![tactic(auto)]
+
 mod feeding;
 mod lister;
 mod listing;

@@ -7,7 +7,7 @@ ghost use Rattle.capture.specs.Lists.{closing_for};
 use pen::Text;
 use station::Station;
 
-#[derive(Drop)]
+#[derive(Clone, Copy)]
 pub struct Lister {
     // Lines so far, blocks, and damaged blocks among them.
     pub lines: u64,

@@ -17,14 +17,14 @@ use capture_record::{Entry, Found};
 use pen::Word;
 
 // The lister, and how many octets of the buffer are lines by now.
-#[derive(Drop)]
+#[derive(Clone, Copy)]
 pub struct Put {
     pub lister: Lister,
     pub count: usize,
 }
 
 // What stands at the place where a block may begin: no block, or a damaged or a whole one that ends at `end`. The records of a whole one end at `stop`.
-#[derive(Drop)]
+#[derive(Clone, Copy)]
 enum BlockAt {
     End,
     Damaged { end: usize },

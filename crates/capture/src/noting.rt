@@ -15,7 +15,7 @@ use pen::Word;
 use station::Station;
 
 // The lister before the line that tells this word and this answer.
-#[derive(Drop)]
+#[derive(Clone, Copy)]
 pub struct Answered {
     pub lister: Lister,
     pub word: Word,

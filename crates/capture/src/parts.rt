@@ -14,7 +14,7 @@ use capture_record::Entry;
 use pen::Word;
 
 // Blocks, damaged blocks among them, and the station that is followed, if one is.
-#[derive(Drop)]
+#[derive(Clone, Copy)]
 pub struct Parts {
     pub blocks: u64,
     pub damaged: u64,
@@ -23,7 +23,7 @@ pub struct Parts {
 }
 
 // What a line tells of a record, the lister after it, and until when it is known to be clear then.
-#[derive(Drop)]
+#[derive(Clone, Copy)]
 pub struct Noted {
     pub word: Word,
     pub number: u8,

@@ -14,7 +14,7 @@ use station::Advanced;
 
 // What stands at a place of the used part: an advance to a moment, a question that is granted, each with the place where it ends, or another record
 // or none.
-#[derive(Drop)]
+#[derive(Clone, Copy)]
 pub enum Plain {
     Goes { clock: u32, end: usize },
     Granted { end: usize },
@@ -71,7 +71,7 @@ fn plain_at(used: &[u8], at: usize, clock: u32, pending: Pending, clear: u64) ->
 }
 
 // Where the first other record stands, the clock there, and the lines by then.
-#[derive(Drop)]
+#[derive(Clone, Copy)]
 pub struct Ran {
     pub at: usize,
     pub clock: u32,

@@ -5,7 +5,7 @@ ghost use Rattle.capture.specs.Lists.{response_number, response_offset};
 use answer::{Answer, Offset, Verdict};
 use station::Permission;
 
-#[derive(Drop)]
+#[derive(Clone, Copy)]
 pub enum Response {
     // A refusal, or an accepted call.
     Call(Answer),

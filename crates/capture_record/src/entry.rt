@@ -3,7 +3,7 @@ ghost use Rattle.std.specs.Prelude.{◌≡◌};
 ghost use Rattle.capture_record.specs.Entries.{settings_of, entry_told, entry_means};
 
 // A frame's octets and a start's settings stay in the contents.
-#[derive(Drop)]
+#[derive(Clone, Copy)]
 pub enum Entry {
     // An unknown kind, or a wrong length.
     Malformed,
@@ -14,7 +14,7 @@ pub enum Entry {
 }
 
 // What a station is started with.
-#[derive(Drop)]
+#[derive(Clone, Copy)]
 pub struct Settings {
     pub own: [u8; 6],
     pub ap: [u8; 6],

@@ -1,4 +1,6 @@
 // The records of a block (document 01, "Capture blocks and the evening list": kind, length (2), contents).
+#![tactic(auto)]
+
 mod entry;
 
 ghost use Rattle.std.specs.Prelude.{◌≡◌, length, drop};
@@ -9,7 +11,7 @@ pub use entry::{Entry, Settings, entry_of, settings_in};
 
 // What stands at a place of the used part of a block: nothing, a record that runs past the end, or a record with its contents from
 // `start` up to `end`.
-#[derive(Drop)]
+#[derive(Clone, Copy)]
 pub enum Found {
     End,
     Cut,

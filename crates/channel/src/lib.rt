@@ -1,4 +1,6 @@
 // Channels and their centre frequencies (document 01, "Numbers that hold"; 802.11h 17.3.8.3.3).
+#![tactic(auto)]
+
 ghost use Rattle.std.specs.Prelude.{◌≡◌};
 ghost use Rattle.channel.specs.Centres.{centre_told, centre_of};
 
@@ -8,7 +10,7 @@ use answer::Refusal;
 pub const HIGHEST: u8 = 200;
 
 // What asking for a centre answers.
-#[derive(Drop)]
+#[derive(Clone, Copy)]
 pub enum Frequency {
     Refused(Refusal),
     Megahertz(u16),

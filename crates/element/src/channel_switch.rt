@@ -9,14 +9,14 @@ use octets::Wrote;
 pub const ID: u8 = 37;
 
 // With mode 1 nothing is sent until the switch; the count is in TBTTs.
-#[derive(Drop)]
+#[derive(Clone, Copy)]
 pub struct ChannelSwitch {
     pub mode: u8,
     pub channel: u8,
     pub count: u8,
 }
 
-#[derive(Drop)]
+#[derive(Clone, Copy)]
 pub enum Reading {
     Refused(Refusal),
     Is(ChannelSwitch),

@@ -21,7 +21,7 @@ const LONGEST: usize = 257;
 
 // Who decides on a switch, after how many TBTTs without its beacons it is given up, and how many pairs of channel and map there are. These are not
 // judged, and stay in the contents.
-#[derive(Drop)]
+#[derive(Clone, Copy)]
 pub struct IbssDfs {
     pub owner: [u8; 6],
     pub recovery: u8,
@@ -36,20 +36,20 @@ pub const NONE: IbssDfs = IbssDfs {
 };
 
 // The answer, and what was read; beside a refusal everything is 0.
-#[derive(Drop)]
+#[derive(Clone, Copy)]
 pub struct Reading {
     pub answer: Answer,
     pub dfs: IbssDfs,
 }
 
 // A channel and what was measured on it.
-#[derive(Drop)]
+#[derive(Clone, Copy)]
 pub struct ChannelMap {
     pub channel: u8,
     pub map: u8,
 }
 
-#[derive(Drop)]
+#[derive(Clone, Copy)]
 pub enum Pair {
     Refused(Refusal),
     Is(ChannelMap),

@@ -9,12 +9,12 @@ use octets::Wrote;
 pub const ID: u8 = 32;
 
 // How far below the channel's greatest power a station stays.
-#[derive(Drop)]
+#[derive(Clone, Copy)]
 pub struct PowerConstraint {
     pub decibels: u8,
 }
 
-#[derive(Drop)]
+#[derive(Clone, Copy)]
 pub enum Reading {
     Refused(Refusal),
     Is(PowerConstraint),

@@ -9,7 +9,7 @@ use octets::Wrote;
 pub const ID: u8 = 40;
 
 // An interval in which nothing is sent: how many TBTTs away, every how many, how long in TU, how far past the TBTT in TU.
-#[derive(Drop)]
+#[derive(Clone, Copy)]
 pub struct Quiet {
     pub count: u8,
     pub period: u8,
@@ -17,7 +17,7 @@ pub struct Quiet {
     pub offset: u16,
 }
 
-#[derive(Drop)]
+#[derive(Clone, Copy)]
 pub enum Reading {
     Refused(Refusal),
     Is(Quiet),

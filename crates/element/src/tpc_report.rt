@@ -9,13 +9,13 @@ use octets::Wrote;
 pub const ID: u8 = 35;
 
 // Power in d_bm and link margin in d_b, both signed.
-#[derive(Drop)]
+#[derive(Clone, Copy)]
 pub struct TpcReport {
     pub power: i8,
     pub margin: i8,
 }
 
-#[derive(Drop)]
+#[derive(Clone, Copy)]
 pub enum Reading {
     Refused(Refusal),
     Is(TpcReport),

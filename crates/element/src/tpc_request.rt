@@ -9,7 +9,7 @@ use octets::Wrote;
 pub const ID: u8 = 34;
 
 // The element has no contents, so an accepted one says nothing more.
-#[derive(Drop)]
+#[derive(Clone, Copy)]
 pub enum Reading {
     Refused(Refusal),
     Is,

@@ -1,4 +1,6 @@
 // The busy fraction and the eight RPI densities (document 01, "Replies"; 802.11h 7.3.2.22.2 and 7.3.2.22.3).
+#![tactic(auto)]
+
 ghost use Rattle.std.specs.Prelude.{◌≡◌, ◌*◌, ◌<◌, ◌≤◌};
 ghost use Rattle.octets.specs.Sums.{sum_of};
 ghost use Rattle.fraction.specs.Fractions.{possible, fraction_of, fraction_told, busy_of, laid, densities_of};
@@ -6,14 +8,14 @@ ghost use Rattle.fraction.specs.Fractions.{possible, fraction_of, fraction_told,
 use answer::{Answer, Refusal};
 
 // What asking for a busy fraction answers.
-#[derive(Drop)]
+#[derive(Clone, Copy)]
 pub enum Fraction {
     Refused(Refusal),
     Is(u8),
 }
 
 // What asking for densities answers; a refusal leaves eight zeros.
-#[derive(Drop)]
+#[derive(Clone, Copy)]
 pub struct Densities {
     pub answer: Answer,
     pub values: [u8; 8],

@@ -18,7 +18,7 @@ use single_body::Single;
 
 // A body that was read, and where the contents of its request or its report at an index lie: absent past the last, and in a body of
 // another kind.
-#[derive(Drop)]
+#[derive(Clone, Copy)]
 pub struct Located {
     pub reading: Reading,
     pub request: Place,

@@ -15,7 +15,7 @@ use element::quiet::Quiet;
 use header::{Cell, Header};
 
 // Whether the Quiet elements of a frame replace all schedules, its Power Constraint, and its announcement.
-#[derive(Drop)]
+#[derive(Clone, Copy)]
 pub struct Change {
     pub replaces: bool,
     pub power: MaybePower,
@@ -85,7 +85,7 @@ pub fn verdict_on(reading: Reading) -> Verdict
 }
 
 // The first `count` slots are the Quiet elements in the order of the frame, and the others are blank.
-#[derive(Drop)]
+#[derive(Clone, Copy)]
 pub struct Hearing {
     pub verdict: Verdict,
     pub change: Change,

@@ -17,7 +17,7 @@ use element::ibss_dfs::{IbssDfs, Pair};
 use header::{Cell, Header, Subtype};
 
 // What was received, who sent it, and whether it names a DFS owner, by the element 41 of a beacon. A refusal leaves everything else at one fixed value.
-#[derive(Drop)]
+#[derive(Clone, Copy)]
 pub struct ReceivedInIbss {
     pub received: Received,
     pub sender: [u8; 6],
@@ -26,7 +26,7 @@ pub struct ReceivedInIbss {
 }
 
 // The same, with the pair of element 41 at an index.
-#[derive(Drop)]
+#[derive(Clone, Copy)]
 pub struct HeardInIbss {
     pub received: Received,
     pub sender: [u8; 6],

@@ -20,7 +20,7 @@ use measurement_body::Place;
 use measurement_element::{measurement_report, measurement_request};
 
 // An action body, and its request at an index.
-#[derive(Drop)]
+#[derive(Clone, Copy)]
 pub struct Asked {
     pub reading: Reading,
     pub request: measurement_request::Reading,

@@ -1,4 +1,6 @@
 // Frames (document 01, "A frame that is read is one of seven kinds"): any octets at all come out as one of them, or as one refusal.
+#![tactic(auto)]
+
 mod bodies;
 mod hearing;
 mod ibss;
@@ -27,7 +29,7 @@ pub use ibss::{ReceivedInIbss, dfs_pair_at, read_in_ibss};
 pub use index::{Asked, read_request, report_at, request_at, request_in};
 
 // The seven kinds. Measurement frames say how many elements they have; each is given by its index.
-#[derive(Drop)]
+#[derive(Clone, Copy)]
 pub enum Frame {
     Beacon(Notice),
     ProbeResponse(Notice),
@@ -38,7 +40,7 @@ pub enum Frame {
     ChannelSwitch(ChannelSwitch),
 }
 
-#[derive(Drop)]
+#[derive(Clone, Copy)]
 pub enum Reading {
     Refused(Fault),
     Is(Frame),
@@ -46,7 +48,7 @@ pub enum Reading {
 
 // What was received: the frame, whether it was sent to all ones, and the Quiet elements of a beacon or a probe response beside it,
 // the first `count` slots in the order of the frame and the others blank. A refusal leaves everything else at one fixed value.
-#[derive(Drop)]
+#[derive(Clone, Copy)]
 pub struct Received {
     pub reading: Reading,
     pub broadcast: bool,
@@ -115,7 +117,7 @@ fn read_action(body: &[u8], broadcast: bool) -> Received
 }
 
 // What the body of a frame is read as.
-#[derive(Drop)]
+#[derive(Clone, Copy)]
 pub enum BodyKind {
     Notice { probe: bool },
     Action,

@@ -6,14 +6,14 @@ ghost use Rattle.header.specs.Headers.{same, da, sa, to_all, foreign_sender, for
 use answer::Refusal;
 
 // Whose frames a station takes: its AP's, whose address is the BSSID (document 01), or those of any member of its IBSS (document 02, Five).
-#[derive(Drop)]
+#[derive(Clone, Copy)]
 pub enum Cell {
     Ap,
     Ibss,
 }
 
 // To whom an accepted frame was sent: to the station alone, or to all ones.
-#[derive(Drop)]
+#[derive(Clone, Copy)]
 pub enum Addressed {
     Refused(Refusal),
     ToStation,

@@ -1,4 +1,6 @@
 // The header of a management frame (document 01, "Octets"; the base standard, with 802.11h 7.2.3).
+#![tactic(auto)]
+
 mod address;
 mod management;
 mod parts;
@@ -12,7 +14,7 @@ pub use management::{LENGTH, LONGEST_FRAME, Management, Subtype, read_management
 pub use parts::body;
 
 // What the header of a frame that is taken says: which frame it is, and whether it was sent to all ones.
-#[derive(Drop)]
+#[derive(Clone, Copy)]
 pub enum Header {
     Refused(Refusal),
     Is { subtype: Subtype, to_all: bool },

@@ -10,14 +10,14 @@ pub const LENGTH: usize = 24;
 pub const LONGEST_FRAME: usize = 2336;
 
 // The frames that are read.
-#[derive(Drop)]
+#[derive(Clone, Copy)]
 pub enum Subtype {
     ProbeResponse,
     Beacon,
     Action,
 }
 
-#[derive(Drop)]
+#[derive(Clone, Copy)]
 pub enum Management {
     Refused(Refusal),
     Is(Subtype),

@@ -1,5 +1,7 @@
 // A station that lives at one address (document 02, Eight): "the record is lent and changed there". Both calls are thin over those that take the station by value,
 // which decide everything.
+#![tactic(auto)]
+
 ghost use Rattle.std.specs.Prelude.{◌≡◌};
 ghost use Rattle.station.specs.Asking.{permission_of};
 ghost use Rattle.station.specs.Clock.{advance_of};

@@ -4,7 +4,7 @@ ghost use Rattle.list.specs.Program.{Within};
 
 use libc::STDIN_FILENO;
 
-#[derive(Drop)]
+#[derive(Clone, Copy)]
 pub enum Filled {
     // So many octets stand at the front of the buffer; where they do not fill it, the input has ended.
     Octets(usize),

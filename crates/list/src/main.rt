@@ -1,5 +1,7 @@
 // The evening list of a capture: standard input to standard output (document 01, "Capture blocks and the evening list").
 // An error is told on standard error, and there is then no closing line: a cut list is never taken for a whole one.
+#![tactic(auto)]
+
 mod input;
 mod output;
 
@@ -21,7 +23,7 @@ const INPUT: usize = BLOCKS * block::SIZE;
 const OUTPUT: usize = BLOCKS * Lister::ROOM;
 
 // So many octets are listed, and the listing then stands so.
-#[derive(Drop)]
+#[derive(Clone, Copy)]
 struct Piece {
     count: usize,
     said: Fate,

@@ -9,7 +9,7 @@ use libc::STDOUT_FILENO;
 use octets::Wrote;
 
 // How the listing stands, or ended.
-#[derive(Drop)]
+#[derive(Clone, Copy)]
 pub enum Fate {
     Going,
     Whole,
@@ -18,7 +18,7 @@ pub enum Fate {
     TooLong,
 }
 
-#[derive(Drop)]
+#[derive(Clone, Copy)]
 pub struct Progress {
     pub lister: Lister,
     pub fate: Fate,

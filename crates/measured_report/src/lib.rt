@@ -1,4 +1,6 @@
 // The report that is owed for an element of a Measurement Request (document 01, "Replies").
+#![tactic(auto)]
+
 ghost use Rattle.std.specs.Prelude.{◌≡◌};
 ghost use Rattle.answer.specs.Checks.{accepted};
 ghost use Rattle.measurement_element.specs.MeasurementReport.{report_laid};
@@ -11,7 +13,7 @@ use measurement_element::measurement_request::Request;
 use measurement_element::{Found, Span, measurement_report, measurement_request};
 
 // What the caller has found, or that it refuses to measure: a map, a busy time in µs, or eight times in µs, which stand beside it.
-#[derive(Drop)]
+#[derive(Clone, Copy)]
 pub enum Finding {
     Refused,
     Map(u8),
@@ -19,7 +21,7 @@ pub enum Finding {
     Times,
 }
 
-#[derive(Drop)]
+#[derive(Clone, Copy)]
 pub struct Readings {
     pub finding: Finding,
     pub times: [u32; 8],

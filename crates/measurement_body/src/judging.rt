@@ -10,7 +10,7 @@ use answer::{Answer, Refusal};
 use measurement_element::{measurement_report, measurement_request};
 
 // A refusal (8, 9), or the element's token and whether it is plain: interpreted, and no reserved bit set.
-#[derive(Drop)]
+#[derive(Clone, Copy)]
 pub enum Judged {
     Refused(Refusal),
     Is { token: u8, plain: bool },

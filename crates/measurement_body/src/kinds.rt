@@ -5,7 +5,7 @@ ghost use Rattle.measurement_body.specs.Kinds.{sort_of};
 
 use measurement_element::{measurement_report, measurement_request};
 
-#[derive(Drop)]
+#[derive(Clone, Copy)]
 pub enum Kind {
     Requests,
     Reports,

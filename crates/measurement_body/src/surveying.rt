@@ -13,14 +13,14 @@ use answer::{Fault, Refusal, Verdict};
 use walk::Required;
 
 // Where the contents of an element lie in the body.
-#[derive(Drop)]
+#[derive(Clone, Copy)]
 pub enum Place {
     Absent,
     Contents { start: usize, end: usize },
 }
 
 // What one walk finds out.
-#[derive(Drop)]
+#[derive(Clone, Copy)]
 pub struct Surveyed {
     pub verdict: Verdict,
     // how many elements there are

@@ -5,7 +5,7 @@ ghost use Rattle.measurement_element.specs.Found.{found_by, found_size, found_fo
 
 // A map, whose bits 0 to 4 are BSS, OFDM preamble, unidentified signal, radar and unmeasured; a busy fraction; or eight densities, which stand
 // beside it, since an enum holds no array.
-#[derive(Drop)]
+#[derive(Clone, Copy)]
 pub enum Found {
     Map(u8),
     Busy(u8),

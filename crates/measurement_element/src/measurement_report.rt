@@ -13,7 +13,7 @@ use octets::Wrote;
 pub const ID: u8 = 39;
 
 // Why there is no measurement.
-#[derive(Drop)]
+#[derive(Clone, Copy)]
 pub enum Reason {
     Late,
     Incapable,
@@ -21,7 +21,7 @@ pub enum Reason {
 }
 
 // What is reported: why nothing was measured, or what was found where and when; contents of a type over 2 are not interpreted.
-#[derive(Drop)]
+#[derive(Clone, Copy)]
 pub enum Matter {
     NotMeasured(Reason),
     Measured { span: Span, found: Found },
@@ -29,7 +29,7 @@ pub enum Matter {
 }
 
 // The eight densities stand beside what is reported, and are 0 where it is no RPI histogram.
-#[derive(Drop)]
+#[derive(Clone, Copy)]
 pub struct Report {
     pub token: u8,
     pub kind: u8,
@@ -38,7 +38,7 @@ pub struct Report {
 }
 
 // A refusal leaves the report blank.
-#[derive(Drop)]
+#[derive(Clone, Copy)]
 pub struct Reading {
     pub answer: Answer,
     pub report: Report,

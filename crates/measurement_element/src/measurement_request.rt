@@ -12,21 +12,21 @@ use octets::Wrote;
 pub const ID: u8 = 38;
 
 // What is asked: whether requests and autonomous reports of the type are welcome, or a measurement.
-#[derive(Drop)]
+#[derive(Clone, Copy)]
 pub enum Matter {
     Enable { request: bool, report: bool },
     Measure(Span),
     Uninterpreted,
 }
 
-#[derive(Drop)]
+#[derive(Clone, Copy)]
 pub struct Request {
     pub token: u8,
     pub kind: u8,
     pub matter: Matter,
 }
 
-#[derive(Drop)]
+#[derive(Clone, Copy)]
 pub enum Reading {
     Refused(Refusal),
     Is(Request),

@@ -3,7 +3,7 @@ ghost use Rattle.std.specs.Prelude.{◌≡◌};
 ghost use Rattle.measurement_element.specs.Span.{span_in, span_forbids, span_octets, no_span};
 
 // The channel, the start in µs of the timing synchronization function, and the duration in TU.
-#[derive(Drop)]
+#[derive(Clone, Copy)]
 pub struct Span {
     pub channel: u8,
     pub start: u64,

@@ -7,7 +7,7 @@ use crate::Member;
 use answer::Answer;
 
 // The answer, and the station after the call: the same as before where the call was refused.
-#[derive(Drop)]
+#[derive(Clone, Copy)]
 pub struct Stepped {
     pub answer: Answer,
     pub member: Member,

@@ -1,4 +1,6 @@
 // A station of an IBSS (document 02, Five; 802.11h 11.6.7.2): document 01's station, and the DFS owner that it follows.
+#![tactic(auto)]
+
 mod clock;
 mod starting;
 mod taking;
@@ -14,7 +16,7 @@ use station::{Permission, Station};
 pub use taking::Taken;
 
 // The station keeps and answers what document 01 says, with the BSSID for its AP.
-#[derive(Drop)]
+#[derive(Clone, Copy)]
 pub struct Member {
     pub station: Station,
     pub owner: Owner,

@@ -10,7 +10,7 @@ use owner::Owner;
 use station::Station;
 
 // What starting answers. Beside a refusal stands one fixed station that no call may be handed.
-#[derive(Drop)]
+#[derive(Clone, Copy)]
 pub struct Started {
     pub answer: Answer,
     pub member: Member,

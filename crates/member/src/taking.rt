@@ -14,7 +14,7 @@ use frame::{Frame, Reading, ReceivedInIbss};
 use owner::Owner;
 
 // The verdict on a frame, and the station after it: the same as before where the frame was refused.
-#[derive(Drop)]
+#[derive(Clone, Copy)]
 pub struct Taken {
     pub verdict: Verdict,
     pub member: Member,

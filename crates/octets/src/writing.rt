@@ -7,13 +7,14 @@ ghost use Rattle.octets.specs.Writing.{wrote_told, room, stored_by, Written};
 use answer::Refusal;
 
 // What a writer answers: how many octets it wrote, or why it wrote none.
-#[derive(Drop)]
+#[derive(Clone, Copy)]
 pub enum Wrote {
     Refused(Refusal),
     Length(usize),
 }
 
 // The answer for so many octets from a place on, in a buffer of so many.
+#[tactic(auto, unfolding(crate::specs::Writing::room, answer::specs::Checks::checked))]
 fn judge(may: bool, count: usize, at: usize, size: usize) -> Wrote
     ensures { wrote_told result ≡ room may count at size }
 {

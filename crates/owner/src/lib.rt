@@ -1,11 +1,13 @@
 // The DFS owner of an IBSS, as a member follows it (document 02, Five; 802.11h 11.6.7.2).
+#![tactic(auto)]
+
 ghost use Rattle.std.specs.Prelude.{◌≡◌, ◌≤◌};
 ghost use Rattle.owner.specs.CodeTerms.Spared.{spared_by};
 ghost use Rattle.owner.specs.Owners.{unknown, is_owner, named, heard_from, past_tbtts, OwnerFits};
 
 // Whether an owner is known, and then its address, after how many misses it is given up, how many there were, and whether a beacon from it was accepted since
 // the latest TBTT. While none is known the others have one fixed value.
-#[derive(Drop)]
+#[derive(Clone, Copy)]
 pub struct Owner {
     pub known: bool,
     pub address: [u8; 6],

@@ -6,7 +6,7 @@ ghost use Rattle.pen.specs.Rooms.{fronted};
 use crate::putting;
 
 // The text is the first `count` octets; those after it are 0.
-#[derive(Drop)]
+#[derive(Clone, Copy)]
 pub struct Text {
     pub bytes: [u8; Text::ROOM],
     pub count: usize,

@@ -1,4 +1,6 @@
 // The lines of the list, put one after the other into a lent buffer (document 01, "Capture blocks and the evening list"). A line knows no station.
+#![tactic(auto)]
+
 mod last_line;
 mod numeral;
 mod putting;
@@ -19,7 +21,7 @@ pub const DIGITS: usize = numeral::ROOM;
 
 // The number of the latest line, where its digits begin in their room, and how many octets of the buffer are lines by now. The digits are counted up
 // from line to line: to divide for each would cost more than the rest of a line.
-#[derive(Drop)]
+#[derive(Clone, Copy)]
 pub struct Pen {
     pub lines: u64,
     pub from: usize,

@@ -4,7 +4,7 @@ ghost use Rattle.pen.specs.Lines.{spelled};
 ghost use Rattle.pen.specs.CodeTerms.Letters.{lettered};
 
 // A record's kind, a malformed record, or a damaged block.
-#[derive(Drop)]
+#[derive(Clone, Copy)]
 pub enum Word {
     Start,
     Advance,
@@ -15,7 +15,7 @@ pub enum Word {
 }
 
 // The letters of a word are the first `count` octets; those after them are 0.
-#[derive(Drop)]
+#[derive(Clone, Copy)]
 pub struct Letters {
     pub octets: [u8; Letters::MOST],
     pub count: usize,

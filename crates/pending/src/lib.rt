@@ -1,18 +1,20 @@
 // A pending channel switch (document 01, "The station"; 802.11h 11.6.7).
+#![tactic(auto)]
+
 ghost use Rattle.std.specs.Prelude.{◌≡◌, ◌*◌, ◌/◌};
 ghost use Rattle.pending.specs.Waiting.{pending_by, silences, up_to, comes_before};
 
 use element::channel_switch::ChannelSwitch;
 
 // A switch that is to come: its moment, the mode of its announcement, and the channel.
-#[derive(Drop)]
+#[derive(Clone, Copy)]
 pub struct Switch {
     pub at: u64,
     pub mode: u8,
     pub channel: u8,
 }
 
-#[derive(Drop)]
+#[derive(Clone, Copy)]
 pub enum Pending {
     Nothing,
     Switch(Switch),

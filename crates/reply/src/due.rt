@@ -12,7 +12,7 @@ use measurement_element::measurement_request;
 
 // What a frame is owed: an answer to the request that it makes, by its dialog token, and the element of a Measurement Request at the index
 // that was asked for; or, where its body is broken, that body.
-#[derive(Drop)]
+#[derive(Clone, Copy)]
 pub enum Due {
     Refused(Refusal),
     Broken,

@@ -1,5 +1,7 @@
 // Replies (document 01, "Replies"; 02, One): what a station owes for a TPC Request and for an element of a Measurement Request, put into a lent
 // buffer as a whole frame. An action frame with a broken body gets that body back from either call, whatever it was to be. The station's own record takes no part but for its address, its AP and its clock.
+#![tactic(auto)]
+
 mod due;
 mod framing;
 mod reporting;

@@ -1,4 +1,6 @@
 // A row of a table of stations (document 02, Six): it holds the station that was joined there, or is free.
+#![tactic(auto)]
+
 mod hearing;
 mod places;
 mod ticking;
@@ -17,7 +19,7 @@ pub use ticking::{tick, tick_all};
 pub const ROWS: usize = 16;
 
 // Where it is free, `station` is one fixed station that no call may be handed.
-#[derive(Drop)]
+#[derive(Clone, Copy)]
 pub struct Row {
     pub joined: bool,
     pub station: Station,

@@ -6,7 +6,7 @@ ghost use Rattle.row.specs.Places.{place_of};
 use crate::Row;
 
 // The first row that is sought, by its index from 0, or none.
-#[derive(Drop)]
+#[derive(Clone, Copy)]
 pub enum Place {
     At(usize),
     Nowhere,

@@ -54,6 +54,8 @@
 //
 // Of a start, an advance and `at` nothing is expected where they only make a scene ready, and nothing told unless they are refused. Frames come from the
 // AP of a scene's beginning, or in its IBSS, and are read with its addresses and its interval. A scene more needs no proof.
+#![tactic(auto)]
+
 mod frames;
 mod kept;
 mod members;

@@ -12,7 +12,7 @@ use station::Station;
 use table::Table;
 
 // Where they stand: what the present scene plays, all three that can be played, and the line so far.
-#[derive(Drop)]
+#[derive(Clone, Copy)]
 pub struct Stage {
     pub subject: Subject,
     pub station: Station,

@@ -7,7 +7,7 @@ use crate::{last, say};
 // How many numbers a call may have, with place 0, which is the verb's.
 pub const ROOM: usize = 128;
 
-#[derive(Drop)]
+#[derive(Clone, Copy)]
 pub struct Call {
     pub verb: Verb,
     // How many places are taken, each number as an octet, and the first of them whole too. Those that are left out are 0.

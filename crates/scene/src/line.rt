@@ -10,7 +10,7 @@ use check::same;
 const LETTERS: usize = 17;
 
 // Which part of a line the next character belongs to.
-#[derive(Drop)]
+#[derive(Clone, Copy)]
 pub enum Part {
     Remark,
     // Its word, and of a scene the word that says what it plays.
@@ -21,7 +21,7 @@ pub enum Part {
 }
 
 // Where in the line the next character stands, and the call so far.
-#[derive(Drop)]
+#[derive(Clone, Copy)]
 pub struct Line {
     part: Part,
     word: [u8; LETTERS],
@@ -39,7 +39,7 @@ pub struct Line {
 
 // How far a text was read: to its end, or past the = or the end of the line with which a call ends. The call is what the line then holds, and in front of an =
 // an answer is expected.
-#[derive(Drop)]
+#[derive(Clone, Copy)]
 pub struct Read {
     pub at: usize,
     pub calls: bool,

@@ -2,7 +2,7 @@
 use check::same;
 
 // What a scene plays.
-#[derive(Drop)]
+#[derive(Clone, Copy)]
 pub enum Subject {
     Station,
     Ibss,
@@ -10,7 +10,7 @@ pub enum Subject {
 }
 
 // How a call gives a frame.
-#[derive(Drop)]
+#[derive(Clone, Copy)]
 pub enum Form {
     Whole,
     Action,
@@ -19,13 +19,13 @@ pub enum Form {
 }
 
 // To which request a reply is asked for.
-#[derive(Drop)]
+#[derive(Clone, Copy)]
 pub enum Reply {
     Tpc,
     Measurement,
 }
 
-#[derive(Drop)]
+#[derive(Clone, Copy)]
 pub enum Verb {
     Scene(Subject),
     At,

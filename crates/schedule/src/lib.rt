@@ -1,4 +1,6 @@
 // A quiet schedule (document 01, "The station"; 802.11h 7.3.2.23 and 11.6.2).
+#![tactic(auto)]
+
 ghost use Rattle.std.specs.Prelude.{◌≡◌, ◌-◌};
 ghost use Rattle.schedule.specs.Schedules.{set_by, covered, end_begun};
 ghost use Rattle.schedule.specs.Units.{first_unit};
@@ -6,7 +8,7 @@ ghost use Rattle.schedule.specs.Units.{first_unit};
 use element::quiet::Quiet;
 
 // It covers `duration` TU from `start` on, and with a period over 0 again every `period` TU.
-#[derive(Drop)]
+#[derive(Clone, Copy)]
 pub struct Schedule {
     pub start: u64,
     pub period: u64,

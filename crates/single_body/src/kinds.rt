@@ -6,7 +6,7 @@ use element::channel_switch::ChannelSwitch;
 use element::tpc_report::TpcReport;
 use element::{channel_switch, tpc_report, tpc_request};
 
-#[derive(Drop)]
+#[derive(Clone, Copy)]
 pub enum Kind {
     TpcRequest,
     TpcReport,
@@ -14,7 +14,7 @@ pub enum Kind {
 }
 
 // What the element of such a body says.
-#[derive(Drop)]
+#[derive(Clone, Copy)]
 pub enum Single {
     TpcRequest,
     TpcReport(TpcReport),

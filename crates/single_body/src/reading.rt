@@ -11,7 +11,7 @@ use answer::{Fault, Refusal};
 use element::{channel_switch, tpc_report, tpc_request};
 use walk::Required;
 
-#[derive(Drop)]
+#[derive(Clone, Copy)]
 pub enum Reading {
     Refused(Fault),
     Is(Single),

@@ -7,7 +7,7 @@ ghost use Rattle.station.specs.Validity.{Valid};
 use crate::Station;
 
 // What asking to send answers, in the order of document 01's numbers.
-#[derive(Drop)]
+#[derive(Clone, Copy)]
 pub enum Permission {
     Granted,
     // A switch of mode 1 is pending.

@@ -18,7 +18,7 @@ pub fn is_at_once(switch: MaybeSwitch) -> bool
 }
 
 // What a station keeps beside its addresses and its schedules, which are long to copy.
-#[derive(Drop)]
+#[derive(Clone, Copy)]
 pub struct Rest {
     pub interval: u16,
     pub clock: u32,

@@ -9,7 +9,7 @@ use answer::{Answer, Refusal};
 use pending::Pending;
 
 // What an advance comes to: it is refused, or the clock goes to a moment, with no switch reached by then or with this one.
-#[derive(Drop)]
+#[derive(Clone, Copy)]
 pub enum Advanced {
     Refused,
     Goes(u32),
@@ -42,7 +42,7 @@ pub fn advance_clock(clock: u32, pending: Pending, units: u32) -> Advanced
 }
 
 // The answer, and the station after the call: the same as before where the call was refused.
-#[derive(Drop)]
+#[derive(Clone, Copy)]
 pub struct Stepped {
     pub answer: Answer,
     pub station: Station,

@@ -1,4 +1,6 @@
 // The station (document 01, "The station"; 802.11h 11.6.2 and 11.6.7).
+#![tactic(auto)]
+
 mod asking;
 mod changing;
 mod clock;
@@ -25,7 +27,7 @@ pub use taking::Taken;
 
 // What one station keeps between calls. The first `count` slots are the quiet schedules in use, the others are blank. Before `until` it is quiet by
 // what had begun of schedules that were replaced: the latest end counts, and 0 says that nothing runs on (document 02, Two).
-#[derive(Drop)]
+#[derive(Clone, Copy)]
 pub struct Station {
     pub own: [u8; 6],
     pub ap: [u8; 6],

@@ -13,7 +13,7 @@ use element::quiet::Quiet;
 use schedule::Schedule;
 
 // How far the slots are gone through, and how many are in use after that.
-#[derive(Drop)]
+#[derive(Clone, Copy)]
 pub struct Extent {
     pub top: usize,
     pub used: usize,
@@ -65,7 +65,7 @@ fn slot_of(quiet: Quiet, slot: usize, used: usize, passed: u32, interval: u16) -
 }
 
 // The schedules, and until when it stays quiet by what runs on of those that they replaced.
-#[derive(Drop)]
+#[derive(Clone, Copy)]
 pub struct Replaced {
     pub schedules: [Schedule; QUIETS],
     pub until: u64,

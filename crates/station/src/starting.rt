@@ -11,7 +11,7 @@ use beacon::MaybePower;
 use pending::Pending;
 
 // What starting a station answers. Beside a refusal stands one fixed station that no call may be handed.
-#[derive(Drop)]
+#[derive(Clone, Copy)]
 pub struct Started {
     pub answer: Answer,
     pub station: Station,

@@ -1,5 +1,7 @@
 // A station in its keeper's memory (document 02, Eight): "the record is lent and changed there". The record is octets at one address, laid out as
 // `record_of` says, and each call on it does what the call by value does on the station that it holds. Octets that hold none are refused with 16.
+#![tactic(auto)]
+
 mod judging;
 mod laying;
 mod reading;
@@ -46,7 +48,7 @@ const SLOTS: usize = 42;
 const SLOT: usize = 18;
 
 // What a question on a record gets.
-#[derive(Drop)]
+#[derive(Clone, Copy)]
 pub enum Asked {
     Refused(Refusal),
     Is(Permission),

@@ -9,7 +9,7 @@ use row::Place;
 use station::Permission;
 
 // The address is not joined, or what its station answers.
-#[derive(Drop)]
+#[derive(Clone, Copy)]
 pub enum Asked {
     Refused(Refusal),
     Told(Permission),

@@ -11,7 +11,7 @@ use row::Place;
 use station::Station;
 
 // The row that a station takes, or why it takes none.
-#[derive(Drop)]
+#[derive(Clone, Copy)]
 enum Seat {
     Refused(Refusal),
     At(usize),

@@ -1,4 +1,6 @@
 // Sixteen stations on one clock (document 02, Six): one AP, one beacon interval, one clock, and a row for each station that is joined.
+#![tactic(auto)]
+
 mod asking;
 mod clock;
 mod joining;
@@ -20,7 +22,7 @@ pub use starting::Started;
 pub use taking::Taken;
 
 // What is kept between calls. Every station that is joined has the table's AP, interval and clock.
-#[derive(Drop)]
+#[derive(Clone, Copy)]
 pub struct Table {
     pub ap: [u8; 6],
     pub interval: u16,
@@ -29,7 +31,7 @@ pub struct Table {
 }
 
 // The answer, and the table after the call: the same as before where the call was refused.
-#[derive(Drop)]
+#[derive(Clone, Copy)]
 pub struct Stepped {
     pub answer: Answer,
     pub table: Table,

@@ -9,7 +9,7 @@ use answer::{Answer, Refusal};
 use row::Row;
 
 // What starting a table answers. Beside a refusal stands one fixed table that no call may be handed.
-#[derive(Drop)]
+#[derive(Clone, Copy)]
 pub struct Started {
     pub answer: Answer,
     pub table: Table,

@@ -13,7 +13,7 @@ use frame::{Reading, Received};
 use row::Place;
 
 // The verdict on a frame, and the table after it: the same as before where the frame was refused.
-#[derive(Drop)]
+#[derive(Clone, Copy)]
 pub struct Taken {
     pub verdict: Verdict,
     pub table: Table,

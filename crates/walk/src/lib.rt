@@ -1,4 +1,6 @@
 // The walk over a run of elements (document 01, "Octets": an ID, a length, contents; 802.11h 7.3.2).
+#![tactic(auto)]
+
 ghost use Rattle.std.specs.Prelude.{◌≡◌, ◌+◌, length, drop, ltb};
 ghost use Rattle.walk.specs.CodeTerms.Found.{follow, Within};
 ghost use Rattle.walk.specs.CodeTerms.Next.{next_after};
@@ -14,7 +16,7 @@ const VENDOR: u8 = 221;
 
 // What stands at a place of a run: nothing, this one octet that is no header, a header whose contents run past the end, or an
 // element with its contents from `start` up to `end`.
-#[derive(Drop)]
+#[derive(Clone, Copy)]
 pub enum Found {
     End,
     CutHeader(u8),
@@ -48,7 +50,7 @@ pub fn element_at(run: &[u8], at: usize) -> Found
 }
 
 // The element that has to stand at a place: why it does not, or where its contents lie.
-#[derive(Drop)]
+#[derive(Clone, Copy)]
 pub enum Required {
     Refused(Refusal),
     Contents { start: usize, end: usize },
@@ -82,7 +84,7 @@ pub fn required_at(run: &[u8], at: usize, id: u8) -> Required
 }
 
 // Where the walk stands past vendors' elements: at what comes next or at the end, or at one of them that is cut.
-#[derive(Drop)]
+#[derive(Clone, Copy)]
 pub struct Next {
     pub at: usize,
     pub cut: bool,
