@@ -1,0 +1,10 @@
+use Rattle.std.proofs.Common.{ap, arith, get_or, le_antisymm, refl, rules, sym, take, ℕ, ◌*◌, ◌+◌, ◌-◌, ◌∙◌, ◌≡◌, ◌≤◌}
+use Rattle.octets.proofs.SumLaws.{sum_more}
+use Rattle.octets.specs.Sums.{sum_of}
+use Rattle.block.proofs.sum.Given as goal
+
+abbrev pub invariant-loop-i : goal.invariant-loop-i
+invariant-loop-i l = (l.i ≤ 510) × (l.total ≡ sum_of (take l.i l.block)) × (l.total ≤ 255 * l.i)
+
+abbrev pub decreases-loop-i : goal.decreases-loop-i
+decreases-loop-i l = 510 - l.i

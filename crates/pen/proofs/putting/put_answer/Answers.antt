@@ -1,0 +1,19 @@
+-- `put_answer` meets its contract: one digit is the number itself, more are spelled.
+-- Assumes nothing.
+use Rattle.std.proofs.Common.{[], ap, arith, length, rules, sym, ◌+◌, ◌∙◌, ◌∷◌}
+use lib.Seq.{sets-eq}
+use Rattle.octets.specs.Writing.{over}
+use Rattle.pen.proofs.Spelling.{one_alone, some_digits}
+use Rattle.pen.proofs.putting.put_answer.Goals as goal
+
+pub bounds-out-at : goal.bounds-out-at
+bounds-out-at c = omega (arith, c.requires, some_digits c.args.answer)
+
+pub returns-then-answer-lt10 : goal.returns-then-answer-lt10
+returns-then-answer-lt10 c =
+    let a = c.args in
+    let one = one_alone a.answer c.if-answer-lt10.true in
+    record {
+      ends = omega (arith, ap length one);
+      stands = sets-eq ((48 + a.answer) ∷ []) a.out.now a.at (omega (arith, c.requires, ap length one)) ∙ ap (over a.out.now a.at) (sym one);
+    }
