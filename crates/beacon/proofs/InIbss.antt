@@ -108,6 +108,9 @@ module _ (b : ℕ) where
 
   one_sound : (n : ℕ) (es : Elements) (t : Told) (d : Dfs) → OneDfs d es → says (takes_in_ibss b) n es (tells_in_ibss t absent) ≡ besides (is d) (says (takes b) n es t)
   unfolding says OneDfs
+  one_sound n end t d x' = elim x' [ ]
+  one_sound n (cut_header _) t d x3 = elim x3 [ ]
+  one_sound n (cut_contents _) t d x4 = elim x4 [ ]
   one_sound n (more id c es) t d (inl h) =
       ap (λ (o : Outcome ToldInIbss). and_then (placed_at n o) (says (takes_in_ibss b) (past_element n c) es)) (dfs_taken id c (tells_in_ibss t absent) h.0 ∙ first_taken c t d h.1)
       ∙ none_sound (past_element n c) es t (is d) h.2

@@ -1,6 +1,6 @@
 -- `put_told` meets its contract: the digits are counted up, and the line is put after those before it.
 -- Assumes nothing.
-use Rattle.std.proofs.Common.{arith, refl, rules, ◌+◌}
+use Rattle.std.proofs.Common.{arith, refl, ◌+◌}
 use Rattle.pen.proofs.put_told.Goals as goal
 
 pub count_up-from-requires : goal.count_up-from-requires

@@ -1,11 +1,8 @@
-use Rattle.std.proofs.Common.{List, arith, length, length-set, rules, sym, ℕ, ◌+◌, ◌-◌, ◌<◌, ◌∙◌, ◌≡◌, ◌≤◌}
-use Rattle.octets.specs.Writing.{over}
-use Rattle.pen.specs.Decimals.{decimal}
+-- The nines that were passed are zeros, and the rest of the room is as it was.
+use Rattle.std.proofs.Common.{List, length, ℕ, ◌<◌, ◌≡◌}
 use Rattle.pen.specs.Numerals.{numeral_end, numeral_room, Spells}
-use Rattle.pen.proofs.CountingUp.{Counting, counting_begins, begun, digit_low, counted, carried, grown}
-use Rattle.pen.proofs.InNumeral.{placed_digits}
-use Rattle.pen.proofs.OnlyDigits.{Around, nothing_changed, one_changed, one_wider, only_digits}
-use Rattle.pen.proofs.Spelling.{few_digits}
+use Rattle.pen.proofs.CountingUp.{Counting}
+use Rattle.pen.proofs.OnlyDigits.{Around}
 use Rattle.pen.proofs.numeral.count_up.Given as goal
 
 -- of whatever number the digits say

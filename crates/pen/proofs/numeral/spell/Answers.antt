@@ -1,13 +1,12 @@
--- `spell` meets its contract. The invariant: the digits that are done stand at the end, and the rest of the room is as it was.
+-- `spell` meets its contract.
 -- Assumes nothing.
-use Rattle.std.proofs.Common.{List, [], ap, arith, drop, length, length-set, rules, set, sym, take, ℕ, ◌%◌, ◌+◌, ◌-◌, ◌∙◌, ◌∷◌, ◌≡◌, ◌≤◌}
+use Rattle.std.proofs.Common.{List, [], ap, arith, drop, length-set, set, sym, take, ℕ, ◌%◌, ◌+◌, ◌-◌, ◌∙◌, ◌∷◌, ◌≡◌, ◌≤◌}
 use lib.Seq.{slice_empty}
-use Rattle.pen.specs.Decimals.{decimal}
-use Rattle.pen.specs.Numerals.{numeral_end, numeral_room, Spells}
+use Rattle.pen.specs.Numerals.{numeral_end, Spells}
 use Rattle.pen.proofs.InNumeral.{digit_before}
 use Rattle.pen.proofs.Lengths.{number_short}
 use Rattle.pen.proofs.OnlyDigits.{Around, nothing_changed, one_changed, one_wider, only_digits}
-use Rattle.pen.proofs.Spelling.{Spelled, unspelled, begins, goes_on, ends}
+use Rattle.pen.proofs.Spelling.{unspelled, begins, goes_on, ends}
 use Rattle.pen.proofs.numeral.spell.Invariants.{Inv}
 use Rattle.pen.proofs.numeral.spell.Goals as goal
 
@@ -37,6 +36,9 @@ loop-rest-init c =
       around = nothing_changed _ _;
     }
 
+pub overflow_sub-from : goal.overflow_sub-from
+overflow_sub-from c = (free c.loop-rest.invariant).0
+
 pub bounds-digits-from : goal.bounds-digits-from
 bounds-digits-from c = omega (arith, c.loop-rest.invariant.room, free c.loop-rest.invariant)
 
@@ -56,6 +58,9 @@ loop-rest-preserved c =
       stands = one_more i (48 + l.rest % 10);
       around = no_more i (48 + l.rest % 10);
     }
+
+pub overflow_sub-from-2 : goal.overflow_sub-from-2
+overflow_sub-from-2 c = (free c.loop-rest.invariant).0
 
 pub bounds-digits-from-2 : goal.bounds-digits-from-2
 bounds-digits-from-2 c = omega (arith, c.loop-rest.invariant.room, free c.loop-rest.invariant)

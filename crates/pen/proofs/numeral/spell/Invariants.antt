@@ -1,11 +1,9 @@
-use Rattle.std.proofs.Common.{List, [], ap, arith, drop, length, length-set, rules, set, sym, take, ℕ, ◌%◌, ◌+◌, ◌-◌, ◌∙◌, ◌∷◌, ◌≡◌, ◌≤◌}
-use lib.Seq.{slice_empty}
+-- The digits that are done stand at the end, and the rest of the room is as it was.
+use Rattle.std.proofs.Common.{List, drop, length, take, ℕ, ◌+◌, ◌≡◌, ◌≤◌}
 use Rattle.pen.specs.Decimals.{decimal}
-use Rattle.pen.specs.Numerals.{numeral_end, numeral_room, Spells}
-use Rattle.pen.proofs.InNumeral.{digit_before}
-use Rattle.pen.proofs.Lengths.{number_short}
-use Rattle.pen.proofs.OnlyDigits.{Around, nothing_changed, one_changed, one_wider, only_digits}
-use Rattle.pen.proofs.Spelling.{Spelled, unspelled, begins, goes_on, ends}
+use Rattle.pen.specs.Numerals.{numeral_end, numeral_room}
+use Rattle.pen.proofs.OnlyDigits.{Around}
+use Rattle.pen.proofs.Spelling.{Spelled}
 use Rattle.pen.proofs.numeral.spell.Given as goal
 
 pub record Inv (number : ℕ) (digits₀ digits : List ℕ) (from rest : ℕ) : Type 0 where

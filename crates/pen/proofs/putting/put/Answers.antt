@@ -1,6 +1,6 @@
--- `put` meets its contract: after i turns the first i octets are pasted in.
+-- `put` meets its contract.
 -- Assumes nothing.
-use Rattle.std.proofs.Common.{List, add-one, ap, arith, drop, le_antisymm, length, length-set, refl, rules, take, ◌++◌, ◌+◌, ◌-◌, ◌∙◌, ◌≡◌, ◌≤◌}
+use Rattle.std.proofs.Common.{List, add-one, ap, arith, drop, le_antisymm, length, length-set, refl, take, ◌++◌, ◌+◌, ◌∙◌}
 use lib.Seq.{paste, paste-zero, paste-suc, take-length}
 use Rattle.pen.proofs.putting.put.Goals as goal
 

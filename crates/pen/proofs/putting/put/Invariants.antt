@@ -1,5 +1,6 @@
-use Rattle.std.proofs.Common.{List, add-one, ap, arith, drop, le_antisymm, length, length-set, refl, rules, take, ◌++◌, ◌+◌, ◌-◌, ◌∙◌, ◌≡◌, ◌≤◌}
-use lib.Seq.{paste, paste-zero, paste-suc, take-length}
+-- After i turns the first i octets are pasted in.
+use Rattle.std.proofs.Common.{length, ◌-◌, ◌≡◌, ◌≤◌}
+use lib.Seq.{paste}
 use Rattle.pen.proofs.putting.put.Given as goal
 
 abbrev pub invariant-loop-i : goal.invariant-loop-i

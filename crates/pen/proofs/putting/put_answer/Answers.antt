@@ -1,6 +1,6 @@
 -- `put_answer` meets its contract: one digit is the number itself, more are spelled.
 -- Assumes nothing.
-use Rattle.std.proofs.Common.{[], ap, arith, length, rules, sym, ◌+◌, ◌∙◌, ◌∷◌}
+use Rattle.std.proofs.Common.{[], ap, arith, length, sym, ◌+◌, ◌∙◌, ◌∷◌}
 use lib.Seq.{sets-eq}
 use Rattle.octets.specs.Writing.{over}
 use Rattle.pen.proofs.Spelling.{one_alone, some_digits}

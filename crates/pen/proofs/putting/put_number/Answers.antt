@@ -1,8 +1,8 @@
 -- `put_number` meets its contract: the digits are spelled, and then put.
 -- Assumes nothing.
-use Rattle.std.proofs.Common.{ap, arith, length, rules}
+use Rattle.std.proofs.Common.{ap, arith, length}
 use Rattle.pen.proofs.Following.{put_as}
-use Rattle.pen.proofs.InNumeral.{placed_digits, digits_cut}
+use Rattle.pen.proofs.InNumeral.{digits_cut}
 use Rattle.pen.proofs.putting.put_number.Goals as goal
 
 pub put-requires : goal.put-requires

@@ -1,6 +1,6 @@
 -- `put_offset` meets its contract: none, or a space and the number.
 -- Assumes nothing.
-use Rattle.std.proofs.Common.{[], ap, arith, length, rules, sym, ℕ, ◌+◌, ◌∷◌, ◌≡◌, ◌≤◌}
+use Rattle.std.proofs.Common.{[], ap, arith, length, sym, ℕ, ◌+◌, ◌∷◌, ◌≡◌, ◌≤◌}
 use lib.Seq.{sets-eq}
 use Rattle.answer.specs.declared.Offset.{Offset}
 use Rattle.pen.specs.Decimals.{decimal}

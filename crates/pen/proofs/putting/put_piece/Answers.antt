@@ -1,6 +1,6 @@
 -- `put_piece` meets its contract: each store puts one octet more.
 -- Assumes nothing.
-use Rattle.std.proofs.Common.{arith, length-set, rules}
+use Rattle.std.proofs.Common.{arith, length-set}
 use Rattle.pen.proofs.Pieces.{eight_stored}
 use Rattle.pen.proofs.putting.put_piece.Goals as goal
 
