@@ -89,13 +89,6 @@ module _ (a t : ℕ) (os bytes : List ℕ) (f : Fronts (opening a t ++ os) bytes
   pub lent : (used start : ℕ) → start ≡ pick (eqb used 0) 0 3 → take (3 + length os - start) (drop start bytes) ≡ pick (eqb used 0) (opening a t) [] ++ os
   lent used start e = ap (λ (k : ℕ). take (3 + length os - k) (drop k bytes)) e ∙ lent_by (eqb used 0)
 
-pub start_within : (used start n : ℕ) → start ≡ pick (eqb used 0) 0 3 → start ≤ 3 + n
-start_within used start n e = by (eqb used 0) e
-  where
-    by : (u : Bool) → start ≡ pick u 0 3 → start ≤ 3 + n
-    by true h = omega arith
-    by false h = omega arith
-
 -- ---- the promise
 
 take_min : (n : ℕ) (l : List ℕ) → take (min n (length l)) l ≡ take n l

@@ -188,13 +188,16 @@ pub fn refused(refusal: Refusal) -> Reading
     Reading { answer, report }
 }
 
+// At most so many of Late, Incapable and Refused are set.
+const MOST_FLAGS: u8 = 1;
+
 pub fn read(contents: &[u8]) -> Reading
     ensures { result ≡ report_laid (report_means contents.now) }
 {
     if contents.len() < 3 {
         return refused(Refusal::WrongLength);
     }
-    if 1 < flags_in(contents[1]) {
+    if MOST_FLAGS < flags_in(contents[1]) {
         return refused(Refusal::ForbiddenValue);
     }
     let report = report_in(contents);

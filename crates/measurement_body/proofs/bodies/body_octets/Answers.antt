@@ -1,5 +1,5 @@
 -- `body_octets` meets its contract: the fixed fields, and then the octets of the element.
-use Rattle.std.proofs.Common.{arith, rules}
+use Rattle.std.proofs.Common.{arith}
 use Rattle.measurement_body.proofs.Following.{built}
 use Rattle.measurement_body.proofs.bodies.body_octets.Goals as goal
 

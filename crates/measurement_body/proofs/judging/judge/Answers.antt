@@ -1,5 +1,5 @@
 -- `judge` meets its contract, kind by kind.
-use Rattle.std.proofs.Common.{ap, rules, sym, ◌∙◌}
+use Rattle.std.proofs.Common.{ap, sym, ◌∙◌}
 use Rattle.measurement_body.specs.CodeTerms.Judging.{judgement}
 use Rattle.measurement_body.specs.Kinds.{sort_of}
 use Rattle.measurement_body.specs.declared.kinds.Kind.{Kind}

@@ -1,5 +1,5 @@
 -- `reports::append` meets its contract: what is promised of the element's octets is promised of the report.
-use Rattle.std.proofs.Common.{arith, rules}
+use Rattle.std.proofs.Common.{arith}
 use Rattle.measurement_body.specs.Reports.{report_sort}
 use Rattle.measurement_body.proofs.Following.{part_size, part_short, of_record}
 use Rattle.measurement_body.proofs.reports.append.Goals as goal

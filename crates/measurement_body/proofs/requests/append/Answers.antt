@@ -1,5 +1,5 @@
 -- `requests::append` meets its contract: what is promised of the element's octets is promised of the request.
-use Rattle.std.proofs.Common.{arith, rules}
+use Rattle.std.proofs.Common.{arith}
 use Rattle.measurement_body.specs.Requests.{request_sort}
 use Rattle.measurement_body.proofs.Following.{part_size, part_short, of_record}
 use Rattle.measurement_body.proofs.requests.append.Goals as goal
