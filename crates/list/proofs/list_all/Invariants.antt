@@ -9,7 +9,7 @@ abbrev pub invariant-loop-turns : goal.invariant-loop-turns
 invariant-loop-turns g l = record {
   reached : Reached l.progress;
   fits : Fits l.progress.lister;
-  whole : length l.input % block_size ≡ 0
+  whole : length l.input % block_size ≡ 0;
 }
 
 abbrev pub decreases-loop-turns : goal.decreases-loop-turns
