@@ -1,0 +1,17 @@
+use Rattle.std.proofs.Common.{List, ap, arith, drop, get_or, length, refl, rules, sym, take, ℕ, ◌-◌, ◌/◌, ◌<◌, ◌∙◌, ◌≡◌, ◌≤◌}
+use Rattle.beacon.specs.Beacons.{quiet_limit}
+use Rattle.schedule.specs.declared.Schedule.{Schedule}
+use Rattle.station.specs.CodeTerms.Changing.{overlaid}
+use Rattle.station.specs.Stations.{no_schedule, slotted}
+use Rattle.station.specs.Taking.{schedules_of, latest_end}
+use Rattle.station.proofs.SlotBySlot.{not_yet, all_slots, slot_replaced, counted_here, all_counted}
+use Rattle.station.proofs.replacing.replace.Given as goal
+
+abbrev pub invariant-loop-i : goal.invariant-loop-i
+invariant-loop-i l =
+    (l.i ≤ l.extent.top)
+    × (l.slots ≡ overlaid l.i (slotted (schedules_of (l.clock / l.interval) l.interval (take l.extent.used l.quiets))) l.initial.slots)
+    × (latest_end l.clock l.until (drop l.i (take l.extent.top l.initial.slots)) ≡ latest_end l.clock l.initial.until (take l.extent.top l.initial.slots))
+
+abbrev pub decreases-loop-i : goal.decreases-loop-i
+decreases-loop-i l = l.extent.top - l.i
