@@ -94,7 +94,8 @@ fn scenes<W: Write>(out: &mut W, mut stage: Stage, text: &[u8]) -> io::Result<St
     Ok(Stage { line, ..stage })
 }
 
-// Read by read, to the end of the input. A proved loop has to end, and nothing says that the input does: there are not so many reads.
+// Read by read, to the end of the input.
+// A proved loop has to end, and nothing says that the input does: there are not so many reads.
 pub fn play<R: Read, W: Write>(input: &mut R, out: &mut W) -> io::Result<()> {
     let mut text = [0u8; ROOM];
     let mut stage = fresh(Subject::Station);

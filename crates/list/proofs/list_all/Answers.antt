@@ -16,9 +16,13 @@ pub loop-turns-preserved : goal.loop-turns-preserved
 loop-turns-preserved g c =
     let i = c.loop-turns.invariant in
     let t = c.turn-progress in
-    let on : c.loop-turns.progress.fate ≡ Fate.Going = is_going _ (sym c.goes_on.ensures ∙ c.if-goes_on.true) in
+    let on : c.loop-turns.progress.fate ≡ Fate.Going =
+    is_going _ (sym c.goes_on.ensures ∙ c.if-goes_on.true)
+    in
     let same : length t.new.input ≡ length c.loop-turns.input = search rules in
-    let whole : length t.new.input % block_size ≡ 0 = ap (λ (n : ℕ). n % block_size) same ∙ i.whole in
+    let whole : length t.new.input % block_size ≡ 0 =
+    ap (λ (n : ℕ). n % block_size) same ∙ i.whole
+    in
     record {
       reached = one_turn_more i.reached on whole t.ensures.turned;
       fits = t.ensures.fits;
