@@ -21,9 +21,9 @@ clear_after-clear-requires c = c.note-answered.ensures.follows.sound
 
 pub of-parts-requires : goal.of-parts-requires
 of-parts-requires c = record {
-  sound = c.note-answered.ensures.follows.sound;
-  roomy = c.requires.makes.roomy;
-}
+      sound = c.note-answered.ensures.follows.sound;
+      roomy = c.requires.makes.roomy;
+    }
 
 pub returns : goal.returns
 returns c =
