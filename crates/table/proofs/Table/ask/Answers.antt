@@ -15,6 +15,9 @@ fits : (c : In-At) → c.in-At.at < row_count
 fits c =
     place_fits c.args.self c.requires c.args.own _ (sym c.place_of.ensures ∙ c.in-At.is)
 
+pub offset_bounds-rows-at : goal.offset_bounds-rows-at
+offset_bounds-rows-at c = omega (arith, fits c)
+
 pub bounds-rows-at : goal.bounds-rows-at
 bounds-rows-at c =
     let t = c.args.self in

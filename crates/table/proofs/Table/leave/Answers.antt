@@ -15,6 +15,9 @@ fits : (c : In-At) → c.in-At.place < row_count
 fits c =
     place_fits c.args.self c.requires c.args.own _ (sym c.place_of.ensures ∙ c.in-At.is)
 
+pub offset_bounds-rows-place : goal.offset_bounds-rows-place
+offset_bounds-rows-place c = omega (arith, fits c)
+
 pub bounds-rows-place : goal.bounds-rows-place
 bounds-rows-place c =
     let t = c.args.self in

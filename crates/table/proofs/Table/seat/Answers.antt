@@ -30,6 +30,9 @@ fits : (c : In-At) → c.in-At.place < row_count
 fits c =
     seat_within c.args.self c.args.station c.requires _ (sym (found_at_1 c) ∙ c.in-At.is)
 
+pub offset_bounds-rows-place : goal.offset_bounds-rows-place
+offset_bounds-rows-place c = omega (arith, fits c)
+
 pub bounds-rows-place : goal.bounds-rows-place
 bounds-rows-place c =
     let t = c.args.self in
