@@ -2,13 +2,13 @@
 use mathlib.Core.Path.{◌≡◌, refl, sym, ap, ◌∙◌}
 use mathlib.Core.Bool.{Bool, true, false}
 use mathlib.Core.List.{List, [], ◌∷◌, ◌++◌}
-use mathlib.Core.Logic.{◌⊎◌, inl, inr, ⊎_elim}
-use Prim.Native.Nat.{ℕ, ◌+◌, ◌<◌, ◌≤◌}
+use mathlib.Core.Logic.{◌⊎◌, ⊎_elim}
+use Prim.Native.Nat.{ℕ, ◌<◌, ◌≤◌}
 use native.Mathlib.Omega.{arith}
 use borrow.Author.Tests.{eqb-true}
 use lib.Dec.{eqb}
-use lib.ListN.{length, drop, length-append}
-use Rattle.answer.proofs.Booleans.{clash, either}
+use lib.ListN.{length, drop}
+use Rattle.answer.proofs.Booleans.{clash}
 use Rattle.answer.specs.Checks.{pick}
 use Rattle.octets.specs.Elements.{element}
 use Rattle.walk.specs.CodeTerms.Next.{standing, next_after}
@@ -16,7 +16,7 @@ use Rattle.walk.specs.Elements.{Elements, elements_in, past_element}
 use Rattle.walk.specs.Elements as Raw
 use Rattle.walk.specs.Handed.{Handed, end, cut_header, cut_contents, more, passed, cut_passed, vendor_id, passing, handing, passing_in, handed_in}
 use Rattle.walk.specs.declared.Next.{Next}
-use Rattle.walk.proofs.RunLaws.{front, none, split, empty, Lying, lying}
+use Rattle.walk.proofs.RunLaws.{front, none, split, empty, lying}
 
 -- ---- an element's octets in front of others
 

@@ -1,6 +1,6 @@
 -- `judge` meets its contract: each way out is a way through the tests.
 -- Assumes nothing.
-use Rattle.std.proofs.Common.{ap, arith, rules, sym, ℕ, ◌%◌, ◌+◌, ◌∙◌, ◌≡◌}
+use Rattle.std.proofs.Common.{ap, arith, sym, ℕ, ◌%◌, ◌+◌, ◌∙◌, ◌≡◌}
 use Rattle.octets.specs.Numbers.{number}
 use Rattle.block.specs.Blocks.{check_of}
 use Rattle.block.specs.declared.Block.{Block}

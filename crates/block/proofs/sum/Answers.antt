@@ -1,6 +1,6 @@
 -- `sum` meets its contract. The invariant: the total is the sum of the first i octets, each at most 255.
 -- Assumes nothing.
-use Rattle.std.proofs.Common.{ap, arith, get_or, le_antisymm, refl, rules, sym, take, ℕ, ◌*◌, ◌+◌, ◌-◌, ◌∙◌, ◌≡◌, ◌≤◌}
+use Rattle.std.proofs.Common.{ap, arith, get_or, le_antisymm, refl, sym, take, ℕ, ◌+◌, ◌∙◌, ◌≡◌}
 use Rattle.octets.proofs.SumLaws.{sum_more}
 use Rattle.octets.specs.Sums.{sum_of}
 use Rattle.block.proofs.sum.Goals as goal

@@ -1,5 +1,4 @@
-use Rattle.std.proofs.Common.{ap, arith, get_or, le_antisymm, refl, rules, sym, take, ℕ, ◌*◌, ◌+◌, ◌-◌, ◌∙◌, ◌≡◌, ◌≤◌}
-use Rattle.octets.proofs.SumLaws.{sum_more}
+use Rattle.std.proofs.Common.{take, ◌*◌, ◌-◌, ◌≡◌, ◌≤◌}
 use Rattle.octets.specs.Sums.{sum_of}
 use Rattle.block.proofs.sum.Given as goal
 

@@ -1,6 +1,6 @@
 -- `record_at` meets its contract: each way out is one of the ways in which the used part goes on.
 -- Assumes nothing.
-use Rattle.std.proofs.Common.{arith, rules}
+use Rattle.std.proofs.Common.{arith}
 use Rattle.capture_record.proofs.Walking.{at_end, at_cut_head, at_cut_contents, at_whole}
 use Rattle.capture_record.proofs.record_at.Goals as goal
 

@@ -1,5 +1,5 @@
 -- `centre` meets its contract: refused over the highest channel, else worked out as the definition says. Assumes nothing.
-use Rattle.std.proofs.Common.{le-ltb, lt-ltb, rules}
+use Rattle.std.proofs.Common.{le-ltb, lt-ltb}
 use Rattle.answer.specs.Checks.{checked}
 use Rattle.channel.specs.Centres.{centre_of}
 use Rattle.channel.proofs.centre.Goals as goal

@@ -1,5 +1,5 @@
 -- `busy_fraction` meets its contract: what is possible has its share, and the rest is refused.
-use Rattle.std.proofs.Common.{ap, rules}
+use Rattle.std.proofs.Common.{ap}
 use Rattle.answer.specs.Checks.{accepted, checked}
 use Rattle.fraction.specs.Fractions.{busy_of}
 use Rattle.fraction.proofs.Possible.{within}

@@ -1,5 +1,5 @@
 -- `is_possible` meets its contract: the two tests are those of the definition.
-use Rattle.std.proofs.Common.{ne_eqb, rules}
+use Rattle.std.proofs.Common.{ne_eqb}
 use Rattle.fraction.specs.Fractions.{possible}
 use Rattle.fraction.proofs.is_possible.Goals as goal
 

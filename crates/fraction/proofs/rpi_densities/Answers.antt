@@ -1,5 +1,5 @@
 -- `rpi_densities` meets its contract: after i turns the first i values are the fractions of the first i times, and no time is over the sum.
-use Rattle.std.proofs.Common.{arith, le_trans, length, length-set, map, refl, rules, take, ◌*◌, ◌-◌, ◌<◌, ◌≡◌, ◌≤◌}
+use Rattle.std.proofs.Common.{arith, le_trans, length, length-set, refl, rules, ◌*◌, ◌<◌, ◌≡◌, ◌≤◌}
 use Rattle.answer.specs.Checks.{checked}
 use Rattle.octets.specs.Sums.{sum_of}
 use Rattle.octets.proofs.SumLaws.{entry_in_sum}

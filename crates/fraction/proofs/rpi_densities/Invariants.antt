@@ -1,11 +1,5 @@
-use Rattle.std.proofs.Common.{arith, le_trans, length, length-set, map, refl, rules, take, ◌*◌, ◌-◌, ◌<◌, ◌≡◌, ◌≤◌}
-use Rattle.answer.specs.Checks.{checked}
-use Rattle.octets.specs.Sums.{sum_of}
-use Rattle.octets.proofs.SumLaws.{entry_in_sum}
-use Rattle.fraction.specs.Fractions.{fraction_of, densities_of}
-use Rattle.fraction.proofs.Filling.{filled_more, filled_all}
-use Rattle.fraction.proofs.Possible.{within}
-use Rattle.fraction.proofs.SumBound.{sum_of_eight}
+use Rattle.std.proofs.Common.{length, map, take, ◌-◌, ◌≡◌, ◌≤◌}
+use Rattle.fraction.specs.Fractions.{fraction_of}
 use Rattle.fraction.proofs.rpi_densities.Given as goal
 
 abbrev pub invariant-loop-i : goal.invariant-loop-i

@@ -1,5 +1,5 @@
 -- `total` meets its contract: after i turns it has the sum of the first i times, each below 2 ^ 32.
-use Rattle.std.proofs.Common.{Fits, ap, arith, get_or, length, rules, take, take_all, w32, ◌*◌, ◌-◌, ◌∙◌, ◌≡◌, ◌≤◌}
+use Rattle.std.proofs.Common.{Fits, ap, arith, get_or, length, rules, take_all, w32, ◌∙◌, ◌≡◌}
 use Rattle.octets.specs.Sums.{sum_of}
 use Rattle.octets.proofs.SumLaws.{sum_more}
 use Rattle.fraction.proofs.total.Goals as goal

@@ -1,6 +1,5 @@
-use Rattle.std.proofs.Common.{Fits, ap, arith, get_or, length, rules, take, take_all, w32, ◌*◌, ◌-◌, ◌∙◌, ◌≡◌, ◌≤◌}
+use Rattle.std.proofs.Common.{take, ◌*◌, ◌-◌, ◌≡◌, ◌≤◌}
 use Rattle.octets.specs.Sums.{sum_of}
-use Rattle.octets.proofs.SumLaws.{sum_more}
 use Rattle.fraction.proofs.total.Given as goal
 
 abbrev pub invariant-loop-i : goal.invariant-loop-i

@@ -1,5 +1,5 @@
 -- `read` meets its contract: the one check after the other.
-use Rattle.std.proofs.Common.{Bool, List, ap, rules, sym, ℕ, ◌∙◌, ◌≡◌}
+use Rattle.std.proofs.Common.{Bool, List, ap, sym, ℕ, ◌∙◌, ◌≡◌}
 use Rattle.answer.specs.Checks.{Outcome, refused, accepted, and_then}
 use Rattle.answer.specs.declared.Refusal.{Refusal}
 use Rattle.header.specs.Headers.{address_means, address_told, management_means, management_told, header_means}

@@ -1,5 +1,5 @@
 -- `element_at` meets its contract: each way out is one of the ways in which a run goes on.
-use Rattle.std.proofs.Common.{arith, rules}
+use Rattle.std.proofs.Common.{arith}
 use Rattle.walk.proofs.Walking.{at_end, at_cut_header, at_cut_contents, at_whole}
 use Rattle.walk.proofs.element_at.Goals as goal
 

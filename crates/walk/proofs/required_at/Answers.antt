@@ -1,5 +1,5 @@
 -- `required_at` meets its contract: each case of what stands at the place is a case of `required`.
-use Rattle.std.proofs.Common.{ap, drop, eq-eqb, length, ne_eqb, not, refl, rules, subst, sym, ◌∙◌, ◌≡◌}
+use Rattle.std.proofs.Common.{ap, drop, eq-eqb, length, ne_eqb, not, refl, subst, sym, ◌∙◌, ◌≡◌}
 use Rattle.answer.proofs.Judged.{past, stop, done, through}
 use Rattle.walk.specs.CodeTerms.Found.{follow, Within}
 use Rattle.walk.specs.Elements.{Elements}

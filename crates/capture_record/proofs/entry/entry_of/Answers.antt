@@ -1,6 +1,6 @@
 -- `entry_of` meets its contract: each way out is a way through kinds and lengths.
 -- Assumes nothing.
-use Rattle.std.proofs.Common.{ap, rules, ◌∙◌}
+use Rattle.std.proofs.Common.{ap, ◌∙◌}
 use Rattle.capture_record.specs.Entries.{advancing, asking}
 use Rattle.capture_record.proofs.Noting.{is_frame, is_start, bad_start_lem, bad_length, is_advance, is_ask, unknown}
 use Rattle.capture_record.proofs.entry.entry_of.Goals as goal

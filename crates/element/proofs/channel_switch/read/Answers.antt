@@ -1,5 +1,5 @@
 -- `channel_switch::read` meets its contract: an element of one length.
-use Rattle.std.proofs.Common.{rules, sym, ◌∙◌}
+use Rattle.std.proofs.Common.{sym, ◌∙◌}
 use Rattle.element.proofs.FixedLength.{misfit, forbidden, good}
 use Rattle.element.specs.ChannelSwitch.{switch_in, switch_forbids, switch_means}
 use Rattle.element.proofs.channel_switch.read.Goals as goal

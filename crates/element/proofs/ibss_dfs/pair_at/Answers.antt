@@ -1,6 +1,6 @@
 -- `pair_at` meets its contract: 16 past the last pair.
 -- Assumes nothing.
-use Rattle.std.proofs.Common.{arith, rules}
+use Rattle.std.proofs.Common.{arith}
 use Rattle.element.proofs.DfsContents.{no_pair, a_pair}
 use Rattle.element.proofs.ibss_dfs.pair_at.Goals as goal
 

@@ -1,6 +1,6 @@
 -- `ibss_dfs::read` meets its contract: the length, then the values.
 -- Assumes nothing.
-use Rattle.std.proofs.Common.{List, ap, arith, length, length-drop, rules, sym, true, ℕ, ◌/◌, ◌∙◌, ◌≡◌}
+use Rattle.std.proofs.Common.{List, ap, arith, length, length-drop, sym, true, ℕ, ◌/◌, ◌∙◌, ◌≡◌}
 use Rattle.answer.specs.declared.Answer.{Answer}
 use Rattle.octets.specs.Numbers.{octet, octets_from}
 use Rattle.element.specs.IbssDfs.{dfs_length, dfs_laid}

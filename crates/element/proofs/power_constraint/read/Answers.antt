@@ -1,5 +1,5 @@
 -- `power_constraint::read` meets its contract: an element of one length.
-use Rattle.std.proofs.Common.{false, refl, rules}
+use Rattle.std.proofs.Common.{false, refl}
 use Rattle.element.proofs.FixedLength.{misfit, good}
 use Rattle.element.specs.PowerConstraint.{power_in, power_means}
 use Rattle.element.proofs.power_constraint.read.Goals as goal

@@ -1,5 +1,4 @@
 -- `power_constraint::write` meets its contract: the octets are the array's.
-use Rattle.std.proofs.Common.{rules}
 use Rattle.element.specs.PowerConstraint.{power_octets}
 use Rattle.element.proofs.power_constraint.write.Goals as goal
 

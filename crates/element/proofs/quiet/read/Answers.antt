@@ -1,5 +1,5 @@
 -- `quiet::read` meets its contract: an element of one length, whose record is the one that was built.
-use Rattle.std.proofs.Common.{rules, sym, ◌∙◌, ◌≡◌}
+use Rattle.std.proofs.Common.{sym, ◌∙◌, ◌≡◌}
 use Rattle.element.proofs.FixedLength.{misfit, forbidden, good}
 use Rattle.element.specs.Quiet.{quiet_in, quiet_forbids, quiet_means}
 use Rattle.element.proofs.quiet.read.Goals as goal

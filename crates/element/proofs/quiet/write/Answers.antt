@@ -1,5 +1,5 @@
 -- `quiet::write` meets its contract: the octets are the array's.
-use Rattle.std.proofs.Common.{ap, not, rules}
+use Rattle.std.proofs.Common.{ap, not}
 use Rattle.octets.proofs.Overwriting.{written_as}
 use Rattle.element.specs.Quiet.{quiet_octets}
 use Rattle.element.proofs.quiet.write.Goals as goal

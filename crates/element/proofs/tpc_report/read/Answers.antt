@@ -1,5 +1,5 @@
 -- `tpc_report::read` meets its contract: an element of one length.
-use Rattle.std.proofs.Common.{false, refl, rules, to_z-of_z, w8, ◌∙◌}
+use Rattle.std.proofs.Common.{false, refl, to_z-of_z, w8, ◌∙◌}
 use Rattle.element.proofs.FixedLength.{misfit, good}
 use Rattle.element.specs.TpcReport.{tpc_report_in, tpc_report_means}
 use Rattle.element.proofs.tpc_report.read.Goals as goal

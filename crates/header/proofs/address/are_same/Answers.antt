@@ -1,7 +1,6 @@
 -- `are_same` meets its contract: the octets before the place agree.
 -- Assumes nothing.
-use Rattle.std.proofs.Common.{arith, drop, length, refl, rules, sym, ◌-◌, ◌∙◌, ◌≡◌, ◌≤◌}
-use Rattle.header.specs.Headers.{same}
+use Rattle.std.proofs.Common.{arith, length, refl, rules, sym, ◌∙◌, ◌≡◌}
 use Rattle.header.proofs.SameAddresses.{differs, agrees, all_agree}
 use Rattle.header.proofs.address.are_same.Goals as goal
 use Rattle.header.proofs.address.are_same.Goals.{At-loop-i}

@@ -1,6 +1,5 @@
-use Rattle.std.proofs.Common.{arith, drop, length, refl, rules, sym, ◌-◌, ◌∙◌, ◌≡◌, ◌≤◌}
+use Rattle.std.proofs.Common.{drop, ◌-◌, ◌≡◌, ◌≤◌}
 use Rattle.header.specs.Headers.{same}
-use Rattle.header.proofs.SameAddresses.{differs, agrees, all_agree}
 use Rattle.header.proofs.address.are_same.Given as goal
 
 abbrev pub invariant-loop-i : goal.invariant-loop-i

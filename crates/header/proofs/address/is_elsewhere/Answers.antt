@@ -1,5 +1,5 @@
 -- `is_elsewhere` meets its contract: the same tests, in their order.
-use Rattle.std.proofs.Common.{ap, not, rules, sym, ◌||◌, ◌∙◌, ◌≡◌}
+use Rattle.std.proofs.Common.{ap, not, sym, ◌||◌, ◌∙◌, ◌≡◌}
 use borrow.Author.Tests.{not-true, not-false}
 use Rattle.answer.proofs.Booleans.{or_go, or_stop}
 use Rattle.header.specs.Headers.{same, da, bssid, to_all, foreign_address}

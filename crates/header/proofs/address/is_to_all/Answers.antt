@@ -1,5 +1,5 @@
 -- `is_to_all` meets its contract: two octets, then the next two, then the last.
-use Rattle.std.proofs.Common.{rules, sym, ◌&&◌, ◌∙◌, ◌≡◌}
+use Rattle.std.proofs.Common.{sym, ◌&&◌, ◌∙◌, ◌≡◌}
 use borrow.Author.Tests.{not-true, not-false}
 use Rattle.answer.proofs.Booleans.{and_go, and_stop}
 use Rattle.header.specs.Headers.{to_all}

@@ -1,5 +1,5 @@
 -- `read_address` meets its contract: the one check, then whom the frame was sent to.
-use Rattle.std.proofs.Common.{ap, rules, sym, ◌∙◌}
+use Rattle.std.proofs.Common.{ap, sym, ◌∙◌}
 use Rattle.answer.specs.Checks.{accepted}
 use Rattle.answer.proofs.Judged.{past, stop, done}
 use Rattle.header.specs.Headers.{address_means}

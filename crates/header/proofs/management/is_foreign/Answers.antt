@@ -1,5 +1,5 @@
 -- `is_foreign` meets its contract: the same tests, in their order.
-use Rattle.std.proofs.Common.{ap, eq-eqb, eqb, ne_eqb, not, rules, sym, ℕ, ◌%◌, ◌/◌, ◌||◌, ◌∙◌, ◌≡◌}
+use Rattle.std.proofs.Common.{ap, eq-eqb, eqb, ne_eqb, not, sym, ℕ, ◌%◌, ◌/◌, ◌||◌, ◌∙◌, ◌≡◌}
 use borrow.Author.Tests.{not-true, not-false}
 use Rattle.answer.proofs.Booleans.{or_go, or_stop}
 use Rattle.header.specs.Headers.{is_read, type, subtype, flags, fragment, has_foreign_flag, foreign_header}

@@ -1,5 +1,5 @@
 -- `read_management` meets its contract: each way out is a way through the list of checks.
-use Rattle.std.proofs.Common.{ap, le-ltb, lt-ltb, rules, sym, ℕ, ◌/◌, ◌∙◌}
+use Rattle.std.proofs.Common.{ap, le-ltb, lt-ltb, sym, ℕ, ◌/◌, ◌∙◌}
 use Rattle.answer.specs.Checks.{accepted}
 use Rattle.answer.proofs.Judged.{past, stop, done}
 use Rattle.header.specs.Headers.{subtype_of, management_means}
