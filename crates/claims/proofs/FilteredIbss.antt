@@ -28,6 +28,7 @@ none_of (x ∷ xs) h = simp (ne_eqb x.id 41 h.0) (none_of xs h.1)
 
 one_of : (d : Dfs) (xs : List Item) → OneDfs d (walked_as xs end) → ReadAs dfs_means (of_id 41 xs) (d ∷ [])
 unfolding OneDfs walked_as of_id
+one_of d [] h = elim h [ ]
 one_of d (x ∷ xs) (inl h) =
     simp (eq-eqb x.id 41 h.0)
     (ap₂ (λ (o : Outcome Dfs) (os : List (Outcome Dfs)). o ∷ os) h.1 (ap (map (λ (x : Item). dfs_means x.contents)) (none_of xs h.2)))

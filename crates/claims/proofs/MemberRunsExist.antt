@@ -7,10 +7,10 @@ use borrow.Fn.Kinds.{ended_of}
 use denote.Triple.Clauses.{at_exit}
 use Rattle.answer.specs.Checks.{Outcome}
 use Rattle.capture_record.specs.declared.entry.Settings.{Settings}
-use Rattle.member.specs.contracts.Member.advance as Advance
+use Rattle.member.proofs.Member.advance as Advance
 use Rattle.member.proofs.Member.ask as Ask
-use Rattle.member.specs.contracts.Member.start as Start
-use Rattle.member.specs.contracts.Member.take as Take
+use Rattle.member.proofs.Member.start as Start
+use Rattle.member.proofs.Member.take as Take
 use Rattle.member.specs.Members.{member_started, take_of, advance_of, start_of}
 use Rattle.member.specs.Validity.{ValidMember}
 use Rattle.member.specs.declared.Member.{Member}

@@ -9,8 +9,8 @@ use Rattle.block.proofs.end_after as EndAfter
 use Rattle.block.proofs.judge as Judge
 use Rattle.pen.proofs.closing as Closing
 use Rattle.capture.proofs.lister.Lister.closing as ListerClosing
-use Rattle.capture.specs.contracts.lister.Lister.feed as FeedBlock
-use Rattle.capture.specs.contracts.lister.Lister.feed_all as FeedAll
+use Rattle.capture.proofs.lister.Lister.feed as FeedBlock
+use Rattle.capture.proofs.lister.Lister.feed_all as FeedAll
 use Rattle.capture.proofs.lister.Lister.fresh as Fresh
 use Rattle.capture_record.proofs.entry_of as EntryOf
 use Rattle.capture_record.proofs.settings_in as SettingsIn
@@ -19,7 +19,7 @@ use Rattle.capture_record.specs.Entries.{Noted, malformed, starting, advancing, 
 use Rattle.capture_record.specs.CodeTerms.Found.{follow, Within}
 use Rattle.capture_record.specs.declared.Found.{Found}
 use Rattle.capture_record.specs.declared.entry.Entry.{Entry}
-use Rattle.station.specs.contracts.Station.nobody as Nobody
+use Rattle.station.proofs.Station.nobody as Nobody
 use Rattle.answer.specs.Outcomes.{OneResult, OneOutcome}
 use Rattle.claims.proofs.OneOutcomeWalk.{long}
 use Rattle.claims.proofs.Same.{once, told_once}

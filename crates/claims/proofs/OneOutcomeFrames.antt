@@ -17,7 +17,7 @@ use Rattle.action.specs.Openings.{Opens, switching, with, opening_told}
 use Rattle.action.specs.declared.Opening.{Opening}
 use Rattle.answer.specs.Checks.{Outcome, refused, accepted}
 use Rattle.answer.specs.Faults.{Placed}
-use Rattle.beacon.specs.contracts.MaybePower.to_octets as PowerToOctets
+use Rattle.beacon.proofs.MaybePower.to_octets as PowerToOctets
 use Rattle.beacon.proofs.read as BeaconRead
 use Rattle.measurement_element.specs.MeasurementRequest.{request_told}
 use Rattle.measurement_element.specs.declared.measurement_request.Reading as RequestReading

@@ -1,9 +1,9 @@
 -- Each promise of a station of an IBSS leaves one outcome. Assumes nothing.
 use Rattle.answer.specs.Outcomes.{OneResult}
-use Rattle.member.specs.contracts.Member.advance as Advance
+use Rattle.member.proofs.Member.advance as Advance
 use Rattle.member.proofs.Member.ask as Ask
-use Rattle.member.specs.contracts.Member.start as Start
-use Rattle.member.specs.contracts.Member.take as Take
+use Rattle.member.proofs.Member.start as Start
+use Rattle.member.proofs.Member.take as Take
 use Rattle.claims.proofs.Same.{once}
 
 pub member_start : OneResult 0 Start.Kinds.ps Start.Kinds.r Start.Reads.Post

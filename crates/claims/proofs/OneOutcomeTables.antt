@@ -23,14 +23,14 @@ use Rattle.row.specs.contracts.tick as TickRows
 use Rattle.row.proofs.tick_all as TickAll
 use Rattle.row.specs.Rows.{ValidRows, ticked}
 use Rattle.table.proofs.asking.Asked.number as Number
-use Rattle.table.specs.contracts.Table.ask as Ask
-use Rattle.table.specs.contracts.Table.join as Join
-use Rattle.table.specs.contracts.Table.leave as Leave
-use Rattle.table.specs.contracts.Table.reply_to_measurement_request as Measurement
-use Rattle.table.specs.contracts.Table.reply_to_tpc_request as Tpc
-use Rattle.table.specs.contracts.Table.start as Start
-use Rattle.table.specs.contracts.Table.take as Take
-use Rattle.table.specs.contracts.Table.tick as Tick
+use Rattle.table.proofs.Table.ask as Ask
+use Rattle.table.proofs.Table.join as Join
+use Rattle.table.proofs.Table.leave as Leave
+use Rattle.table.proofs.Table.reply_to_measurement_request as Measurement
+use Rattle.table.proofs.Table.reply_to_tpc_request as Tpc
+use Rattle.table.proofs.Table.start as Start
+use Rattle.table.proofs.Table.take as Take
+use Rattle.table.proofs.Table.tick as Tick
 use Rattle.table.specs.Tables.{asked_told}
 use Rattle.claims.proofs.Replies.{replied_once}
 use Rattle.claims.proofs.Same.{once, told_once}

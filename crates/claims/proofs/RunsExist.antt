@@ -11,7 +11,7 @@ use types.Logic.{Logic}
 use contract.Monad.{Fun}
 use borrow.Author.Tests.{le-ltb}
 use borrow.Fn.Kinds.{ended_of}
-use denote.Ref.{Bor}
+use denote.Ref.{Bor, MutBor}
 use denote.Triple.Clauses.{at_exit}
 use lib.Dec.{ltb}
 use lib.ListN.{length}
@@ -19,10 +19,10 @@ use Rattle.answer.specs.Checks.{Outcome, refused, accepted, pick, checked, and_t
 use Rattle.answer.specs.Faults.{nowhere, verdict_of}
 use Rattle.answer.specs.declared.Refusal.{Refusal}
 use Rattle.capture_record.specs.declared.entry.Settings.{Settings}
-use Rattle.station.specs.contracts.Station.advance as Advance
-use Rattle.station.specs.contracts.Station.ask as Ask
-use Rattle.station.specs.contracts.Station.start as Start
-use Rattle.station.specs.contracts.Station.take as Take
+use Rattle.station.proofs.Station.advance as Advance
+use Rattle.station.proofs.Station.ask as Ask
+use Rattle.station.proofs.Station.start as Start
+use Rattle.station.proofs.Station.take as Take
 use Rattle.station.specs.Asking.{permission_of}
 use Rattle.station.specs.Clock.{advance_means, advance_of}
 use Rattle.station.specs.Starting.{start_forbids, started, start_means}
@@ -89,6 +89,10 @@ module _ {ℓ} {Settings Kept Call Said : Type 0} {engine : Engine {ℓ} Setting
 -- what is lent, at some place
 abbrev pub lent : {X : Type 0} → X → Bor X
 lent x = record { ref_ptr = (0, 0); now = x }
+
+-- what is lent to be changed, at some place
+abbrev pub lent_mut : {X : Type 0} → X → MutBor X
+lent_mut x = record { ref_ptr = (0, 0); ghost_name = 0; now = x }
 
 -- ---- document 01's station
 
@@ -158,9 +162,9 @@ record_can os r h (frame f) octets =
       next,
       RecordDoes.takes octets (
         ([], ([], tt)),
-        (lent os, (lent f, tt)),
+        (lent_mut os, (lent f, tt)),
         verdict_of (taken_in f os),
-        at_exit (ended_of 2 RecordTake.Kinds.ps RecordTake.Kinds.r) ([], ([], tt)) (lent os, (lent f, tt)) (next, (tt, tt)),
+        at_exit (ended_of 2 RecordTake.Kinds.ps RecordTake.Kinds.r) ([], ([], tt)) (lent_mut os, (lent f, tt)) (next, (tt, tt)),
         (refl, refl),
         (refl, refl, ap (λ (o : Outcome Station). verdict_of (and_then (nowhere o) (λ y. take_means y f))) h.held ∙ take_said r f, refl),
       ),
@@ -170,9 +174,9 @@ record_can os r h (advance n) such =
       next,
       RecordDoes.advances (
         ([], tt),
-        (lent os, (n, tt)),
+        (lent_mut os, (n, tt)),
         answer_of (advanced_in n os),
-        at_exit (ended_of 1 RecordAdvance.Kinds.ps RecordAdvance.Kinds.r) ([], tt) (lent os, (n, tt)) (next, (tt, tt)),
+        at_exit (ended_of 1 RecordAdvance.Kinds.ps RecordAdvance.Kinds.r) ([], tt) (lent_mut os, (n, tt)) (next, (tt, tt)),
         (refl, refl),
         (refl, refl, ap (λ (o : Outcome Station). answer_of (and_then o (λ y. advance_means y n))) h.held ∙ advance_said r n, refl),
       ),
@@ -203,9 +207,9 @@ module _ (s : Settings) (may : start_forbids s.own s.ap s.interval s.channel ≡
   unfolding laid
   record_starts_can = (
     ([], tt),
-    (s.own, (s.ap, (s.interval, (s.channel, (lent entry, tt))))),
+    (s.own, (s.ap, (s.interval, (s.channel, (lent_mut entry, tt))))),
     answer_of laid,
-    at_exit (ended_of 1 RecordStart.Kinds.ps RecordStart.Kinds.r) ([], tt) (s.own, (s.ap, (s.interval, (s.channel, (lent entry, tt))))) (tt, (tt, (tt, (tt, (relaid entry laid, tt))))),
+    at_exit (ended_of 1 RecordStart.Kinds.ps RecordStart.Kinds.r) ([], tt) (s.own, (s.ap, (s.interval, (s.channel, (lent_mut entry, tt))))) (tt, (tt, (tt, (tt, (relaid entry laid, tt))))),
     (refl, refl),
     (refl, refl, refl, refl, ap answer_of lays, refl),
   )

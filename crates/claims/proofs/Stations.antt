@@ -16,13 +16,13 @@ use Rattle.pending.proofs.Pending.comes_before as ComesBefore
 use Rattle.pending.proofs.Pending.set_by as PendingSetBy
 use Rattle.pending.proofs.Pending.silences as Silences
 use Rattle.pending.proofs.Pending.up_to as UpTo
-use Rattle.station.specs.contracts.Station.advance as Advance
-use Rattle.station.specs.contracts.Station.ask as Ask
-use Rattle.station.specs.contracts.Station.clear_until as ClearUntil
-use Rattle.station.specs.contracts.Station.heard as Heard
-use Rattle.station.specs.contracts.Station.is_bad_start as IsBadStart
-use Rattle.station.specs.contracts.Station.start as Start
-use Rattle.station.specs.contracts.Station.take as Take
+use Rattle.station.proofs.Station.advance as Advance
+use Rattle.station.proofs.Station.ask as Ask
+use Rattle.station.proofs.Station.clear_until as ClearUntil
+use Rattle.station.proofs.Station.heard as Heard
+use Rattle.station.proofs.Station.is_bad_start as IsBadStart
+use Rattle.station.proofs.Station.start as Start
+use Rattle.station.proofs.Station.take as Take
 use Rattle.station.proofs.asking.Permission.number as PermissionNumber
 use Rattle.station.proofs.advance_clock as AdvanceClock
 use Rattle.station.specs.Clock.{stepped, advance_means}

@@ -10,21 +10,21 @@ use Rattle.octets.specs.Writing.{wrote_told, wrote}
 use Rattle.reply.specs.Replies.{left_by, Replied}
 use Rattle.station.specs.declared.asking.Permission.{Permission}
 use Rattle.table.proofs.StaysValid.{valid_empty}
-use Rattle.table.specs.contracts.Table.ask as Ask
-use Rattle.table.specs.contracts.Table.join as Join
-use Rattle.table.specs.contracts.Table.leave as Leave
-use Rattle.table.specs.contracts.Table.reply_to_measurement_request as Measurement
-use Rattle.table.specs.contracts.Table.reply_to_tpc_request as Tpc
-use Rattle.table.specs.contracts.Table.start as Start
-use Rattle.table.specs.contracts.Table.take as Take
-use Rattle.table.specs.contracts.Table.tick as Tick
+use Rattle.table.proofs.Table.ask as Ask
+use Rattle.table.proofs.Table.join as Join
+use Rattle.table.proofs.Table.leave as Leave
+use Rattle.table.proofs.Table.reply_to_measurement_request as Measurement
+use Rattle.table.proofs.Table.reply_to_tpc_request as Tpc
+use Rattle.table.proofs.Table.start as Start
+use Rattle.table.proofs.Table.take as Take
+use Rattle.table.proofs.Table.tick as Tick
 use Rattle.table.specs.Replies.{tpc_reply_of, measurement_reply_of}
 use Rattle.table.specs.Tables.{empty, started, start_forbids, start_means, join_of, leave_of, tick_of, take_of, ask_means, asked_told}
 use Rattle.table.specs.Validity.{ValidTable}
 use Rattle.table.specs.declared.Table.{Table}
 use Rattle.claims.specs.Runs.{CanRun}
 use Rattle.claims.specs.TableRuns.{TableCall, join, leave, tick, take, question, tpc, measurement, started_with, TableStarts, Does, table}
-use Rattle.claims.proofs.RunsExist.{can_run_exactly, lent}
+use Rattle.claims.proofs.RunsExist.{can_run_exactly, lent, lent_mut}
 use Rattle.claims.proofs.Same.{answer}
 use Rattle.claims.proofs.TableMeans.{asked_as, table_answers, table_after, valid_after, table_meets}
 
@@ -100,18 +100,18 @@ does_can t v (question own n) = (
 does_can t v (tpc f report buffer) =
     let o = tpc_reply_of t report f in (
       ([], ([], tt)),
-      (t, (lent f, (report, (lent buffer, tt)))),
+      (t, (lent f, (report, (lent_mut buffer, tt)))),
       answer (and_then o (λ os. wrote true os 0 buffer)),
-      at_exit (ended_of 2 Tpc.Kinds.ps Tpc.Kinds.r) ([], ([], tt)) (t, (lent f, (report, (lent buffer, tt)))) (tt, (tt, (tt, (left_by o buffer, tt)))),
+      at_exit (ended_of 2 Tpc.Kinds.ps Tpc.Kinds.r) ([], ([], tt)) (t, (lent f, (report, (lent_mut buffer, tt)))) (tt, (tt, (tt, (left_by o buffer, tt)))),
       replied_can o buffer,
       (refl, refl, refl, refl, refl, refl),
     )
 does_can t v (measurement f index readings buffer) =
     let o = measurement_reply_of t index readings f in (
       ([], ([], tt)),
-      (t, (lent f, (index, (readings, (lent buffer, tt))))),
+      (t, (lent f, (index, (readings, (lent_mut buffer, tt))))),
       answer (and_then o (λ os. wrote true os 0 buffer)),
-      at_exit (ended_of 2 Measurement.Kinds.ps Measurement.Kinds.r) ([], ([], tt)) (t, (lent f, (index, (readings, (lent buffer, tt))))) (tt, (tt, (tt, (tt, (left_by o buffer, tt))))),
+      at_exit (ended_of 2 Measurement.Kinds.ps Measurement.Kinds.r) ([], ([], tt)) (t, (lent f, (index, (readings, (lent_mut buffer, tt))))) (tt, (tt, (tt, (tt, (left_by o buffer, tt))))),
       replied_can o buffer,
       (refl, refl, refl, refl, refl, refl, refl),
     )

@@ -6,7 +6,7 @@ use contract.Lifetimes.{Lfts}
 use denote.Triple.Clauses.{AtExit}
 use Rattle.block.specs.Blocks.{block_size}
 use Rattle.capture.proofs.lister.Lister.closing as Closing
-use Rattle.capture.specs.contracts.lister.Lister.feed_all as FeedAll
+use Rattle.capture.proofs.lister.Lister.feed_all as FeedAll
 use Rattle.capture.proofs.lister.Lister.fresh as Fresh
 use Rattle.capture.specs.declared.lister.Lister.{Lister}
 use Rattle.octets.specs.declared.writing.Wrote.{Wrote}

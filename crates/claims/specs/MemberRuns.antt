@@ -3,10 +3,10 @@ use Rattle.std.specs.Prelude.{List, ◌≡◌, ℕ}
 use Rattle.answer.specs.declared.Answer.{Answer}
 use Rattle.answer.specs.declared.Verdict.{Verdict}
 use Rattle.capture_record.specs.declared.entry.Settings.{Settings}
-use Rattle.member.specs.contracts.Member.advance as Advance
+use Rattle.member.proofs.Member.advance as Advance
 use Rattle.member.proofs.Member.ask as Ask
-use Rattle.member.specs.contracts.Member.start as Start
-use Rattle.member.specs.contracts.Member.take as Take
+use Rattle.member.proofs.Member.start as Start
+use Rattle.member.proofs.Member.take as Take
 use Rattle.member.specs.declared.Member.{Member}
 use Rattle.station.specs.declared.asking.Permission.{Permission}
 use Rattle.station_record.specs.declared.Asked.{Asked}

@@ -3,10 +3,10 @@ use Rattle.std.specs.Prelude.{List, ◌≡◌, ℕ}
 use Rattle.answer.specs.declared.Answer.{Answer}
 use Rattle.answer.specs.declared.Verdict.{Verdict}
 use Rattle.capture_record.specs.declared.entry.Settings.{Settings}
-use Rattle.station.specs.contracts.Station.advance as Advance
-use Rattle.station.specs.contracts.Station.ask as Ask
-use Rattle.station.specs.contracts.Station.start as Start
-use Rattle.station.specs.contracts.Station.take as Take
+use Rattle.station.proofs.Station.advance as Advance
+use Rattle.station.proofs.Station.ask as Ask
+use Rattle.station.proofs.Station.start as Start
+use Rattle.station.proofs.Station.take as Take
 use Rattle.station.specs.declared.Station.{Station}
 use Rattle.station.specs.declared.asking.Permission.{Permission}
 use Rattle.station_record.specs.declared.Asked.{Asked}

@@ -5,14 +5,14 @@ use Rattle.answer.specs.declared.Verdict.{Verdict}
 use Rattle.element.specs.declared.tpc_report.TpcReport.{TpcReport}
 use Rattle.measured_report.specs.declared.Readings.{Readings}
 use Rattle.octets.specs.declared.writing.Wrote.{Wrote}
-use Rattle.table.specs.contracts.Table.ask as Ask
-use Rattle.table.specs.contracts.Table.join as Join
-use Rattle.table.specs.contracts.Table.leave as Leave
-use Rattle.table.specs.contracts.Table.reply_to_measurement_request as Measurement
-use Rattle.table.specs.contracts.Table.reply_to_tpc_request as Tpc
-use Rattle.table.specs.contracts.Table.start as Start
-use Rattle.table.specs.contracts.Table.take as Take
-use Rattle.table.specs.contracts.Table.tick as Tick
+use Rattle.table.proofs.Table.ask as Ask
+use Rattle.table.proofs.Table.join as Join
+use Rattle.table.proofs.Table.leave as Leave
+use Rattle.table.proofs.Table.reply_to_measurement_request as Measurement
+use Rattle.table.proofs.Table.reply_to_tpc_request as Tpc
+use Rattle.table.proofs.Table.start as Start
+use Rattle.table.proofs.Table.take as Take
+use Rattle.table.proofs.Table.tick as Tick
 use Rattle.table.specs.declared.Table.{Table}
 use Rattle.table.specs.declared.asking.Asked.{Asked}
 use Rattle.claims.specs.Runs.{Called, Engine, Made}

@@ -1,4 +1,3 @@
-pub mod Cells
 pub mod InTurn
 pub mod PlaceLaws
 pub mod RowLaws
