@@ -1,18 +1,17 @@
 -- The parts of a station, and what a change of a part makes of the whole. Assumes nothing.
-use mathlib.Core.Bool.{Bool, true, false}
-use mathlib.Core.List.{List, []}
+use mathlib.Core.Bool.{true, false}
+use mathlib.Core.List.{List}
 use mathlib.Core.Logic.{⊎_elim}
-use mathlib.Core.Path.{◌≡◌, refl, sym, ap, ap₂, ◌∙◌}
+use mathlib.Core.Path.{◌≡◌, refl, sym, ap, ◌∙◌}
 use Prim.Native.Nat.{ℕ, ◌/◌, ◌≤◌}
 use lib.Dec.{eqb}
-use lib.ListN.{length, take}
+use lib.ListN.{length}
 use lib.Seq.{take_at}
 use Rattle.answer.proofs.Booleans.{either}
 use Rattle.answer.specs.Checks.{pick}
 use Rattle.beacon.specs.Beacons.{quiet_limit}
 use Rattle.beacon.specs.declared.MaybePower.{MaybePower}
 use Rattle.beacon.specs.declared.MaybeSwitch.{MaybeSwitch}
-use Rattle.element.specs.declared.channel_switch.ChannelSwitch.{ChannelSwitch}
 use Rattle.element.specs.declared.quiet.Quiet.{Quiet}
 use Rattle.frame.specs.Frames.{frame_means}
 use Rattle.frame.specs.Hearing.{hearing_of}
@@ -20,9 +19,8 @@ use Rattle.frame.specs.Laid.{frame_laid}
 use Rattle.frame.specs.declared.hearing.Hearing.{Hearing}
 use Rattle.schedule.specs.declared.Schedule.{Schedule}
 use Rattle.station.proofs.InUse.{in_use_slotted}
-use Rattle.station.specs.Rests.{at_once, rest_of, rest_constrained, rest_announced}
+use Rattle.station.specs.Rests.{at_once, rest_constrained, rest_announced}
 use Rattle.station.specs.Stations.{slotted, in_use, with_until}
-use Rattle.station.specs.Starting.{blank}
 use Rattle.station.specs.Taking.{schedules_of, latest_end, outlasting, rescheduled, constrained, announced, announced_if}
 use Rattle.station.specs.Validity.{Valid}
 use Rattle.station.specs.declared.Station.{Station}

@@ -1,8 +1,8 @@
-// Reading standard input, a buffer at a time.
+// Reading the input, a buffer at a time.
 ghost use Rattle.std.specs.Prelude.{length};
 ghost use Rattle.list.specs.Program.{Within};
 
-use libc::STDIN_FILENO;
+use std::io::Read;
 
 #[derive(Clone, Copy)]
 pub enum Filled {
@@ -13,21 +13,16 @@ pub enum Filled {
 }
 
 // Reads until the buffer is full, the input ends or a read fails: a pipe may deliver any amount at a time.
-pub fn fill(buffer: &mut [u8]) -> Filled
+pub fn fill<R: Read>(from: &mut R, buffer: &mut [u8]) -> Filled
     ensures { Within result (length buffer.old) }
 {
     let mut done = 0;
     while done < buffer.len() {
-        let rest = &mut buffer[done..];
-        let got = libc::read(STDIN_FILENO, rest);
-        if got < 0 {
-            return Filled::Failed(done);
+        match from.read(&mut buffer[done..]) {
+            Ok(0) => return Filled::Octets(done),
+            Ok(more) => done += more,
+            Err(_) => return Filled::Failed(done),
         }
-        let more = io::count(got, rest);
-        if more == 0 {
-            return Filled::Octets(done);
-        }
-        done += more;
     }
     Filled::Octets(done)
 }

@@ -12,8 +12,9 @@ ghost use Rattle.list.specs.Program.{Within, CutAs, Turned, Reached, Ended};
 
 use capture::Lister;
 use input::Filled;
-use libc::STDERR_FILENO;
 use output::{Fate, Progress};
+use std::io;
+use std::io::{Read, Write};
 
 // How many blocks are listed at a time, how many octets they are, and the room that their lines always find.
 const BLOCKS: usize = 32;
@@ -55,21 +56,32 @@ fn cut(filled: Filled, size: usize) -> Piece
 }
 
 // Reads a buffer of octets, and lists its blocks.
-fn turn(lister: Lister, input: &mut [u8], out: &mut [u8]) -> Progress
+fn turn<R: Read, W: Write>(
+    from: &mut R,
+    to: &mut W,
+    lister: Lister,
+    input: &mut [u8],
+    out: &mut [u8],
+) -> Progress
     requires { Fits lister }
     ensures turned { Turned lister input.new out.old result out.new }
     ensures fits { Fits result.lister }
 {
-    let filled = input::fill(input);
+    let filled = input::fill(from, input);
     let piece = cut(filled, input.len());
     let count = piece.count;
     let said = piece.said;
-    output::list_blocks(lister, &input[..count], out, said)
+    output::list_blocks(to, lister, &input[..count], out, said)
 }
 
 // Turn after turn, as long as the listing goes on. A proved loop has to end, and nothing says that the input does: each turn but the last lists
 // a block, of which there are not so many.
-fn list_all(input: &mut [u8], out: &mut [u8]) -> Progress
+fn list_all<R: Read, W: Write>(
+    from: &mut R,
+    to: &mut W,
+    input: &mut [u8],
+    out: &mut [u8],
+) -> Progress
     requires { length input.old % block_size ≡ 0 }
     ensures { Reached result }
 {
@@ -78,38 +90,40 @@ fn list_all(input: &mut [u8], out: &mut [u8]) -> Progress
     let mut progress = Progress { lister, fate };
     let mut turns = Lister::BLOCK_LIMIT;
     while 0 < turns && output::goes_on(progress) {
-        progress = turn(progress.lister, input, out);
+        progress = turn(from, to, progress.lister, input, out);
         turns -= 1;
     }
     progress
 }
 
-fn list() -> Fate
+fn list<R: Read, W: Write>(from: &mut R, to: &mut W) -> Fate
     ensures { Ended result }
 {
     let mut input_space = [0u8; INPUT];
     let input: &mut [u8] = &mut input_space;
     let mut out_space = [0u8; OUTPUT];
     let out: &mut [u8] = &mut out_space;
-    output::finish(list_all(input, out))
+    let progress = list_all(from, to, input, out);
+    output::finish(to, progress)
 }
 
-fn tell(message: &[u8]) {
-    io::write_all(STDERR_FILENO, message);
+fn tell<W: Write>(to: &mut W, message: &[u8]) -> io::Result<()> {
+    to.write_all(message)
 }
 
-fn main() {
-    match list() {
-        Fate::Whole => {}
-        Fate::ReadFailed => {
-            tell(b"list: the input could not be read to its end; the list is cut\n");
-        }
-        Fate::WriteFailed => {
-            tell(b"list: the list could not be written; it is cut\n");
-        }
-        Fate::Going => {}
-        Fate::TooLong => {
-            tell(b"list: there are more than 36028797018963968 blocks; the list is cut\n");
-        }
+fn main(rt: HostRuntime) -> io::Result<()> {
+    let errors = &mut rt.stderr();
+    match list(&mut rt.stdin(), &mut rt.stdout()) {
+        Fate::Whole => Ok(()),
+        Fate::ReadFailed => tell(
+            errors,
+            b"list: the input could not be read to its end; the list is cut\n",
+        ),
+        Fate::WriteFailed => tell(errors, b"list: the list could not be written; it is cut\n"),
+        Fate::Going => Ok(()),
+        Fate::TooLong => tell(
+            errors,
+            b"list: there are more than 36028797018963968 blocks; the list is cut\n",
+        ),
     }
 }

@@ -5,8 +5,8 @@ ghost use Rattle.list.specs.Program.{ClosedAs, PieceListed};
 ghost use Rattle.list.specs.CodeTerms.Writing.{CountWithin, WroteAs, going};
 
 use capture::Lister;
-use libc::STDOUT_FILENO;
 use octets::Wrote;
+use std::io::Write;
 
 // How the listing stands, or ended.
 #[derive(Clone, Copy)]
@@ -38,14 +38,14 @@ pub fn goes_on(progress: Progress) -> bool
 }
 
 // Writes the lines that stand in front of the buffer. The listing then stands as `said`, unless they could not be made or written.
-fn write_lines(wrote: Wrote, out: &[u8], said: Fate) -> Fate
+fn write_lines<W: Write>(to: &mut W, wrote: Wrote, out: &[u8], said: Fate) -> Fate
     requires { CountWithin wrote (length out.now) }
     ensures { WroteAs wrote said result }
 {
     match wrote {
         Wrote::Refused(_) => Fate::TooLong,
         Wrote::Length(count) => {
-            if io::write_all(STDOUT_FILENO, &out[..count]) {
+            if to.write_all(&out[..count]).is_ok() {
                 return said;
             }
             Fate::WriteFailed
@@ -54,7 +54,13 @@ fn write_lines(wrote: Wrote, out: &[u8], said: Fate) -> Fate
 }
 
 // The blocks of a piece of the file.
-pub fn list_blocks(lister: Lister, piece: &[u8], out: &mut [u8], said: Fate) -> Progress
+pub fn list_blocks<W: Write>(
+    to: &mut W,
+    lister: Lister,
+    piece: &[u8],
+    out: &mut [u8],
+    said: Fate,
+) -> Progress
     requires { Fits lister }
     ensures piece_listed { PieceListed lister piece.now out.old said result out.new }
     ensures fits { Fits result.lister }
@@ -62,25 +68,25 @@ pub fn list_blocks(lister: Lister, piece: &[u8], out: &mut [u8], said: Fate) -> 
     let listing = lister.feed_all(piece, out);
     let next = listing.lister;
     let wrote = listing.wrote;
-    let fate = write_lines(wrote, out, said);
+    let fate = write_lines(to, wrote, out, said);
     Progress { lister: next, fate }
 }
 
-fn write_closing(lister: Lister) -> bool {
+fn write_closing<W: Write>(to: &mut W, lister: Lister) -> bool {
     let text = lister.closing();
     let bytes = text.bytes;
     let count = text.count;
-    io::write_all(STDOUT_FILENO, &bytes[..count])
+    to.write_all(&bytes[..count]).is_ok()
 }
 
 // The closing line is written only where the listing is whole.
-pub fn finish(progress: Progress) -> Fate
+pub fn finish<W: Write>(to: &mut W, progress: Progress) -> Fate
     ensures { ClosedAs progress.fate result }
 {
     let fate = progress.fate;
     match fate {
         Fate::Whole => {
-            if write_closing(progress.lister) {
+            if write_closing(to, progress.lister) {
                 return Fate::Whole;
             }
             Fate::WriteFailed

@@ -8,6 +8,8 @@ use scene::call::Call;
 use scene::made::LONGEST;
 use scene::verb::Form;
 use scene::{answers, fields, made, say};
+use std::io;
+use std::io::Write;
 
 // A frame of the AP to the station.
 pub fn of_ap(form: Form, call: Call, frame: &mut [u8]) -> usize
@@ -34,99 +36,100 @@ pub fn to_row(form: Form, call: Call, frame: &mut [u8]) -> usize
 }
 
 // A frame of an exchange, and its dialog token.
-fn exchanged(word: &[u8], token: u8) {
-    say::text(word);
-    say::octet(token);
+fn exchanged<W: Write>(out: &mut W, word: &[u8], token: u8) -> io::Result<()> {
+    say::text(out, word)?;
+    say::octet(out, token)
 }
 
 // By its kind, each with its own fields.
-fn kind(frame: Frame) {
+fn kind<W: Write>(out: &mut W, frame: Frame) -> io::Result<()> {
     match frame {
         Frame::Beacon(notice) => {
-            say::text(b" beacon");
-            fields::notice(notice);
+            say::text(out, b" beacon")?;
+            fields::notice(out, notice)
         }
         Frame::ProbeResponse(notice) => {
-            say::text(b" probe response");
-            fields::notice(notice);
+            say::text(out, b" probe response")?;
+            fields::notice(out, notice)
         }
         Frame::MeasurementRequest { token, count } => {
-            exchanged(b" measurement request", token);
-            say::number(count as u64);
+            exchanged(out, b" measurement request", token)?;
+            say::number(out, count as u64)
         }
         Frame::MeasurementReport { token, count } => {
-            exchanged(b" measurement report", token);
-            say::number(count as u64);
+            exchanged(out, b" measurement report", token)?;
+            say::number(out, count as u64)
         }
-        Frame::TpcRequest { token } => exchanged(b" tpc request", token),
+        Frame::TpcRequest { token } => exchanged(out, b" tpc request", token),
         Frame::TpcReport { token, report } => {
-            exchanged(b" tpc report", token);
-            fields::report(report);
+            exchanged(out, b" tpc report", token)?;
+            fields::report(out, report)
         }
-        Frame::ChannelSwitch(switch) => fields::switch(switch),
+        Frame::ChannelSwitch(switch) => fields::switch(out, switch),
     }
 }
 
 // The answer's number, then whether the frame went to all, or where it broke.
-fn answer(reading: Reading, broadcast: bool) {
+fn answer<W: Write>(out: &mut W, reading: Reading, broadcast: bool) -> io::Result<()> {
     match reading {
-        Reading::Refused(fault) => answers::fault(fault),
+        Reading::Refused(fault) => answers::fault(out, fault),
         Reading::Is(_) => {
-            say::number(0);
+            say::number(out, 0)?;
             if broadcast {
-                say::text(b" to all");
+                say::text(out, b" to all")?;
             }
+            Ok(())
         }
     }
 }
 
 // As document 01's station reads it: the answer, the frame and its Quiet elements.
-pub fn read(form: Form, call: Call) {
+pub fn read<W: Write>(out: &mut W, form: Form, call: Call) -> io::Result<()> {
     let mut octets = [0u8; LONGEST];
     let length = of_ap(form, call, &mut octets);
     let received = frame::read(&octets[0..length], OWN, AP, INTERVAL);
     let reading = received.reading;
-    answer(reading, received.broadcast);
+    answer(out, reading, received.broadcast)?;
     if let Reading::Is(frame) = reading {
-        kind(frame);
+        kind(out, frame)?;
     }
     let slots = received.quiets;
-    fields::quiets(slots, received.count);
+    fields::quiets(out, slots, received.count)
 }
 
 // As a station of an IBSS reads it: its sender and element 41 too.
-pub fn read_in_ibss(form: Form, call: Call) {
+pub fn read_in_ibss<W: Write>(out: &mut W, form: Form, call: Call) -> io::Result<()> {
     let mut octets = [0u8; LONGEST];
     let length = of_member(form, call, 1, &mut octets);
     let heard = frame::read_in_ibss(&octets[0..length], OWN, AP, INTERVAL);
     let received = heard.received;
     let reading = received.reading;
-    answer(reading, received.broadcast);
+    answer(out, reading, received.broadcast)?;
     if let Reading::Is(frame) = reading {
-        say::text(b" from");
+        say::text(out, b" from")?;
         let sender = heard.sender;
-        say::octets(&sender);
-        kind(frame);
+        say::octets(out, &sender)?;
+        kind(out, frame)?;
     }
     let dfs = heard.dfs;
     if heard.names {
-        fields::dfs(dfs);
+        fields::dfs(out, dfs)?;
     }
     let slots = received.quiets;
-    fields::quiets(slots, received.count);
+    fields::quiets(out, slots, received.count)
 }
 
 // A pair of a beacon's element 41, by its index: the answer's number, and the pair's channel and map.
-pub fn pair(call: Call) {
+pub fn pair<W: Write>(out: &mut W, call: Call) -> io::Result<()> {
     let mut octets = [0u8; LONGEST];
     let length = of_member(Form::Beacon, call, 2, &mut octets);
     let index = call.numbers[1] as usize;
     match frame::dfs_pair_at(&octets[0..length], OWN, AP, INTERVAL, index) {
-        Pair::Refused(refusal) => say::octet(refusal.number()),
+        Pair::Refused(refusal) => say::octet(out, refusal.number()),
         Pair::Is(pair) => {
-            say::number(0);
-            say::octet(pair.channel);
-            say::octet(pair.map);
+            say::number(out, 0)?;
+            say::octet(out, pair.channel)?;
+            say::octet(out, pair.map)
         }
     }
 }

@@ -63,6 +63,8 @@ mod stage;
 mod stations;
 mod tables;
 
+use std::io;
+
 // The scenes' station, its AP or its IBSS, the beacon interval and the channel.
 const OWN: [u8; 6] = [2, 0, 0, 0, 0, 1];
 
@@ -72,6 +74,6 @@ const INTERVAL: u16 = 100;
 
 const CHANNEL: u8 = 36;
 
-fn main() {
-    stage::play();
+fn main(rt: HostRuntime) -> io::Result<()> {
+    stage::play(&mut rt.stdin(), &mut rt.stdout())
 }

@@ -1,15 +1,20 @@
 // The scenes as they go on.
+ghost use Rattle.std.specs.Prelude.{IfOk};
 ghost use Rattle.run_scenes.specs.Stages.{ValidStage};
 
 use crate::{AP, CHANNEL, INTERVAL, OWN, members, stations, tables};
-use libc::STDIN_FILENO;
 use member::Member;
 use scene::call::Call;
 use scene::line;
 use scene::line::Line;
 use scene::verb::{Subject, Verb};
 use station::Station;
+use std::io;
+use std::io::{Read, Write};
 use table::Table;
+
+// How many octets of the input are taken at a time.
+const ROOM: usize = 65536;
 
 // Where they stand: what the present scene plays, all three that can be played, and the line so far.
 #[derive(Clone, Copy)]
@@ -42,64 +47,66 @@ fn fresh(subject: Subject) -> Stage
 }
 
 // The stage after a call.
-fn after(mut stage: Stage, call: Call) -> Stage
+fn after<W: Write>(out: &mut W, mut stage: Stage, call: Call) -> io::Result<Stage>
     requires { ValidStage stage }
-    ensures { ValidStage result }
+    ensures { IfOk result ValidStage }
 {
     let verb = call.verb;
     if let Verb::Scene(subject) = verb {
-        return fresh(subject);
+        return Ok(fresh(subject));
     }
     let subject = stage.subject;
     match subject {
         Subject::Station => {
             let station = stage.station;
-            let next = stations::run(station, call);
+            let next = stations::run(out, station, call)?;
             stage.station = next;
         }
         Subject::Ibss => {
             let member = stage.member;
-            let next = members::run(member, call);
+            let next = members::run(out, member, call)?;
             stage.member = next;
         }
         Subject::Table => {
             let table = stage.table;
-            let next = tables::run(table, call);
+            let next = tables::run(out, table, call)?;
             stage.table = next;
         }
     }
-    stage
+    Ok(stage)
 }
 
-fn scenes(mut stage: Stage, text: &[u8]) -> Stage
+fn scenes<W: Write>(out: &mut W, mut stage: Stage, text: &[u8]) -> io::Result<Stage>
     requires { ValidStage stage }
-    ensures { ValidStage result }
+    ensures { IfOk result ValidStage }
 {
     let mut line = stage.line;
     let mut at = 0;
     while at < text.len() {
-        let read = line.read(text, at);
+        let read = line.read(out, text, at)?;
         at = read.at;
         line = read.line;
         if read.calls {
-            stage = after(stage, line.call(read.expected));
-            line = line.after_call(read.expected);
+            stage = after(out, stage, line.call(read.expected))?;
+            line = line.after_call(out, read.expected)?;
         }
     }
-    Stage { line, ..stage }
+    Ok(Stage { line, ..stage })
 }
 
-// By the buffer, to the end of the input. A proved loop has to end, and nothing says that the input does: there are not so many buffers.
-pub fn play() {
-    let mut text = io::large_buffer();
+// Read by read, to the end of the input.
+// A proved loop has to end, and nothing says that the input does: there are not so many reads.
+pub fn play<R: Read, W: Write>(input: &mut R, out: &mut W) -> io::Result<()> {
+    let mut text = [0u8; ROOM];
     let mut stage = fresh(Subject::Station);
     let mut left: u64 = 18446744073709551615;
     while 0 < left {
-        let count = io::read_full(STDIN_FILENO, &mut text);
+        let count = input.read(&mut text)?;
         if count == 0 {
-            return;
+            return Ok(());
         }
-        stage = scenes(stage, &text[0..count]);
+        stage = scenes(out, stage, &text[0..count])?;
         left -= 1;
     }
+    Ok(())
 }

@@ -3,6 +3,8 @@ ghost use Rattle.std.specs.Prelude.{◌≤◌};
 
 use crate::verb::Verb;
 use crate::{last, say};
+use std::io;
+use std::io::Write;
 
 // How many numbers a call may have, with place 0, which is the verb's.
 pub const ROOM: usize = 128;
@@ -32,13 +34,13 @@ impl Call {
     }
 
     // How many units lead from a clock to the moment that is its first number. None lead to one that is gone.
-    pub fn units_from(self, clock: u32) -> u32 {
+    pub fn units_from<W: Write>(self, out: &mut W, clock: u32) -> io::Result<u32> {
         let moment = self.first();
         if moment < clock {
-            say::text(b" gone");
-            return 0;
+            say::text(out, b" gone")?;
+            return Ok(0);
         }
-        moment - clock
+        Ok(moment - clock)
     }
 
     // Where its octets end that begin at a place, or later.

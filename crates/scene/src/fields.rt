@@ -9,145 +9,149 @@ use element::tpc_report::TpcReport;
 use measurement_element::measurement_report::Reason;
 use measurement_element::{Found, Span, measurement_report, measurement_request};
 use pending::Pending;
+use std::io;
+use std::io::Write;
 
-pub fn power(p: PowerConstraint) {
-    say::text(b" constraint");
-    say::octet(p.decibels);
+pub fn power<W: Write>(out: &mut W, p: PowerConstraint) -> io::Result<()> {
+    say::text(out, b" constraint")?;
+    say::octet(out, p.decibels)
 }
 
 // The constraint that a station keeps.
-pub fn kept(power: MaybePower) {
+pub fn kept<W: Write>(out: &mut W, power: MaybePower) -> io::Result<()> {
     match power {
-        MaybePower::Absent => say::text(b" none"),
-        MaybePower::Is(constraint) => say::octet(constraint.decibels),
+        MaybePower::Absent => say::text(out, b" none"),
+        MaybePower::Is(constraint) => say::octet(out, constraint.decibels),
     }
 }
 
 // The switch that a station awaits: 0, or its moment, mode and channel.
-pub fn pending(pending: Pending) {
+pub fn pending<W: Write>(out: &mut W, pending: Pending) -> io::Result<()> {
     match pending {
-        Pending::Nothing => say::number(0),
+        Pending::Nothing => say::number(out, 0),
         Pending::Switch(switch) => {
-            say::number(switch.at);
-            say::octet(switch.mode);
-            say::octet(switch.channel);
+            say::number(out, switch.at)?;
+            say::octet(out, switch.mode)?;
+            say::octet(out, switch.channel)
         }
     }
 }
 
 // The signed numbers as the octets that hold them.
-pub fn report(t: TpcReport) {
+pub fn report<W: Write>(out: &mut W, t: TpcReport) -> io::Result<()> {
     let power = t.power;
     let margin = t.margin;
-    say::text(b" report");
-    say::octet(octets::from_signed(power));
-    say::octet(octets::from_signed(margin));
+    say::text(out, b" report")?;
+    say::octet(out, octets::from_signed(power))?;
+    say::octet(out, octets::from_signed(margin))
 }
 
-pub fn switch(s: ChannelSwitch) {
-    say::text(b" switch");
-    say::octet(s.mode);
-    say::octet(s.channel);
-    say::octet(s.count);
+pub fn switch<W: Write>(out: &mut W, s: ChannelSwitch) -> io::Result<()> {
+    say::text(out, b" switch")?;
+    say::octet(out, s.mode)?;
+    say::octet(out, s.channel)?;
+    say::octet(out, s.count)
 }
 
-pub fn quiet(q: Quiet) {
-    say::text(b" quiet");
-    say::octet(q.count);
-    say::octet(q.period);
-    say::number(q.duration as u64);
-    say::number(q.offset as u64);
+pub fn quiet<W: Write>(out: &mut W, q: Quiet) -> io::Result<()> {
+    say::text(out, b" quiet")?;
+    say::octet(out, q.count)?;
+    say::octet(out, q.period)?;
+    say::number(out, q.duration as u64)?;
+    say::number(out, q.offset as u64)
 }
 
 // Of the pairs how many there are.
-pub fn dfs(d: IbssDfs) {
-    say::text(b" dfs");
+pub fn dfs<W: Write>(out: &mut W, d: IbssDfs) -> io::Result<()> {
+    say::text(out, b" dfs")?;
     let owner = d.owner;
-    say::octets(&owner);
-    say::octet(d.recovery);
-    say::number(d.pairs as u64);
+    say::octets(out, &owner)?;
+    say::octet(out, d.recovery)?;
+    say::number(out, d.pairs as u64)
 }
 
 // As many as the count says, at most.
-pub fn quiets(slots: [Quiet; 8], count: usize) {
+pub fn quiets<W: Write>(out: &mut W, slots: [Quiet; 8], count: usize) -> io::Result<()> {
     let mut i = 0;
     while i < 8 {
         if i < count {
-            quiet(slots[i]);
+            quiet(out, slots[i])?;
         }
         i += 1;
     }
+    Ok(())
 }
 
-pub fn notice(n: Notice) {
-    say::number(n.timestamp);
-    say::number(n.capability as u64);
+pub fn notice<W: Write>(out: &mut W, n: Notice) -> io::Result<()> {
+    say::number(out, n.timestamp)?;
+    say::number(out, n.capability as u64)?;
     let limit = n.power;
     if let MaybePower::Is(p) = limit {
-        power(p);
+        power(out, p)?;
     }
     let told = n.report;
     if let MaybeReport::Is(t) = told {
-        report(t);
+        report(out, t)?;
     }
     let announced = n.switch;
     if let MaybeSwitch::Is(s) = announced {
-        switch(s);
+        switch(out, s)?;
     }
+    Ok(())
 }
 
-fn span(s: Span) {
-    say::octet(s.channel);
-    say::number(s.start);
-    say::number(s.duration as u64);
+fn span<W: Write>(out: &mut W, s: Span) -> io::Result<()> {
+    say::octet(out, s.channel)?;
+    say::number(out, s.start)?;
+    say::number(out, s.duration as u64)
 }
 
-pub fn asked(matter: measurement_request::Matter) {
+pub fn asked<W: Write>(out: &mut W, matter: measurement_request::Matter) -> io::Result<()> {
     match matter {
         measurement_request::Matter::Enable { request, report } => {
-            say::text(b" enable");
-            say::flag(request);
-            say::flag(report);
+            say::text(out, b" enable")?;
+            say::flag(out, request)?;
+            say::flag(out, report)
         }
         measurement_request::Matter::Measure(s) => {
-            say::text(b" measure");
-            span(s);
+            say::text(out, b" measure")?;
+            span(out, s)
         }
-        measurement_request::Matter::Uninterpreted => say::text(b" uninterpreted"),
+        measurement_request::Matter::Uninterpreted => say::text(out, b" uninterpreted"),
     }
 }
 
-fn not_measured(reason: Reason) {
+fn not_measured<W: Write>(out: &mut W, reason: Reason) -> io::Result<()> {
     match reason {
-        Reason::Late => say::text(b" late"),
-        Reason::Incapable => say::text(b" incapable"),
-        Reason::Refused => say::text(b" refused"),
+        Reason::Late => say::text(out, b" late"),
+        Reason::Incapable => say::text(out, b" incapable"),
+        Reason::Refused => say::text(out, b" refused"),
     }
 }
 
-fn measured(s: Span, found: Found) {
+fn measured<W: Write>(out: &mut W, s: Span, found: Found) -> io::Result<()> {
     match found {
         Found::Map(map) => {
-            say::text(b" basic");
-            span(s);
-            say::octet(map);
+            say::text(out, b" basic")?;
+            span(out, s)?;
+            say::octet(out, map)
         }
         Found::Busy(busy) => {
-            say::text(b" cca");
-            span(s);
-            say::octet(busy);
+            say::text(out, b" cca")?;
+            span(out, s)?;
+            say::octet(out, busy)
         }
         Found::Densities => {
-            say::text(b" rpi");
-            span(s);
+            say::text(out, b" rpi")?;
+            span(out, s)
         }
     }
 }
 
-pub fn found(matter: measurement_report::Matter) {
+pub fn found<W: Write>(out: &mut W, matter: measurement_report::Matter) -> io::Result<()> {
     match matter {
-        measurement_report::Matter::NotMeasured(reason) => not_measured(reason),
-        measurement_report::Matter::Measured { span, found } => measured(span, found),
-        measurement_report::Matter::Uninterpreted => say::text(b" uninterpreted"),
+        measurement_report::Matter::NotMeasured(reason) => not_measured(out, reason),
+        measurement_report::Matter::Measured { span, found } => measured(out, span, found),
+        measurement_report::Matter::Uninterpreted => say::text(out, b" uninterpreted"),
     }
 }

@@ -1,10 +1,11 @@
 // A line as it is read, character by character.
-ghost use Rattle.std.specs.Prelude.{◌≡◌, ◌<◌, ◌≤◌, length};
+ghost use Rattle.std.specs.Prelude.{◌≡◌, ◌<◌, ◌≤◌, length, IfOk};
 
 use crate::call::{Call, ROOM};
 use crate::verb::Verb;
 use crate::{say, verb};
-use check::same;
+use std::io;
+use std::io::Write;
 
 // The longest verb has 17 letters.
 const LETTERS: usize = 17;
@@ -71,7 +72,7 @@ fn spelt(word: [u8; LETTERS], letters: usize) -> Verb {
 
 // Whether the word begins a scene.
 fn opens(word: [u8; LETTERS], letters: usize) -> bool {
-    letters == 5 && same(&word[0..5], b"scene")
+    letters == 5 && &word[0..5] == b"scene".as_slice()
 }
 
 impl Line {
@@ -187,27 +188,27 @@ impl Line {
     }
 
     // A call, read to this place. A number that found none must not go by unseen.
-    fn ended(self, at: usize, expected: bool) -> Read
-        ensures { result.at ≡ at }
+    fn ended<W: Write>(self, out: &mut W, at: usize, expected: bool) -> io::Result<Read>
+        ensures { IfOk result (λ read. read.at ≡ at) }
     {
         if expected {
-            say::text(b"=");
+            say::text(out, b"=")?;
         }
         if self.spilled {
-            say::text(b" too long");
+            say::text(out, b" too long")?;
         }
-        Read {
+        Ok(Read {
             at,
             calls: true,
             expected,
             line: self,
-        }
+        })
     }
 
     // Reads on from a place in the text, and writes again what it reads, but for what is expected.
-    pub fn read(self, text: &[u8], from: usize) -> Read
+    pub fn read<W: Write>(self, out: &mut W, text: &[u8], from: usize) -> io::Result<Read>
         requires { from < length text.now }
-        ensures { (from < result.at) × (result.at ≤ length text.now) }
+        ensures { IfOk result (λ read. (from < read.at) × (read.at ≤ length text.now)) }
     {
         let mut line = self;
         let mut written = from;
@@ -215,28 +216,28 @@ impl Line {
         while at < text.len() {
             let c = text[at];
             if line.ends_at(c) {
-                say::text(&text[written..at]);
-                return line.ended(at + 1, c == b'=');
+                say::text(out, &text[written..at])?;
+                return line.ended(out, at + 1, c == b'=');
             }
             at += 1;
             written = line.unwritten(c, written, at);
             line = line.take(c);
         }
-        say::text(&text[written..at]);
-        Read {
+        say::text(out, &text[written..at])?;
+        Ok(Read {
             at,
             calls: false,
             expected: false,
             line,
-        }
+        })
     }
 
     // The line after its call: what is expected is passed over, and the end of a line follows what was told.
-    pub fn after_call(self, expected: bool) -> Line {
+    pub fn after_call<W: Write>(self, out: &mut W, expected: bool) -> io::Result<Line> {
         if expected {
-            return self.in_part(Part::Expected);
+            return Ok(self.in_part(Part::Expected));
         }
-        say::text(b"\n");
-        begun()
+        say::text(out, b"\n")?;
+        Ok(begun())
     }
 }

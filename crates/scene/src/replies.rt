@@ -8,6 +8,8 @@ use crate::{last, say};
 use element::tpc_report::TpcReport;
 use measured_report::{Finding, Readings};
 use octets::Wrote;
+use std::io;
+use std::io::Write;
 
 // Every buffer is lent full of this octet, so that one that is changed shows.
 pub const BLANK: u8 = 170;
@@ -87,28 +89,28 @@ fn is_blank(part: &[u8]) -> bool {
 }
 
 // The first octets, and whether the others are as they were lent.
-fn octets(buffer: &[u8], count: usize) {
+fn octets<W: Write>(out: &mut W, buffer: &[u8], count: usize) -> io::Result<()> {
     if buffer.len() < count {
-        return;
+        return Ok(());
     }
-    say::octets(&buffer[0..count]);
+    say::octets(out, &buffer[0..count])?;
     if is_blank(&buffer[count..]) {
-        say::text(b" kept");
+        say::text(out, b" kept")
     } else {
-        say::text(b" changed");
+        say::text(out, b" changed")
     }
 }
 
-pub fn tell(wrote: Wrote, buffer: &[u8; ROOM]) {
+pub fn tell<W: Write>(out: &mut W, wrote: Wrote, buffer: &[u8; ROOM]) -> io::Result<()> {
     match wrote {
         Wrote::Refused(refusal) => {
-            say::octet(refusal.number());
-            octets(buffer, 0);
+            say::octet(out, refusal.number())?;
+            octets(out, buffer, 0)
         }
         Wrote::Length(count) => {
-            say::number(0);
-            say::number(count as u64);
-            octets(buffer, count);
+            say::number(out, 0)?;
+            say::number(out, count as u64)?;
+            octets(out, buffer, count)
         }
     }
 }

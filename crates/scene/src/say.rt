@@ -1,22 +1,22 @@
-// Words, numbers and octets on standard output.
+// Words, numbers and octets on a writer.
 ghost use Rattle.std.specs.Prelude.{◌+◌, ◌≤◌, ◌<◌, length};
 
-use libc::STDOUT_FILENO;
+use std::io;
+use std::io::Write;
 
 // So many octets one after the other that are alike, or more, are told as one of them and how many they are, as in 0*312.
 const RUN: usize = 8;
 
-pub fn text(word: &[u8]) {
-    io::write_all(STDOUT_FILENO, word);
+pub fn text<W: Write>(out: &mut W, word: &[u8]) -> io::Result<()> {
+    out.write_all(word)
 }
 
-pub fn number(n: u64) {
-    text(b" ");
-    io::print_decimal(STDOUT_FILENO, n);
+pub fn number<W: Write>(out: &mut W, n: u64) -> io::Result<()> {
+    write!(out, " {n}")
 }
 
-pub fn octet(o: u8) {
-    number(o as u64);
+pub fn octet<W: Write>(out: &mut W, o: u8) -> io::Result<()> {
+    number(out, o as u64)
 }
 
 // How many octets from a place on are alike.
@@ -35,25 +35,21 @@ pub fn alike(s: &[u8], from: usize) -> usize
     end - from
 }
 
-pub fn octets(s: &[u8]) {
+pub fn octets<W: Write>(out: &mut W, s: &[u8]) -> io::Result<()> {
     let mut at = 0;
     while at < s.len() {
         let times = alike(s, at);
-        octet(s[at]);
+        octet(out, s[at])?;
         if times < RUN {
             at += 1;
         } else {
-            text(b"*");
-            io::print_decimal(STDOUT_FILENO, times as u64);
+            write!(out, "*{times}")?;
             at += times;
         }
     }
+    Ok(())
 }
 
-pub fn flag(b: bool) {
-    if b {
-        number(1);
-    } else {
-        number(0);
-    }
+pub fn flag<W: Write>(out: &mut W, b: bool) -> io::Result<()> {
+    if b { number(out, 1) } else { number(out, 0) }
 }

@@ -1,6 +1,4 @@
 // What a line asks for, by its first word, and by the second too where it begins a scene.
-use check::same;
-
 // What a scene plays.
 #[derive(Clone, Copy)]
 pub enum Subject {
@@ -56,129 +54,75 @@ pub enum Verb {
 
 // A verb by its word. These bring a station on or hand it a frame.
 pub fn verb_of(word: &[u8]) -> Verb {
-    if same(word, b"at") {
-        return Verb::At;
+    match word {
+        b"at" => Verb::At,
+        b"start" => Verb::Start,
+        b"advance" => Verb::Advance,
+        b"frame" => Verb::Take(Form::Whole),
+        b"action" => Verb::Take(Form::Action),
+        b"beacon" => Verb::Take(Form::Beacon),
+        b"probe" => Verb::Take(Form::Probe),
+        _ => stepping(word),
     }
-    if same(word, b"start") {
-        return Verb::Start;
-    }
-    if same(word, b"advance") {
-        return Verb::Advance;
-    }
-    if same(word, b"frame") {
-        return Verb::Take(Form::Whole);
-    }
-    if same(word, b"action") {
-        return Verb::Take(Form::Action);
-    }
-    if same(word, b"beacon") {
-        return Verb::Take(Form::Beacon);
-    }
-    if same(word, b"probe") {
-        return Verb::Take(Form::Probe);
-    }
-    stepping(word)
 }
 
 // Verbs of a table and its rows.
 fn stepping(word: &[u8]) -> Verb {
-    if same(word, b"join") {
-        return Verb::Join;
+    match word {
+        b"join" => Verb::Join,
+        b"leave" => Verb::Leave,
+        b"tick" => Verb::Tick,
+        b"row" => Verb::Row,
+        _ => asking(word),
     }
-    if same(word, b"leave") {
-        return Verb::Leave;
-    }
-    if same(word, b"tick") {
-        return Verb::Tick;
-    }
-    if same(word, b"row") {
-        return Verb::Row;
-    }
-    asking(word)
 }
 
 // Verbs that ask a station, or what it keeps.
 fn asking(word: &[u8]) -> Verb {
-    if same(word, b"ask") {
-        return Verb::Ask;
+    match word {
+        b"ask" => Verb::Ask,
+        b"channel" => Verb::Channel,
+        b"clock" => Verb::Clock,
+        b"constraint" => Verb::Constraint,
+        b"pending" => Verb::Pending,
+        b"owner" => Verb::Owner,
+        _ => framing(word),
     }
-    if same(word, b"channel") {
-        return Verb::Channel;
-    }
-    if same(word, b"clock") {
-        return Verb::Clock;
-    }
-    if same(word, b"constraint") {
-        return Verb::Constraint;
-    }
-    if same(word, b"pending") {
-        return Verb::Pending;
-    }
-    if same(word, b"owner") {
-        return Verb::Owner;
-    }
-    framing(word)
 }
 
 // Verbs that read a frame, or reply to it, without a station.
 fn framing(word: &[u8]) -> Verb {
-    if same(word, b"read-frame") {
-        return Verb::Read(Form::Whole);
+    match word {
+        b"read-frame" => Verb::Read(Form::Whole),
+        b"read-action" => Verb::Read(Form::Action),
+        b"read-beacon" => Verb::Read(Form::Beacon),
+        b"read-probe" => Verb::Read(Form::Probe),
+        b"pair" => Verb::Pair,
+        b"reply-tpc" => Verb::Reply(Reply::Tpc),
+        b"reply-measurement" => Verb::Reply(Reply::Measurement),
+        _ => counting(word),
     }
-    if same(word, b"read-action") {
-        return Verb::Read(Form::Action);
-    }
-    if same(word, b"read-beacon") {
-        return Verb::Read(Form::Beacon);
-    }
-    if same(word, b"read-probe") {
-        return Verb::Read(Form::Probe);
-    }
-    if same(word, b"pair") {
-        return Verb::Pair;
-    }
-    if same(word, b"reply-tpc") {
-        return Verb::Reply(Reply::Tpc);
-    }
-    if same(word, b"reply-measurement") {
-        return Verb::Reply(Reply::Measurement);
-    }
-    counting(word)
 }
 
 // Verbs of an element, and of the leaves that count.
 fn counting(word: &[u8]) -> Verb {
-    if same(word, b"contents") {
-        return Verb::Contents;
+    match word {
+        b"contents" => Verb::Contents,
+        b"write" => Verb::Write,
+        b"centre" => Verb::Centre,
+        b"signed" => Verb::Signed,
+        b"busy" => Verb::Busy,
+        b"densities" => Verb::Densities,
+        _ => opening(word),
     }
-    if same(word, b"write") {
-        return Verb::Write;
-    }
-    if same(word, b"centre") {
-        return Verb::Centre;
-    }
-    if same(word, b"signed") {
-        return Verb::Signed;
-    }
-    if same(word, b"busy") {
-        return Verb::Busy;
-    }
-    if same(word, b"densities") {
-        return Verb::Densities;
-    }
-    opening(word)
 }
 
 // The verb of a scene, with what it plays.
 fn opening(word: &[u8]) -> Verb {
-    if same(word, b"scene station") {
-        return Verb::Scene(Subject::Station);
+    match word {
+        b"scene station" => Verb::Scene(Subject::Station),
+        b"scene ibss" => Verb::Scene(Subject::Ibss),
+        b"scene table" => Verb::Scene(Subject::Table),
+        _ => Verb::Unknown,
     }
-    if same(word, b"scene ibss") {
-        return Verb::Scene(Subject::Ibss);
-    }
-    if same(word, b"scene table") {
-        return Verb::Scene(Subject::Table);
-    }
-    Verb::Unknown
 }

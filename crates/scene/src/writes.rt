@@ -12,6 +12,8 @@ use measurement_element::measurement_report::{Reason, Report};
 use measurement_element::measurement_request::Request;
 use measurement_element::{Found, Span, measurement_report, measurement_request};
 use octets::Wrote;
+use std::io;
+use std::io::Write;
 
 // The fields from these places on, in the order of the element.
 fn span(n: [u64; 16], at: usize) -> Span
@@ -114,46 +116,52 @@ fn report_of(n: [u64; 16], densities: [u8; 8], buffer: &mut [u8], at: usize) -> 
 }
 
 // An element by its ID. One that there is not must not go by unseen.
-fn written(n: [u64; 16], densities: [u8; 8], buffer: &mut [u8]) -> Wrote {
+fn written<W: Write>(
+    out: &mut W,
+    n: [u64; 16],
+    densities: [u8; 8],
+    buffer: &mut [u8],
+) -> io::Result<Wrote> {
     let at = n[3] as usize;
     let id = last::one(n[1]);
     match id {
         power_constraint::ID => {
             let decibels = last::one(n[4]);
-            power_constraint::write(PowerConstraint { decibels }, buffer, at)
+            let power = PowerConstraint { decibels };
+            Ok(power_constraint::write(power, buffer, at))
         }
-        tpc_request::ID => tpc_request::write(buffer, at),
-        tpc_report::ID => report(n, buffer, at),
-        channel_switch::ID => switch(n, buffer, at),
-        measurement_request::ID => request_of(n, buffer, at),
-        measurement_report::ID => report_of(n, densities, buffer, at),
-        quiet::ID => quiet_of(n, buffer, at),
+        tpc_request::ID => Ok(tpc_request::write(buffer, at)),
+        tpc_report::ID => Ok(report(n, buffer, at)),
+        channel_switch::ID => Ok(switch(n, buffer, at)),
+        measurement_request::ID => Ok(request_of(n, buffer, at)),
+        measurement_report::ID => Ok(report_of(n, densities, buffer, at)),
+        quiet::ID => Ok(quiet_of(n, buffer, at)),
         _ => {
-            say::text(b" unknown");
-            Wrote::Length(0)
+            say::text(out, b" unknown")?;
+            Ok(Wrote::Length(0))
         }
     }
 }
 
-fn tell(wrote: Wrote, buffer: &[u8; 32]) {
+fn tell<W: Write>(out: &mut W, wrote: Wrote, buffer: &[u8; 32]) -> io::Result<()> {
     match wrote {
-        Wrote::Refused(refusal) => say::octet(refusal.number()),
+        Wrote::Refused(refusal) => say::octet(out, refusal.number())?,
         Wrote::Length(count) => {
-            say::number(0);
-            say::number(count as u64);
+            say::number(out, 0)?;
+            say::number(out, count as u64)?;
         }
     }
-    say::text(b" in");
-    say::octets(buffer);
+    say::text(out, b" in")?;
+    say::octets(out, buffer)
 }
 
 // Of the buffer's octets only as many are lent as the call says.
-pub fn show(call: Call) {
+pub fn show<W: Write>(out: &mut W, call: Call) -> io::Result<()> {
     let n = call.numbers;
     let o = call.octets;
     let densities = [o[11], o[12], o[13], o[14], o[15], o[16], o[17], o[18]];
     let mut buffer = [170u8; 32];
     let room = (n[2] % 33) as usize;
-    let wrote = written(n, densities, &mut buffer[0..room]);
-    tell(wrote, &buffer);
+    let wrote = written(out, n, densities, &mut buffer[0..room])?;
+    tell(out, wrote, &buffer)
 }

@@ -1,6 +1,6 @@
 -- `ask` meets its contract: the refusal of octets that hold no station, or what the station answers.
 -- Assumes nothing.
-use Rattle.std.proofs.Common.{ap, rules, sym, ◌∙◌}
+use Rattle.std.proofs.Common.{ap, sym, ◌∙◌}
 use Rattle.answer.specs.Checks.{Outcome, accepted, and_then}
 use Rattle.station.specs.Asking.{permission_of}
 use Rattle.station.specs.declared.Station.{Station}

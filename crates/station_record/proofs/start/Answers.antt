@@ -1,8 +1,9 @@
--- `start` meets its contract: a start that is refused, octets that are too few, or the fresh station's record.
+-- `start` meets its contract: a start that is refused, too few octets, or the new station's record.
 -- Assumes nothing.
-use Rattle.std.proofs.Common.{ap, refl, rules, ◌≡◌}
-use Rattle.answer.specs.Checks.{Outcome, accepted, answer_of}
+use Rattle.std.proofs.Common.{refl, ◌≡◌}
+use Rattle.answer.specs.Checks.{Outcome, refused, accepted, answer_of}
 use Rattle.answer.specs.declared.Answer.{Answer}
+use Rattle.answer.specs.declared.Refusal.{Refusal}
 use Rattle.station.specs.Starting.{start_means}
 use Rattle.station.specs.declared.Station.{Station}
 use Rattle.station_record.specs.Calls.{started_in}
@@ -15,12 +16,18 @@ use Rattle.station_record.proofs.start.Goals.{After-start-started}
 abbrev outcome : After-start-started → Outcome Station
 outcome c = let a = c.args in started_in a.own a.ap a.interval a.channel a.memory.now
 
-started-at : (c : After-start-started) → c.start-started.result.answer ≡ Answer.Accepted → let a = c.args in start_means a.own a.ap a.interval a.channel ≡ accepted c.start-started.result.station
+started-at : (c : After-start-started) → c.start-started.result.answer ≡ Answer.Accepted
+    → let a = c.args in
+    start_means a.own a.ap a.interval a.channel ≡ accepted c.start-started.result.station
 started-at c e = told_accepted _ c.start-started.result c.start-started.ensures.value e
 
 pub returns-then-memory-lt-SIZE : goal.returns-then-memory-lt-SIZE
 returns-then-memory-lt-SIZE c =
-    comes_to answer_of c.args.memory.now (outcome (goal.at.returns-then-memory-lt-SIZE c).After-start-started) _ (no_room _ _ _ _ _ _ (started-at (goal.at.returns-then-memory-lt-SIZE c).After-start-started c.in-Accepted.is) c.if-memory-lt-SIZE.true) refl refl  -- CLAUSES ['value', 'memory_after']
+    let k = (goal.at.returns-then-memory-lt-SIZE c).After-start-started in
+    let w =
+    comes_to answer_of c.args.memory.now (outcome k) (refused Refusal.BufferShort)
+    (no_room _ _ _ _ _ _ (started-at k c.in-Accepted.is) c.if-memory-lt-SIZE.true) refl refl in
+    record { value = w.0; memory_after = w.1 }
 
 pub lay-requires : goal.lay-requires
 lay-requires c =
@@ -31,9 +38,19 @@ lay-requires c =
 
 pub returns-in-Refused : goal.returns-in-Refused
 returns-in-Refused c =
-    comes_to answer_of c.args.memory.now (outcome (goal.at.returns-in-Refused c).After-start-started) _ (start_refused _ _ _ _ _ _ (told_refused _ c.start-started.result _ c.start-started.ensures.value c.in-Refused.is)) c.in-Refused.is refl  -- CLAUSES ['value', 'memory_after']
+    let k = (goal.at.returns-in-Refused c).After-start-started in
+    let w =
+    comes_to answer_of c.args.memory.now (outcome k) _
+    (start_refused _ _ _ _ _ _
+    (told_refused _ c.start-started.result _ c.start-started.ensures.value c.in-Refused.is))
+    c.in-Refused.is refl in
+    record { value = w.0; memory_after = w.1 }
 
 pub returns-else-memory-lt-SIZE : goal.returns-else-memory-lt-SIZE
 returns-else-memory-lt-SIZE c =
-    comes_to answer_of c.args.memory.now (outcome (goal.at.returns-else-memory-lt-SIZE c).After-start-started) _
-    (has_room _ _ _ _ _ _ (started-at (goal.at.returns-else-memory-lt-SIZE c).After-start-started c.in-Accepted.is) c.if-memory-lt-SIZE.false) refl c.lay.ensures  -- CLAUSES ['value', 'memory_after']
+    let k = (goal.at.returns-else-memory-lt-SIZE c).After-start-started in
+    let w =
+    comes_to answer_of c.args.memory.now (outcome k) _
+    (has_room _ _ _ _ _ _ (started-at k c.in-Accepted.is) c.if-memory-lt-SIZE.false) refl
+    c.lay.ensures in
+    record { value = w.0; memory_after = w.1 }

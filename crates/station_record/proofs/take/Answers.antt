@@ -1,6 +1,6 @@
--- `take` meets its contract: the refusal of octets that hold no station, or what the station does with the frame.
+-- `take` meets its contract: octets that hold no station, or what the station does with the frame.
 -- Assumes nothing.
-use Rattle.std.proofs.Common.{List, ap, refl, rules, ℕ, ◌∙◌, ◌≡◌}
+use Rattle.std.proofs.Common.{List, ap, refl, ℕ, ◌∙◌, ◌≡◌}
 use Rattle.answer.specs.Checks.{Outcome, accepted, and_then}
 use Rattle.answer.specs.Faults.{Placed, nowhere, verdict_of}
 use Rattle.answer.specs.declared.Answer.{Answer}
@@ -22,7 +22,8 @@ memory c = c.args.memory.now
 abbrev comes : After-read-held → Outcome Station → Placed Station
 comes c o = and_then (nowhere o) (λ s. take_means s c.args.frame.now)
 
-holds : (c : After-read-held) → c.read-held.result.answer ≡ Answer.Accepted → held_in (memory c) ≡ accepted c.read-held.result.station
+holds : (c : After-read-held) → c.read-held.result.answer ≡ Answer.Accepted
+    → held_in (memory c) ≡ accepted c.read-held.result.station
 holds c e = told_accepted (held_in (memory c)) c.read-held.result c.read-held.ensures.value e
 
 pub take-taken-requires : goal.take-taken-requires
@@ -37,15 +38,35 @@ lay-requires c =
 
 pub returns-in-Refused : goal.returns-in-Refused
 returns-in-Refused c =
-    comes_to verdict_of (memory (goal.at.returns-in-Refused c).After-read-held) (taken_in c.args.frame.now (memory (goal.at.returns-in-Refused c).After-read-held)) _
-    (ap (comes (goal.at.returns-in-Refused c).After-read-held) (told_refused (held_in (memory (goal.at.returns-in-Refused c).After-read-held)) c.read-held.result _ c.read-held.ensures.value c.in-Refused.is)) (ap (λ (f : Fault). Verdict.Refused f) c.nowhere.ensures) refl  -- CLAUSES ['value', 'memory_after']
+    let k = (goal.at.returns-in-Refused c).After-read-held in
+    let os = memory k in
+    let w =
+    comes_to verdict_of os (taken_in c.args.frame.now os) _
+    (ap (comes k)
+    (told_refused (held_in os) c.read-held.result _ c.read-held.ensures.value c.in-Refused.is))
+    (ap (λ (f : Fault). Verdict.Refused f) c.nowhere.ensures) refl in
+    record { value = w.0; memory_after = w.1 }
 
 pub returns-in-Refused-verdict : goal.returns-in-Refused-verdict
 returns-in-Refused-verdict c =
-    comes_to verdict_of (memory (goal.at.returns-in-Refused-verdict c).After-read-held) (taken_in c.args.frame.now (memory (goal.at.returns-in-Refused-verdict c).After-read-held)) _
-    (ap (comes (goal.at.returns-in-Refused-verdict c).After-read-held) (holds (goal.at.returns-in-Refused-verdict c).After-read-held c.in-Accepted.is) ∙ judged_refused c.read-held.result.station _ c.take-taken.result _ c.take-taken.ensures.value c.in-Refused-verdict.is) c.in-Refused-verdict.is refl  -- CLAUSES ['value', 'memory_after']
+    let k = (goal.at.returns-in-Refused-verdict c).After-read-held in
+    let os = memory k in
+    let w =
+    comes_to verdict_of os (taken_in c.args.frame.now os) _
+    (ap (comes k) (holds k c.in-Accepted.is)
+    ∙ judged_refused c.read-held.result.station _ c.take-taken.result _
+    c.take-taken.ensures.value c.in-Refused-verdict.is)
+    c.in-Refused-verdict.is refl in
+    record { value = w.0; memory_after = w.1 }
 
 pub returns-in-Accepted-verdict : goal.returns-in-Accepted-verdict
 returns-in-Accepted-verdict c =
-    comes_to verdict_of (memory (goal.at.returns-in-Accepted-verdict c).After-read-held) (taken_in c.args.frame.now (memory (goal.at.returns-in-Accepted-verdict c).After-read-held)) _
-    (ap (comes (goal.at.returns-in-Accepted-verdict c).After-read-held) (holds (goal.at.returns-in-Accepted-verdict c).After-read-held c.in-Accepted.is) ∙ judged_accepted c.read-held.result.station _ c.take-taken.result c.take-taken.ensures.value c.in-Accepted-verdict.is) refl c.lay.ensures  -- CLAUSES ['value', 'memory_after']
+    let k = (goal.at.returns-in-Accepted-verdict c).After-read-held in
+    let os = memory k in
+    let w =
+    comes_to verdict_of os (taken_in c.args.frame.now os) _
+    (ap (comes k) (holds k c.in-Accepted.is)
+    ∙ judged_accepted c.read-held.result.station _ c.take-taken.result
+    c.take-taken.ensures.value c.in-Accepted-verdict.is)
+    refl c.lay.ensures in
+    record { value = w.0; memory_after = w.1 }

@@ -1,6 +1,6 @@
 -- `Apart::nobody` meets its contract: with no schedule in use the columns are not looked at.
 -- Assumes nothing.
-use Rattle.std.proofs.Common.{refl, rules}
+use Rattle.std.proofs.Common.{refl}
 use Rattle.apart.specs.Apart.{whole_of}
 use Rattle.apart.specs.Columns.{schedules_in}
 use Rattle.apart.proofs.Apart.nobody.Goals as goal

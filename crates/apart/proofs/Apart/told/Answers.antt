@@ -1,6 +1,6 @@
 -- `Apart::told` meets its contract.
 -- Assumes nothing.
-use Rattle.std.proofs.Common.{ap, ap₂, rules, sym, ℕ, ◌∙◌, ◌≡◌}
+use Rattle.std.proofs.Common.{ap, ap₂, sym, ℕ, ◌∙◌}
 use Rattle.beacon.specs.declared.MaybeSwitch.{MaybeSwitch}
 use Rattle.station.specs.Rests.{rest_announced}
 use Rattle.station.specs.Taking.{constrained, announced_if}

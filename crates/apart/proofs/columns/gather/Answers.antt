@@ -1,6 +1,6 @@
 -- `gather` meets its contract. The invariant: the slots so far hold the schedules of their rows, and the others are blank.
 -- Assumes nothing.
-use Rattle.std.proofs.Common.{ap, arith, refl, replicate, rules, sym, ℕ, ◌++◌, ◌-◌, ◌∙◌, ◌≡◌, ◌≤◌}
+use Rattle.std.proofs.Common.{ap, arith, refl, replicate, rules, sym, ℕ, ◌++◌, ◌-◌, ◌∙◌, ◌≡◌}
 use Rattle.beacon.specs.Beacons.{quiet_limit}
 use Rattle.station.specs.Stations.{no_schedule, slotted}
 use Rattle.apart.specs.Columns.{Columns, columns, schedules_in}
@@ -22,16 +22,16 @@ pub loop-row-init : goal.loop-row-init
 loop-row-init c = (search rules, empty _)
 
 pub schedule_at-schedule-requires : goal.schedule_at-schedule-requires
-schedule_at-schedule-requires c = let p = c.requires in record {
-  roomy = p.0;
-  row_lt_quiet_limit = omega (arith, p.1);
-}
+schedule_at-schedule-requires c =
+    let few = c.requires.count_le_quiet_limit in
+    record { roomy = c.requires.roomy; row_lt_quiet_limit = omega (arith, few) }
 
 pub loop-row-preserved : goal.loop-row-preserved
 loop-row-preserved c =
     let l = c.loop-row in
-    let p = c.requires in
-    (search rules, rw (l.invariant.1, c.schedule_at-schedule.ensures) (one_slot_more _ l.row (omega (arith, p.1))))
+    let few = c.requires.count_le_quiet_limit in
+    let more = one_slot_more _ l.row (omega (arith, few)) in
+    (search rules, rw (l.invariant.1, c.schedule_at-schedule.ensures) more)
 
 pub returns : goal.returns
 returns c =

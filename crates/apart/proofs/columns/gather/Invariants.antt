@@ -1,8 +1,7 @@
-use Rattle.std.proofs.Common.{ap, arith, refl, replicate, rules, sym, ℕ, ◌++◌, ◌-◌, ◌∙◌, ◌≡◌, ◌≤◌}
+use Rattle.std.proofs.Common.{replicate, ◌++◌, ◌-◌, ◌≡◌, ◌≤◌}
 use Rattle.beacon.specs.Beacons.{quiet_limit}
-use Rattle.station.specs.Stations.{no_schedule, slotted}
-use Rattle.apart.specs.Columns.{Columns, columns, schedules_in}
-use Rattle.apart.proofs.Rows.{rows_many, one_slot_more}
+use Rattle.station.specs.Stations.{no_schedule}
+use Rattle.apart.specs.Columns.{columns, schedules_in}
 use Rattle.apart.proofs.columns.gather.Given as goal
 
 abbrev pub invariant-loop-row : goal.invariant-loop-row

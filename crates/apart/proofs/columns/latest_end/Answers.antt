@@ -1,6 +1,6 @@
 -- `latest_end` meets its contract. The invariant: the latest end so far is that of the rows so far.
 -- Assumes nothing.
-use Rattle.std.proofs.Common.{ap, arith, rules, ℕ, ◌-◌, ◌∙◌, ◌≡◌, ◌≤◌}
+use Rattle.std.proofs.Common.{ap, arith, rules, ℕ, ◌∙◌, ◌≡◌}
 use Rattle.station.specs.Taking.{latest_end}
 use Rattle.apart.specs.Columns.{columns, schedules_in}
 use Rattle.apart.proofs.Rows.{no_end, end_more}
@@ -10,10 +10,9 @@ pub loop-row-init : goal.loop-row-init
 loop-row-init c = (search rules, no_end _ _ _)
 
 pub schedule_at-schedule-requires : goal.schedule_at-schedule-requires
-schedule_at-schedule-requires c = let p = c.requires in record {
-  roomy = p.0;
-  row_lt_quiet_limit = omega (arith, p.1);
-}
+schedule_at-schedule-requires c =
+    let few = c.requires.count_le_quiet_limit in
+    record { roomy = c.requires.roomy; row_lt_quiet_limit = omega (arith, few) }
 
 pub loop-row-preserved : goal.loop-row-preserved
 loop-row-preserved c =

@@ -1,7 +1,6 @@
-use Rattle.std.proofs.Common.{ap, arith, rules, ℕ, ◌-◌, ◌∙◌, ◌≡◌, ◌≤◌}
+use Rattle.std.proofs.Common.{◌-◌, ◌≡◌, ◌≤◌}
 use Rattle.station.specs.Taking.{latest_end}
 use Rattle.apart.specs.Columns.{columns, schedules_in}
-use Rattle.apart.proofs.Rows.{no_end, end_more}
 use Rattle.apart.proofs.columns.latest_end.Given as goal
 
 abbrev pub invariant-loop-row : goal.invariant-loop-row

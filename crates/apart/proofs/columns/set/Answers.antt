@@ -1,6 +1,6 @@
 -- `set` meets its contract. The invariant: the rows so far hold the schedules that the first Quiet elements set.
 -- Assumes nothing.
-use Rattle.std.proofs.Common.{List, ap, arith, length, rules, subst, sym, take, ℕ, ◌-◌, ◌/◌, ◌<◌, ◌∙◌, ◌≡◌, ◌≤◌}
+use Rattle.std.proofs.Common.{List, ap, arith, length, rules, subst, sym, take, ℕ, ◌/◌, ◌<◌, ◌∙◌, ◌≡◌}
 use Rattle.beacon.specs.Beacons.{quiet_limit}
 use Rattle.station.specs.Taking.{schedules_of}
 use Rattle.schedule.specs.declared.Schedule.{Schedule}
@@ -13,11 +13,9 @@ loop-row-init c = (search rules, none_filled _ _ c.requires.roomy)
 
 pub put-requires : goal.put-requires
 put-requires c =
-    let l = c.loop-row in
-    let p = c.requires in
     record {
-      roomy = l.invariant.1.roomy;
-      row_lt_quiet_limit = omega (arith, p.1.1);
+      roomy = c.loop-row.invariant.1.roomy;
+      row_lt_quiet_limit = omega (arith, c.requires.le_interval.1);
     }
 
 pub loop-row-preserved : goal.loop-row-preserved

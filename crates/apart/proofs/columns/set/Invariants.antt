@@ -1,9 +1,7 @@
-use Rattle.std.proofs.Common.{List, ap, arith, length, rules, subst, sym, take, ℕ, ◌-◌, ◌/◌, ◌<◌, ◌∙◌, ◌≡◌, ◌≤◌}
-use Rattle.beacon.specs.Beacons.{quiet_limit}
+use Rattle.std.proofs.Common.{◌-◌, ◌/◌, ◌≤◌}
 use Rattle.station.specs.Taking.{schedules_of}
-use Rattle.schedule.specs.declared.Schedule.{Schedule}
-use Rattle.apart.specs.Columns.{columns, rows_over}
-use Rattle.apart.proofs.Rows.{Filled, none_filled, fills, eight_set, set_here, first_set}
+use Rattle.apart.specs.Columns.{columns}
+use Rattle.apart.proofs.Rows.{Filled}
 use Rattle.apart.proofs.columns.set.Given as goal
 
 abbrev pub invariant-loop-row : goal.invariant-loop-row

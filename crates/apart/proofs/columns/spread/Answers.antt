@@ -1,6 +1,6 @@
 -- `spread` meets its contract. The invariant: the rows so far hold the first schedules.
 -- Assumes nothing.
-use Rattle.std.proofs.Common.{List, ap, arith, length, refl, rules, subst, sym, take_all, ℕ, ◌-◌, ◌∙◌, ◌≡◌, ◌≤◌}
+use Rattle.std.proofs.Common.{List, ap, arith, length, refl, rules, subst, sym, take_all, ◌∙◌, ◌≡◌}
 use Rattle.beacon.specs.Beacons.{quiet_limit}
 use Rattle.schedule.specs.declared.Schedule.{Schedule}
 use Rattle.apart.specs.Columns.{columns, rows_over}

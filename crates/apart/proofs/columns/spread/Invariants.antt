@@ -1,8 +1,7 @@
-use Rattle.std.proofs.Common.{List, ap, arith, length, refl, rules, subst, sym, take_all, ℕ, ◌-◌, ◌∙◌, ◌≡◌, ◌≤◌}
+use Rattle.std.proofs.Common.{◌-◌, ◌≤◌}
 use Rattle.beacon.specs.Beacons.{quiet_limit}
-use Rattle.schedule.specs.declared.Schedule.{Schedule}
-use Rattle.apart.specs.Columns.{columns, rows_over}
-use Rattle.apart.proofs.Rows.{Filled, none_filled, fills}
+use Rattle.apart.specs.Columns.{columns}
+use Rattle.apart.proofs.Rows.{Filled}
 use Rattle.apart.proofs.columns.spread.Given as goal
 
 abbrev pub invariant-loop-row : goal.invariant-loop-row

@@ -1,5 +1,5 @@
 -- `due_to` meets its contract: the header, then the body by its subtype.
-use Rattle.std.proofs.Common.{List, ap, rules, sym, ℕ, ◌∙◌, ◌≡◌}
+use Rattle.std.proofs.Common.{List, ap, sym, ℕ, ◌∙◌, ◌≡◌}
 use Rattle.answer.specs.Checks.{accepted}
 use Rattle.frame.specs.Actions.{action_means}
 use Rattle.header.specs.Headers.{body_of, header_told, Head, header_means}

@@ -1,5 +1,5 @@
 -- `owed_to` meets its contract, kind by kind.
-use Rattle.std.proofs.Common.{Bool, ap, rules, sym, ◌∙◌, ◌≡◌}
+use Rattle.std.proofs.Common.{Bool, ap, sym, ◌∙◌, ◌≡◌}
 use Rattle.answer.specs.Checks.{refused, accepted, pick}
 use Rattle.answer.specs.declared.Refusal.{Refusal}
 use Rattle.frame.specs.Actions.{action_means}
@@ -17,8 +17,8 @@ due : (c : In-Is) {f : Frame} → c.in-Is.frame ≡ f
 due c e =
     let a = c.args in
     let asked = c.read_request-asked in
-    frame_due_lem a.index asked.result.request a.body.now asked.ensures.1 _
-    (ap accepted (sym e) ∙ ap frame_told (sym c.in-Is.is) ∙ asked.ensures.0)
+    frame_due_lem a.index asked.result.request a.body.now asked.ensures.request_value _
+    (ap accepted (sym e) ∙ ap frame_told (sym c.in-Is.is) ∙ asked.ensures.reading_value)
 
 -- a broken body, by its category
 back : (c : After-has_category) {t : Bool} → c.has_category.result ≡ t
@@ -27,7 +27,7 @@ back : (c : After-has_category) {t : Bool} → c.has_category.result ≡ t
 back c e =
     let a = c.args in
     let asked = c.read_request-asked in
-    broken a.index asked.result.request a.body.now (ap frame_told (sym c.in-Refused.is) ∙ asked.ensures.0) (sym c.has_category.ensures ∙ e)
+    broken a.index asked.result.request a.body.now (ap frame_told (sym c.in-Refused.is) ∙ asked.ensures.reading_value) (sym c.has_category.ensures ∙ e)
 
 pub returns-then-has_category : goal.returns-then-has_category
 returns-then-has_category c = back (goal.at.returns-then-has_category c).After-has_category c.if-has_category.true

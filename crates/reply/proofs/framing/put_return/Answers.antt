@@ -1,7 +1,7 @@
 -- `put_return` meets its contract: the frame is put, and then its category changes.
 -- Assumes nothing.
-use Rattle.std.proofs.Common.{arith, length, rules, ◌<◌}
-use Rattle.reply.proofs.Returning.{some, small, not_returned, past_header, returned}
+use Rattle.std.proofs.Common.{length, rules, ◌<◌}
+use Rattle.reply.proofs.Returning.{some, not_returned, past_header, returned}
 use Rattle.reply.proofs.framing.put_return.Goals as goal
 use Rattle.reply.proofs.framing.put_return.Goals.{After-put_frame}
 

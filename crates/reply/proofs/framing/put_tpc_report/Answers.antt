@@ -1,6 +1,6 @@
 -- `put_tpc_report` meets its contract: the body stands in a buffer of just its length.
 -- Assumes nothing.
-use Rattle.std.proofs.Common.{ap, length, refl, replicate, rules, ℕ, ◌≡◌}
+use Rattle.std.proofs.Common.{ap, length, refl, replicate, ℕ, ◌≡◌}
 use Rattle.single_body.specs.Singles.{tpc_report_body}
 use Rattle.element.specs.TpcReport.{tpc_report_octets}
 use Rattle.element.specs.declared.tpc_report.TpcReport.{TpcReport}

@@ -1,6 +1,6 @@
 -- `is_broken` meets its contract: each way out is a way through the tests.
 -- Assumes nothing.
-use Rattle.std.proofs.Common.{Bool, List, ap, ap₂, eq-eqb, eqb, le-ltb, lt-ltb, ltb, ne_eqb, not, rules, sym, ℕ, ◌||◌, ◌∙◌, ◌≡◌}
+use Rattle.std.proofs.Common.{Bool, List, ap, ap₂, eq-eqb, eqb, le-ltb, lt-ltb, ltb, ne_eqb, not, sym, ℕ, ◌||◌, ◌∙◌, ◌≡◌}
 use Rattle.answer.proofs.Booleans.{or_go, or_stop}
 use Rattle.beacon.specs.Beacons.{quiet_limit}
 use Rattle.octets.specs.Numbers.{octet, octets_from, number}

@@ -1,8 +1,7 @@
 -- `lay_slots` meets its contract. The invariant: after the octets in front the first i schedules are laid.
 -- Assumes nothing.
-use Rattle.std.proofs.Common.{ap, arith, length, refl, rules, subst₂, take, ℕ, ◌*◌, ◌++◌, ◌+◌, ◌-◌, ◌∙◌, ◌≡◌, ◌≤◌}
+use Rattle.std.proofs.Common.{ap, arith, length, refl, rules, subst₂, take, ℕ, ◌*◌, ◌++◌, ◌+◌, ◌∙◌, ◌≡◌}
 use Rattle.octets.proofs.PartsBuilt.{Built, front_built, part_built}
-use Rattle.octets.proofs.Storing.{same_room}
 use Rattle.octets.specs.Writing.{filled}
 use Rattle.station_record.specs.Records.{head_length, slot_length, slots_of}
 use Rattle.station_record.proofs.SlotBySlot.{next_laid}

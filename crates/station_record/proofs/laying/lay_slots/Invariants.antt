@@ -1,9 +1,6 @@
-use Rattle.std.proofs.Common.{ap, arith, length, refl, rules, subst₂, take, ℕ, ◌*◌, ◌++◌, ◌+◌, ◌-◌, ◌∙◌, ◌≡◌, ◌≤◌}
-use Rattle.octets.proofs.PartsBuilt.{Built, front_built, part_built}
-use Rattle.octets.proofs.Storing.{same_room}
-use Rattle.octets.specs.Writing.{filled}
+use Rattle.std.proofs.Common.{take, ◌*◌, ◌++◌, ◌+◌, ◌-◌, ◌≤◌}
+use Rattle.octets.proofs.PartsBuilt.{Built}
 use Rattle.station_record.specs.Records.{head_length, slot_length, slots_of}
-use Rattle.station_record.proofs.SlotBySlot.{next_laid}
 use Rattle.station_record.proofs.laying.lay_slots.Given as goal
 
 abbrev pub invariant-loop-i : goal.invariant-loop-i

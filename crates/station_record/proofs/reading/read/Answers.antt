@@ -1,6 +1,6 @@
 -- `read` meets its contract: nothing is held, or each field is read where it stands.
 -- Assumes nothing.
-use Rattle.std.proofs.Common.{List, ap, arith, false, rules, subst, sym, ℕ, ◌∙◌, ◌≡◌}
+use Rattle.std.proofs.Common.{List, ap, arith, false, subst, sym, ℕ, ◌∙◌, ◌≡◌}
 use Rattle.answer.specs.declared.Answer.{Answer}
 use Rattle.answer.specs.declared.Refusal.{Refusal}
 use Rattle.station.specs.Starting.{started}

@@ -1,6 +1,6 @@
 -- `schedules_in` meets its contract. The invariant: the first i schedules are in their slots.
 -- Assumes nothing.
-use Rattle.std.proofs.Common.{List, ap, ap₂, arith, refl, rules, set, ℕ, ◌-◌, ◌∙◌, ◌≡◌, ◌≤◌}
+use Rattle.std.proofs.Common.{List, ap, ap₂, arith, refl, set, ℕ, ◌∙◌, ◌≡◌}
 use Rattle.schedule.specs.declared.Schedule.{Schedule}
 use Rattle.station.specs.Stations.{slotted}
 use Rattle.station_record.specs.Held.{schedules_from}

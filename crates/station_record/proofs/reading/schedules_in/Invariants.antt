@@ -1,9 +1,7 @@
-use Rattle.std.proofs.Common.{List, ap, ap₂, arith, refl, rules, set, ℕ, ◌-◌, ◌∙◌, ◌≡◌, ◌≤◌}
-use Rattle.schedule.specs.declared.Schedule.{Schedule}
+use Rattle.std.proofs.Common.{◌-◌, ◌≡◌, ◌≤◌}
 use Rattle.station.specs.Stations.{slotted}
 use Rattle.station_record.specs.Held.{schedules_from}
 use Rattle.station_record.specs.Records.{head_length}
-use Rattle.station_record.proofs.SlotBySlot.{next_read}
 use Rattle.station_record.proofs.reading.schedules_in.Given as goal
 
 abbrev pub invariant-loop-i : goal.invariant-loop-i

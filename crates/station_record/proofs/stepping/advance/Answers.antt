@@ -23,10 +23,13 @@ use Rattle.station_record.proofs.stepping.advance.Goals.{After-advance_clock}
 
 pub returns-then-is_broken : goal.returns-then-is_broken
 returns-then-is_broken c =
-    let a = c.args in
-    let os = a.memory.now in
-    comes_to answer_of os (advanced_in a.units os) (refused Refusal.Impossible)
-    (ap (λ (o : Outcome Station). and_then o (λ s. advance_means s a.units)) (held_none os (sym c.is_broken.ensures ∙ c.if-is_broken.true))) refl refl  -- CLAUSES ['value', 'memory_after']
+    let n = c.args.units in
+    let os = c.args.memory.now in
+    let w =
+    comes_to answer_of os (advanced_in n os) (refused Refusal.Impossible)
+    (ap (λ (o : Outcome Station). and_then o (λ s. advance_means s n))
+    (held_none os (sym c.is_broken.ensures ∙ c.if-is_broken.true))) refl refl in
+    record { value = w.0; memory_after = w.1 }
 
 -- ---- the octets hold a station, whose clock is judged
 abbrev octets : After-advance_clock → List ℕ
@@ -36,25 +39,33 @@ holds : (c : After-advance_clock) → no_record (octets c) ≡ false
 holds c = sym c.is_broken.ensures ∙ c.if-is_broken.false
 
 each : (c : After-advance_clock) → Octets (octets c)
-each c i = omega (arith, c.slice_known-1.given i)
+each c i = search rules
 
 roomy : (c : After-advance_clock) → size ≤ length (octets c)
 roomy c = (sound (octets c) (holds c)).roomy
 
 -- what that makes of the station is what the call comes to
-means : (s : Station) (n : ℕ) (k : Advanced) → clock_advance s.clock s.pending n ≡ k → advance_means s n ≡ advanced_to s k
+means : (s : Station) (n : ℕ) (k : Advanced) → clock_advance s.clock s.pending n ≡ k
+    → advance_means s n ≡ advanced_to s k
 unfolding advance_means
 means s n k e = ap (advanced_to s) e
 
-does : (c : After-advance_clock) (k : Advanced) {answer : Answer} {exit : List ℕ} → c.advance_clock.result ≡ k
-    → let o = advanced_to (station_at (octets c)) k in answer ≡ answer_of o → exit ≡ relaid (octets c) o
-    → let p = advanced_in c.args.units (octets c) in (answer ≡ answer_of p) × (exit ≡ relaid (octets c) p)
+does : (c : After-advance_clock) (k : Advanced) {answer : Answer} {exit : List ℕ}
+    → c.advance_clock.result ≡ k
+    → let o = advanced_to (station_at (octets c)) k in
+    answer ≡ answer_of o → exit ≡ relaid (octets c) o
+    → let p = advanced_in c.args.units (octets c) in
+    (answer ≡ answer_of p) × (exit ≡ relaid (octets c) p)
 does c k told says left =
     let os = octets c in
     let n = c.args.units in
-    let judged = ap₂ (λ (t : ℕ) (p : Pending). clock_advance t p n) (sym c.number32-clock.ensures) (sym c.pending_in-pending.ensures) ∙ sym c.advance_clock.ensures ∙ told in
+    let judged =
+    ap₂ (λ (t : ℕ) (p : Pending). clock_advance t p n)
+    (sym c.number32-clock.ensures) (sym c.pending_in-pending.ensures)
+    ∙ sym c.advance_clock.ensures ∙ told in
     comes_to answer_of os (advanced_in n os) _
-    (ap (λ (o : Outcome Station). and_then o (λ s. advance_means s n)) (held_some os (holds c)) ∙ means (station_at os) n k judged) says left
+    (ap (λ (o : Outcome Station). and_then o (λ s. advance_means s n)) (held_some os (holds c))
+    ∙ means (station_at os) n k judged) says left
 
 pub tell-requires : goal.tell-requires
 tell-requires c = roomy (goal.at.tell-requires c).After-advance_clock
@@ -64,18 +75,35 @@ tell-requires-in-Switches c = roomy (goal.at.tell-requires-in-Switches c).After-
 
 pub switch-requires : goal.switch-requires
 switch-requires c =
-    omega (arith, roomy (goal.at.switch-requires c).After-advance_clock, ap length c.tell-in-Switches.ensures, over_length (octets (goal.at.switch-requires c).After-advance_clock) 4 (split 4 c.in-Switches.moment) (omega (arith, roomy (goal.at.switch-requires c).After-advance_clock)))
+    let k = (goal.at.switch-requires c).After-advance_clock in
+    let room = roomy k in
+    let same = over_length (octets k) 4 (split 4 c.in-Switches.moment) (omega (arith, room)) in
+    omega (arith, room, ap length c.tell-in-Switches.ensures, same)
 
 pub returns-in-Refused : goal.returns-in-Refused
-returns-in-Refused c = does (goal.at.returns-in-Refused c).After-advance_clock Advanced.Refused c.in-Refused.is refl refl  -- CLAUSES ['value', 'memory_after']
+returns-in-Refused c =
+    let k = (goal.at.returns-in-Refused c).After-advance_clock in
+    let w = does k Advanced.Refused c.in-Refused.is refl refl in
+    record { value = w.0; memory_after = w.1 }
 
 pub returns-in-Goes : goal.returns-in-Goes
 returns-in-Goes c =
-    does (goal.at.returns-in-Goes c).After-advance_clock (Advanced.Goes c.in-Goes.moment) c.in-Goes.is refl (c.tell.ensures ∙ told_in_place (octets (goal.at.returns-in-Goes c).After-advance_clock) (each (goal.at.returns-in-Goes c).After-advance_clock) (holds (goal.at.returns-in-Goes c).After-advance_clock) c.in-Goes.moment)  -- CLAUSES ['value', 'memory_after']
+    let k = (goal.at.returns-in-Goes c).After-advance_clock in
+    let m = c.in-Goes.moment in
+    let w =
+    does k (Advanced.Goes m) c.in-Goes.is refl
+    (c.tell.ensures ∙ told_in_place (octets k) (each k) (holds k) m) in
+    record { value = w.0; memory_after = w.1 }
 
 pub returns-in-Switches : goal.returns-in-Switches
 returns-in-Switches c =
-    does (goal.at.returns-in-Switches c).After-advance_clock (Advanced.Switches c.in-Switches.moment c.in-Switches.channel) c.in-Switches.is refl
+    let k = (goal.at.returns-in-Switches c).After-advance_clock in
+    let m = c.in-Switches.moment in
+    let channel = c.in-Switches.channel in
+    let state = state_octets MaybePower.Absent Pending.Nothing 0 0 in
+    let w =
+    does k (Advanced.Switches m channel) c.in-Switches.is refl
     (c.switch.ensures
-    ∙ ap (λ (b : List ℕ). over (over b 1 (c.in-Switches.channel ∷ [])) 20 (state_octets MaybePower.Absent Pending.Nothing 0 0)) c.tell-in-Switches.ensures
-    ∙ switched_in_place (octets (goal.at.returns-in-Switches c).After-advance_clock) (each (goal.at.returns-in-Switches c).After-advance_clock) (holds (goal.at.returns-in-Switches c).After-advance_clock) c.in-Switches.moment c.in-Switches.channel)  -- CLAUSES ['value', 'memory_after']
+    ∙ ap (λ (b : List ℕ). over (over b 1 (channel ∷ [])) 20 state) c.tell-in-Switches.ensures
+    ∙ switched_in_place (octets k) (each k) (holds k) m channel) in
+    record { value = w.0; memory_after = w.1 }

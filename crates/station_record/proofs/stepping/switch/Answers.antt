@@ -1,6 +1,6 @@
 -- `switch` meets its contract: the channel's octet and the state are put over those that stand there.
 -- Assumes nothing.
-use Rattle.std.proofs.Common.{List, [], ap, arith, length, refl, rules, ℕ, ◌∙◌, ◌∷◌}
+use Rattle.std.proofs.Common.{List, [], ap, arith, length, refl, ℕ, ◌∙◌, ◌∷◌}
 use Rattle.beacon.specs.declared.MaybePower.{MaybePower}
 use Rattle.octets.proofs.Storing.{put_at, over_length}
 use Rattle.octets.specs.Writing.{over}

@@ -1,6 +1,6 @@
 -- `tell` meets its contract: the clock's octets are put over those that stand there.
 -- Assumes nothing.
-use Rattle.std.proofs.Common.{arith, rules}
+use Rattle.std.proofs.Common.{arith}
 use Rattle.octets.proofs.Storing.{put_at}
 use Rattle.station_record.proofs.stepping.tell.Goals as goal
 
