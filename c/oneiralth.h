@@ -1,5 +1,6 @@
 /* The proved library for C on x86-64 (docs/BOUNDARY.md): frames, elements, action bodies, replies, a station and the evening list of IEEE Std 802.11h-2003,
- * under the scope document's rules. Link with libboundary.a, which `rt staticlib boundary` makes.
+ * under the scope document's rules. Link with crates/boundary/out/libboundary.a, which
+ * `tools/build boundary` makes.
  *
  * Nothing is kept between calls; a station lives in octets that its caller keeps. Every function takes every input, always ends, and gives back a number
  * of 0 or more, or minus a refusal's number (-1 to -22, the scope document's table; -23 is given by no function yet). A refused call leaves every octet of
