@@ -1,5 +1,5 @@
 -- `open` meets its contract: each way out is a way through the list of checks.
-use Rattle.std.proofs.Common.{ap, eq-eqb, le-ltb, lt-ltb, ne_eqb, not, rules, sym, ◌∙◌}
+use Rattle.std.proofs.Common.{ap, eq-eqb, le-ltb, lt-ltb, ne_eqb, not, sym, ◌∙◌}
 use Rattle.answer.proofs.Judged.{past, stop, done, through}
 use Rattle.answer.specs.Checks.{refused}
 use Rattle.action.specs.Openings.{opens_with}

@@ -1,7 +1,7 @@
 -- `read` meets its contract. The invariant: what was said so far, and what the elements from here on add to it is what the body
 -- says; the measure is what is left.
 -- Assumes nothing.
-use Rattle.std.proofs.Common.{Bool, List, [], ap, ap₂, arith, drop, false, length, length-drop, length-take-le, refl, rules, subst, sym, take, true, ℕ, ◌-◌, ◌∙◌, ◌≡◌}
+use Rattle.std.proofs.Common.{Bool, List, [], ap, ap₂, arith, drop, false, length, length-drop, length-take-le, refl, subst, sym, take, true, ℕ, ◌-◌, ◌∙◌, ◌≡◌}
 use Rattle.answer.specs.Checks.{refused}
 use Rattle.answer.specs.Faults.{Placed}
 use Rattle.answer.specs.declared.Fault.{Fault}
@@ -21,7 +21,7 @@ use Rattle.beacon.specs.declared.quiets.MaybeQuiet.{MaybeQuiet}
 use Rattle.beacon.proofs.Allowing.{opening_allowed}
 use Rattle.beacon.proofs.InIbss.{where_read}
 use Rattle.beacon.proofs.Saying.{short_body, other_interval, body_says}
-use Rattle.beacon.proofs.Walking.{Walked, Comes, at_end, at_cut_header, at_cut_contents, at_bad_dfs, at_dfs, at_refused, at_notice, no_slot, at_quiet}
+use Rattle.beacon.proofs.Walking.{Comes, at_end, at_cut_header, at_cut_contents, at_bad_dfs, at_dfs, at_refused, at_notice, no_slot, at_quiet}
 use Rattle.beacon.proofs.read.Goals as goal
 use Rattle.beacon.proofs.read.Goals.{After-add_element, After-element_at, After-read_dfs-naming, In-Is}
 

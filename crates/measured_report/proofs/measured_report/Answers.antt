@@ -1,6 +1,6 @@
 -- `measured_report` meets its contract: now, late, or still to come.
 -- Assumes nothing.
-use Rattle.std.proofs.Common.{eq-eqb, le-ltb, lt-ltb, ne_eqb, rules, ◌∙◌}
+use Rattle.std.proofs.Common.{eq-eqb, le-ltb, lt-ltb, ne_eqb, ◌∙◌}
 use Rattle.measured_report.proofs.measured_report.Goals as goal
 
 pub returns-then-span-eq0 : goal.returns-then-span-eq0

@@ -1,6 +1,6 @@
 -- `report_for` meets its contract, by what was asked.
 -- Assumes nothing.
-use Rattle.std.proofs.Common.{rules, ◌∙◌}
+use Rattle.std.proofs.Common.{◌∙◌}
 use Rattle.measured_report.proofs.report_for.Goals as goal
 
 pub returns-in-Enable : goal.returns-in-Enable

@@ -1,6 +1,6 @@
 -- `add` meets its contract: each element picks its arm here and in the definition, and there the one check fails or does not.
 -- Assumes nothing.
-use Rattle.std.proofs.Common.{ap, le-leb, rules, subst}
+use Rattle.std.proofs.Common.{ap, le-leb, subst}
 use Rattle.answer.proofs.Judged.{past, stop, done}
 use Rattle.beacon.specs.CodeTerms.Adding.{Slotless}
 use Rattle.beacon.specs.Notices.{has_power, has_report, has_switch}

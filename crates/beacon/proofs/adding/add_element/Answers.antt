@@ -1,6 +1,6 @@
 -- `add_element` meets its contract: the element is read and added, here and in the definition.
 -- Assumes nothing.
-use Rattle.std.proofs.Common.{ap, rules, sym, ◌∙◌, ◌≡◌}
+use Rattle.std.proofs.Common.{ap, sym, ◌∙◌, ◌≡◌}
 use Rattle.answer.specs.Checks.{Outcome, and_then}
 use Rattle.beacon.specs.Beacons.{Told, adds, takes}
 use Rattle.beacon.specs.CodeTerms.Adding.{element_told}

@@ -1,6 +1,6 @@
 -- `element_of` meets its contract: an ID picks its arm here and in the definition, and there its reader tells what it means.
 -- Assumes nothing.
-use Rattle.std.proofs.Common.{ap, rules, ◌∙◌}
+use Rattle.std.proofs.Common.{ap, ◌∙◌}
 use Rattle.element.specs.ChannelSwitch.{switch_told}
 use Rattle.element.specs.PowerConstraint.{power_told}
 use Rattle.element.specs.Quiet.{quiet_told}

@@ -1,6 +1,6 @@
 -- `read_dfs` meets its contract: the contents, then whether there was another one.
 -- Assumes nothing.
-use Rattle.std.proofs.Common.{ap, ap₂, rules, sym, true, ◌∙◌}
+use Rattle.std.proofs.Common.{ap, ap₂, sym, true, ◌∙◌}
 use Rattle.answer.specs.declared.Answer.{Answer}
 use Rattle.element.specs.declared.ibss_dfs.IbssDfs.{IbssDfs}
 use Rattle.element.specs.declared.ibss_dfs.Pair.{Pair}

@@ -1,6 +1,6 @@
 -- `quiet_at` meets its contract: each way out but the last says why no Quiet element that is taken stands there.
 -- Assumes nothing.
-use Rattle.std.proofs.Common.{ap, arith, rules, sym, ◌∙◌}
+use Rattle.std.proofs.Common.{ap, arith, sym, ◌∙◌}
 use Rattle.element.specs.Quiet.{quiet_told}
 use Rattle.beacon.proofs.Quieting.{too_short, other_header, bad_contents, stands}
 use Rattle.beacon.proofs.quiets.quiet_at.Goals as goal

@@ -1,5 +1,5 @@
 -- `measurement_report::is_silent` meets its contract: after i turns it has the sum of the first i densities, each below 256.
-use Rattle.std.proofs.Common.{Fits, ap, arith, eqb, get_or, length, rules, sym, take, take_all, w8, ℕ, ◌*◌, ◌-◌, ◌∙◌, ◌≡◌, ◌≤◌}
+use Rattle.std.proofs.Common.{Fits, ap, arith, eqb, get_or, length, rules, sym, take_all, w8, ℕ, ◌∙◌, ◌≡◌}
 use Rattle.answer.proofs.Booleans.{or_go, or_stop}
 use Rattle.octets.specs.Sums.{sum_of}
 use Rattle.octets.proofs.SumLaws.{sum_more}

@@ -1,7 +1,5 @@
-use Rattle.std.proofs.Common.{Fits, ap, arith, eqb, get_or, length, rules, sym, take, take_all, w8, ℕ, ◌*◌, ◌-◌, ◌∙◌, ◌≡◌, ◌≤◌}
-use Rattle.answer.proofs.Booleans.{or_go, or_stop}
+use Rattle.std.proofs.Common.{take, ◌*◌, ◌-◌, ◌≡◌, ◌≤◌}
 use Rattle.octets.specs.Sums.{sum_of}
-use Rattle.octets.proofs.SumLaws.{sum_more}
 use Rattle.measurement_element.proofs.measurement_report.is_silent.Given as goal
 
 abbrev pub invariant-loop-i : goal.invariant-loop-i

@@ -1,5 +1,5 @@
 -- `measurement_report::may_write` meets its contract: the tests, in their order.
-use Rattle.std.proofs.Common.{rules, sym, ◌∙◌}
+use Rattle.std.proofs.Common.{sym, ◌∙◌}
 use Rattle.measurement_element.specs.MeasurementReport.{report_may}
 use Rattle.measurement_element.proofs.measurement_report.may_write.Goals as goal
 

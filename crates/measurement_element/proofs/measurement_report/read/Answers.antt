@@ -1,5 +1,5 @@
 -- `measurement_report::read` meets its contract: each way out is a way through the list of checks.
-use Rattle.std.proofs.Common.{List, ap, false, le-ltb, length, lt-ltb, ltb, rules, sym, ℕ, ◌∙◌, ◌≡◌}
+use Rattle.std.proofs.Common.{List, ap, false, le-ltb, length, lt-ltb, ltb, sym, ℕ, ◌∙◌, ◌≡◌}
 use Rattle.answer.specs.Checks.{accepted}
 use Rattle.answer.proofs.Judged.{past, stop, done}
 use Rattle.octets.specs.Numbers.{octet}

@@ -1,5 +1,5 @@
 -- `measurement_request::may_write` meets its contract: the two tests, in their order.
-use Rattle.std.proofs.Common.{rules, sym, ◌∙◌}
+use Rattle.std.proofs.Common.{sym, ◌∙◌}
 use Rattle.measurement_element.specs.MeasurementRequest.{request_may}
 use Rattle.measurement_element.proofs.measurement_request.may_write.Goals as goal
 

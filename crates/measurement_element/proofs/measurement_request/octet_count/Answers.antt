@@ -1,5 +1,5 @@
 -- `measurement_request::octet_count` meets its contract: the ID, the length and the contents.
-use Rattle.std.proofs.Common.{ap, arith, rules, sym, ℕ, ◌+◌, ◌∙◌}
+use Rattle.std.proofs.Common.{ap, arith, sym, ℕ, ◌+◌, ◌∙◌}
 use Rattle.measurement_element.proofs.RequestLayout.{counted, within}
 use Rattle.measurement_element.proofs.measurement_request.octet_count.Goals as goal
 

@@ -1,5 +1,5 @@
 -- `measurement_request::read` meets its contract: each way out is a way through the list of checks.
-use Rattle.std.proofs.Common.{ap, le-ltb, length, lt-ltb, rules, sym, ◌∙◌, ◌≡◌}
+use Rattle.std.proofs.Common.{ap, le-ltb, length, lt-ltb, sym, ◌∙◌, ◌≡◌}
 use Rattle.answer.specs.Checks.{accepted}
 use Rattle.answer.proofs.Judged.{past, stop, done}
 use Rattle.measurement_element.specs.MeasurementRequest.{request_in, request_misfits, request_forbids, request_means}

@@ -1,5 +1,5 @@
 -- `measurement_request::to_octets` meets its contract: the octets lie in front.
-use Rattle.std.proofs.Common.{refl, rules}
+use Rattle.std.proofs.Common.{refl}
 use Rattle.measurement_element.proofs.RequestLayout.{laid_out}
 use Rattle.measurement_element.proofs.measurement_request.to_octets.Goals as goal
 

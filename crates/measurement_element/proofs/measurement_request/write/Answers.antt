@@ -1,5 +1,5 @@
 -- `measurement_request::write` meets its contract: the part that is lent holds the element's octets.
-use Rattle.std.proofs.Common.{ap, arith, length, length-take-le, rules, sym, take, ℕ, ◌+◌, ◌∙◌, ◌≤◌}
+use Rattle.std.proofs.Common.{ap, arith, length, length-take-le, sym, take, ℕ, ◌+◌, ◌∙◌, ◌≤◌}
 use Rattle.octets.proofs.Overwriting.{written_as}
 use Rattle.measurement_element.proofs.RequestLayout.{counted, within}
 use Rattle.measurement_element.proofs.measurement_request.write.Goals as goal

@@ -1,6 +1,6 @@
 -- `past` meets its contract: many TBTTs at once are as many one by one.
 -- Assumes nothing.
-use Rattle.std.proofs.Common.{Bool, ap, arith, false, rules, sym, true, ℕ, ◌+◌, ◌-◌, ◌∙◌, ◌≤◌}
+use Rattle.std.proofs.Common.{Bool, ap, arith, false, sym, true, ℕ, ◌+◌, ◌-◌, ◌∙◌, ◌≤◌}
 use borrow.Author.Tests.{not-true, not-false}
 use Rattle.owner.specs.CodeTerms.Spared.{spared_by}
 use Rattle.owner.specs.Owners.{past_tbtts}

@@ -1,7 +1,7 @@
 -- `Schedule::end_begun` meets its contract, by a law for each way out: none has begun, there are several runs, or there is one.
 -- Assumes nothing.
 use Rattle.std.proofs.Common.{rules, sym}
-use Rattle.schedule.proofs.Ends.{none_begun, some_begun, no_older, once_begun}
+use Rattle.schedule.proofs.Ends.{none_begun, some_begun, once_begun}
 use Rattle.schedule.proofs.Schedule.end_begun.Goals as goal
 
 pub returns-then-now-self : goal.returns-then-now-self

@@ -1,6 +1,6 @@
 -- `Schedule::first_covered` meets its contract, by a law for each way out.
 -- Assumes nothing.
-use Rattle.std.proofs.Common.{arith, le_of_lt, mod-lt, rules}
+use Rattle.std.proofs.Common.{rules}
 use Rattle.schedule.proofs.Covering.{first_never, first_starts, first_to_come, first_once, first_over, first_running, first_next, first_after}
 use Rattle.schedule.proofs.FirstUnit.{no_units}
 use Rattle.schedule.proofs.Schedule.first_covered.Goals as goal

@@ -1,5 +1,5 @@
 -- `read` meets its contract: each way out is a way of a body of one element.
-use Rattle.std.proofs.Common.{List, ap, ap₂, drop, length, ltb, rules, sym, take, ℕ, ◌-◌, ◌∙◌, ◌≡◌}
+use Rattle.std.proofs.Common.{List, ap, ap₂, drop, length, ltb, sym, take, ℕ, ◌-◌, ◌∙◌, ◌≡◌}
 use Rattle.answer.specs.Checks.{refused, accepted}
 use Rattle.answer.specs.Faults.{fault_at, Placed, placed_at}
 use Rattle.answer.specs.declared.Refusal.{Refusal}

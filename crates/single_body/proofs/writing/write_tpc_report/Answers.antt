@@ -1,5 +1,5 @@
 -- `write_tpc_report` meets its contract: the octets are the array's.
-use Rattle.std.proofs.Common.{rules, to_z-of_z, w8}
+use Rattle.std.proofs.Common.{to_z-of_z, w8}
 use Rattle.element.specs.TpcReport.{tpc_report_octets}
 use Rattle.single_body.proofs.writing.write_tpc_report.Goals as goal
 
