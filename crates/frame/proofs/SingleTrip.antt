@@ -18,7 +18,7 @@ use Rattle.walk.proofs.Requiring as Requiring
 use Rattle.walk.proofs.RunLaws.{octets_front}
 use Rattle.octets.specs.Numbers.{Octets}
 use Rattle.walk.specs.Elements.{past_element}
-use Rattle.walk.specs.Handed.{Handed, end, cut_header, cut_contents, more, passed, cut_passed, passing_in, handed_in, vendorless}
+use Rattle.walk.specs.Handed.{Handed, end, cut_header, cut_contents, more, passed, cut_passed, handed_in, vendorless}
 use Rattle.walk.specs.Required.{required, nothing_left}
 
 -- where nothing was passed over, nothing is all that is left past it

@@ -24,8 +24,8 @@ use Rattle.measurement_body.specs.Bodies.{longest_body}
 use Rattle.frame.specs.Actions.{Body, action_means}
 use Rattle.frame.specs.CodeTerms.Located.{OffsetWithin, ReadingWithin}
 use Rattle.frame.specs.CodeTerms.Notices.{VerdictWithin}
-use Rattle.frame.specs.Frames.{Sent, kind_of, frame_means}
-use Rattle.frame.specs.IbssFrames.{SentInIbss, kind_in_ibss, ibss_frame_means}
+use Rattle.frame.specs.Frames.{kind_of, frame_means}
+use Rattle.frame.specs.IbssFrames.{kind_in_ibss, ibss_frame_means}
 use Rattle.frame.specs.Laid.{frame_told, body_frame}
 use Rattle.frame.specs.declared.Reading.{Reading}
 use Rattle.frame.proofs.BodyFaults.{action_faults, NoticeFaults, notice_faults, ibss_notice_faults}

@@ -2,7 +2,7 @@
 use mathlib.Core.Bool.{Bool, true, false, not, ◌||◌}
 use mathlib.Core.List.{List, map}
 use mathlib.Core.Path.{◌≡◌, refl, sym, ap, ◌∙◌, subst}
-use Prim.Native.Nat.{ℕ, ◌+◌, ◌-◌, ◌<◌}
+use Prim.Native.Nat.{ℕ, ◌+◌, ◌<◌}
 use native.Mathlib.Omega.{arith}
 use borrow.Author.Tests.{ne_eqb}
 use lib.Dec.{ltb, eqb}
@@ -20,7 +20,7 @@ use Rattle.frame.specs.Frames.{Sent, frame_means}
 use Rattle.frame.specs.Laid.{frame_laid}
 use Rattle.frame.specs.declared.Frame.{Frame}
 use Rattle.frame.specs.declared.Reading.{Reading}
-use Rattle.header.specs.Headers.{same, da, to_all}
+use Rattle.header.specs.Headers.{same, da}
 use Rattle.octets.specs.Numbers.{bit, octet}
 use Rattle.row.proofs.InTurn.{all_at}
 use Rattle.row.specs.Places.{place_of}

@@ -1,5 +1,5 @@
 -- `read` meets its contract: the header, then the body by its subtype.
-use Rattle.std.proofs.Common.{[], ap, false, length, rules, sym, ◌∙◌, ◌≡◌, ◌≤◌}
+use Rattle.std.proofs.Common.{[], ap, false, length, sym, ◌∙◌, ◌≡◌, ◌≤◌}
 use Rattle.answer.specs.Checks.{accepted}
 use Rattle.answer.specs.Faults.{placed_past}
 use Rattle.answer.specs.declared.Fault.{Fault}

@@ -1,5 +1,5 @@
 -- `read_action` meets its contract: the body's frame, or its refusal.
-use Rattle.std.proofs.Common.{rules, sym, ◌∙◌}
+use Rattle.std.proofs.Common.{sym, ◌∙◌}
 use Rattle.frame.specs.Actions.{action_means}
 use Rattle.frame.proofs.ReadFrames.{action_refused, action_read}
 use Rattle.frame.proofs.Within.{reading_within}

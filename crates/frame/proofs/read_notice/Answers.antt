@@ -1,5 +1,5 @@
 -- `read_notice` meets its contract: what was heard, under the kind that it has.
-use Rattle.std.proofs.Common.{false, rules, ◌∙◌}
+use Rattle.std.proofs.Common.{false, ◌∙◌}
 use Rattle.frame.proofs.ReadFrames.{notice_read}
 use Rattle.frame.proofs.Within.{heard_within}
 use Rattle.frame.proofs.read_notice.Goals as goal

@@ -1,5 +1,5 @@
 -- `read_at` meets its contract: a body means what stands after its opening.
-use Rattle.std.proofs.Common.{List, ap, drop, refl, rules, sym, ℕ, ◌∙◌, ◌≡◌}
+use Rattle.std.proofs.Common.{List, ap, drop, refl, sym, ℕ, ◌∙◌, ◌≡◌}
 use Rattle.action.specs.Openings.{fixed_fields, switch_fixed_fields, with, opening_told}
 use Rattle.action.specs.declared.Opening.{Opening}
 use Rattle.answer.specs.Checks.{and_then}

@@ -1,5 +1,5 @@
 -- `read_body` meets its contract: the frame of what is found at any index.
-use Rattle.std.proofs.Common.{ap, rules, ◌∙◌}
+use Rattle.std.proofs.Common.{ap, ◌∙◌}
 use Rattle.frame.specs.Actions.{action_means}
 use Rattle.frame.specs.Laid.{frame_told}
 use Rattle.frame.specs.declared.bodies.Located.{Located}

@@ -1,5 +1,5 @@
 -- `read_measurements` meets its contract: what the survey says of the records.
-use Rattle.std.proofs.Common.{rules, ◌∙◌}
+use Rattle.std.proofs.Common.{◌∙◌}
 use Rattle.measurement_body.specs.Kinds.{sort_of}
 use Rattle.frame.proofs.Answers.{survey_refused, survey_accepted}
 use Rattle.frame.proofs.Indexing.{measured_refused, measured}

@@ -1,5 +1,5 @@
 -- `hear_notice` meets its contract, by the verdict.
-use Rattle.std.proofs.Common.{ap, false, rules, subst, ◌∙◌}
+use Rattle.std.proofs.Common.{ap, false, subst, ◌∙◌}
 use Rattle.measurement_body.specs.Bodies.{longest_body}
 use Rattle.frame.specs.CodeTerms.Notices.{VerdictWithin}
 use Rattle.frame.specs.Hearing.{hearing_of}

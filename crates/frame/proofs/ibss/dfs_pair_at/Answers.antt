@@ -1,5 +1,4 @@
 -- `dfs_pair_at` meets its contract: the frame's refusal, or the pair.
-use Rattle.std.proofs.Common.{rules}
 use Rattle.frame.specs.IbssFrames.{ibss_frame_means}
 use Rattle.frame.proofs.ReadInIbss.{pair_refused, pair_read}
 use Rattle.frame.proofs.ibss.dfs_pair_at.Goals as goal

@@ -1,5 +1,5 @@
 -- `hear` meets its contract: the header, then the body by its subtype.
-use Rattle.std.proofs.Common.{List, [], ap, ap₂, false, length, rules, sym, ℕ, ◌∙◌, ◌≡◌, ◌≤◌}
+use Rattle.std.proofs.Common.{List, [], ap, ap₂, false, length, sym, ℕ, ◌∙◌, ◌≡◌, ◌≤◌}
 use Rattle.answer.specs.Checks.{accepted}
 use Rattle.answer.specs.Faults.{placed_past}
 use Rattle.answer.specs.declared.Fault.{Fault}

@@ -1,5 +1,5 @@
 -- `read_beacon` meets its contract: what was heard, with its element 41.
-use Rattle.std.proofs.Common.{ap, rules, true, ◌∙◌}
+use Rattle.std.proofs.Common.{ap, true, ◌∙◌}
 use Rattle.frame.specs.CodeTerms.InIbss.{sent_by}
 use Rattle.frame.specs.declared.Received.{Received}
 use Rattle.frame.proofs.ReadInIbss.{sent_beacon}

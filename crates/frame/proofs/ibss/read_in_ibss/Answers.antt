@@ -1,5 +1,4 @@
 -- `read_in_ibss` meets its contract.
-use Rattle.std.proofs.Common.{rules}
 use Rattle.frame.specs.IbssFrames.{ibss_frame_means}
 use Rattle.frame.proofs.ReadInIbss.{handed_out}
 use Rattle.frame.proofs.ibss.read_in_ibss.Goals as goal

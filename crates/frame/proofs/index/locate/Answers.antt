@@ -1,5 +1,5 @@
 -- `locate` meets its contract: the header, then the body by its subtype.
-use Rattle.std.proofs.Common.{List, ap, false, length, rules, sym, true, ℕ, ◌∙◌, ◌≡◌, ◌≤◌}
+use Rattle.std.proofs.Common.{List, ap, false, length, sym, true, ℕ, ◌∙◌, ◌≡◌, ◌≤◌}
 use Rattle.answer.specs.Checks.{accepted}
 use Rattle.answer.specs.Faults.{placed_past}
 use Rattle.answer.specs.declared.Fault.{Fault}

@@ -1,5 +1,5 @@
 -- `locate_action` meets its contract: what is found in the body, with the header before it.
-use Rattle.std.proofs.Common.{ap, rules, ◌∙◌}
+use Rattle.std.proofs.Common.{ap, ◌∙◌}
 use Rattle.frame.specs.Actions.{action_means}
 use Rattle.frame.specs.Laid.{frame_told}
 use Rattle.frame.specs.declared.Reading.{Reading}

@@ -1,5 +1,5 @@
 -- `read_request` meets its contract: what is found, and what is read there.
-use Rattle.std.proofs.Common.{ap, rules, subst, sym, ◌∙◌}
+use Rattle.std.proofs.Common.{ap, subst, sym, ◌∙◌}
 use Rattle.measurement_element.specs.MeasurementRequest.{request_means}
 use Rattle.frame.specs.Actions.{action_means}
 use Rattle.frame.specs.CodeTerms.Located.{PlaceWithin, read_there}

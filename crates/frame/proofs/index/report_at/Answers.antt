@@ -1,5 +1,5 @@
 -- `report_at` meets its contract: what is found in the frame, and what is read there.
-use Rattle.std.proofs.Common.{ap, rules, ◌∙◌}
+use Rattle.std.proofs.Common.{ap, ◌∙◌}
 use Rattle.measurement_element.specs.MeasurementReport.{report_laid}
 use Rattle.frame.proofs.Indexing.{found_there}
 use Rattle.frame.proofs.index.report_at.Goals as goal

@@ -1,5 +1,5 @@
 -- `request_at` meets its contract: what is found in the frame, and what is read there.
-use Rattle.std.proofs.Common.{rules, ◌∙◌}
+use Rattle.std.proofs.Common.{◌∙◌}
 use Rattle.frame.proofs.Indexing.{found_there}
 use Rattle.frame.proofs.index.request_at.Goals as goal
 

@@ -1,5 +1,5 @@
 -- `Member::advance` meets its contract: the station advances, and the TBTTs pass that its clock comes to. Assumes nothing.
-use Rattle.std.proofs.Common.{ap, rules, ℕ, ◌-◌, ◌/◌, ◌∙◌, ◌≡◌}
+use Rattle.std.proofs.Common.{ap, ℕ, ◌-◌, ◌/◌, ◌∙◌, ◌≡◌}
 use Rattle.owner.specs.Owners.{past_tbtts}
 use Rattle.member.proofs.Passing.{clock_on, advanced_by_lem}
 use Rattle.member.proofs.Member.advance.Goals as goal

@@ -1,5 +1,5 @@
 -- `Member::take` meets its contract, and the station stays valid: what was read is judged by the owner that it names, and heard. Assumes nothing.
-use Rattle.std.proofs.Common.{ap, ap₂, false, not, rules, subst, sym, true, ◌&&◌, ◌∙◌, ◌≡◌}
+use Rattle.std.proofs.Common.{ap, ap₂, false, not, subst, sym, true, ◌&&◌, ◌∙◌, ◌≡◌}
 use Rattle.answer.specs.Checks.{pick}
 use Rattle.answer.specs.declared.Fault.{Fault}
 use Rattle.answer.specs.declared.Verdict.{Verdict}

@@ -1,5 +1,5 @@
 use Rattle.std.proofs.Common.{◌≡◌, ◌<◌, ◌∙◌, List, get_or, length, set, sym, ap, subst, arith}
-use Rattle.row.specs.Rows.{row_count, ValidRow, row_heard}
+use Rattle.row.specs.Rows.{ValidRow, row_heard}
 use Rattle.row.specs.declared.Row.{Row}
 use Rattle.row.proofs.InTurn.{none_yet, still, replaced, all_replaced, all_at}
 use Rattle.row.proofs.hearing.hear_all.Goals as goal

@@ -1,8 +1,7 @@
 -- `free_place` meets its contract: the place is that of the rows from i on. Assumes nothing.
-use Rattle.std.proofs.Common.{arith, length, rules, sym, ◌-◌, ◌<◌, ◌∙◌, ◌≡◌, ◌≤◌}
-use Rattle.row.specs.Places.{place_of}
-use Rattle.row.specs.Rows.{row_count, is_free}
-use Rattle.row.proofs.PlaceLaws.{From, from_start, found, passed, all_passed}
+use Rattle.std.proofs.Common.{arith, length, rules, sym, ◌<◌, ◌∙◌, ◌≡◌}
+use Rattle.row.specs.Rows.{row_count}
+use Rattle.row.proofs.PlaceLaws.{from_start, found, passed, all_passed}
 use Rattle.row.proofs.places.free_place.Goals as goal
 use Rattle.row.proofs.places.free_place.Goals.{At-loop-i}
 

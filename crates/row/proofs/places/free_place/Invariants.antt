@@ -1,7 +1,7 @@
-use Rattle.std.proofs.Common.{arith, length, rules, sym, ◌-◌, ◌<◌, ◌∙◌, ◌≡◌, ◌≤◌}
+use Rattle.std.proofs.Common.{◌-◌, ◌≡◌, ◌≤◌}
 use Rattle.row.specs.Places.{place_of}
 use Rattle.row.specs.Rows.{row_count, is_free}
-use Rattle.row.proofs.PlaceLaws.{From, from_start, found, passed, all_passed}
+use Rattle.row.proofs.PlaceLaws.{From}
 use Rattle.row.proofs.places.free_place.Given as goal
 
 abbrev pub invariant-loop-i : goal.invariant-loop-i

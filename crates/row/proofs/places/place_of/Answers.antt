@@ -1,8 +1,7 @@
 -- `place_of` meets its contract: the place is that of the rows from i on. Assumes nothing.
-use Rattle.std.proofs.Common.{arith, length, rules, sym, ◌-◌, ◌<◌, ◌∙◌, ◌≡◌, ◌≤◌}
-use Rattle.row.specs.Places.{place_of}
-use Rattle.row.specs.Rows.{row_count, is_of}
-use Rattle.row.proofs.PlaceLaws.{From, from_start, found, passed, all_passed}
+use Rattle.std.proofs.Common.{arith, length, rules, sym, ◌<◌, ◌∙◌, ◌≡◌}
+use Rattle.row.specs.Rows.{row_count}
+use Rattle.row.proofs.PlaceLaws.{from_start, found, passed, all_passed}
 use Rattle.row.proofs.places.place_of.Goals as goal
 use Rattle.row.proofs.places.place_of.Goals.{At-loop-i}
 

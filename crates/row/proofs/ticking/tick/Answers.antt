@@ -1,7 +1,7 @@
-use Rattle.std.proofs.Common.{◌≡◌, ◌+◌, ◌<◌, ◌∙◌, List, get_or, length, set, ap, arith}
+use Rattle.std.proofs.Common.{◌<◌, ◌∙◌, List, get_or, length, set, ap, arith}
 use Rattle.row.specs.Rows.{ValidRow, row_ticked}
 use Rattle.row.specs.declared.Row.{Row}
-use Rattle.row.proofs.InTurn.{firsts, none_yet, as_long, all_at, all_set, replaced, all_replaced}
+use Rattle.row.proofs.InTurn.{none_yet, as_long, all_at, all_set, replaced, all_replaced}
 use Rattle.row.proofs.ticking.tick.Goals as goal
 use Rattle.row.proofs.ticking.tick.Goals.{In-loop-i}
 

@@ -1,6 +1,6 @@
 -- `Station::advance` meets its contract, and the station stays valid: it does what `advance_clock` says.
 -- Assumes nothing.
-use Rattle.std.proofs.Common.{ap, rules, subst, sym, ◌∙◌, ◌≡◌}
+use Rattle.std.proofs.Common.{ap, subst, sym, ◌∙◌, ◌≡◌}
 use Rattle.answer.specs.Checks.{accepted}
 use Rattle.station.specs.Clock.{stepped, switched, advanced_to, advance_of}
 use Rattle.station.specs.Validity.{Valid}

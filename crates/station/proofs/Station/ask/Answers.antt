@@ -1,6 +1,6 @@
 -- `Station::ask` meets its contract: each way out is a way through the list of cases.
 -- Assumes nothing.
-use Rattle.std.proofs.Common.{◌≤◌, Bool, [], ap, arith, eq-eqb, eqb, false, le-ltb, lt-ltb, ltb, ne_eqb, rules, sym, true, ℕ, ◌+◌, ◌<◌, ◌∙◌, ◌∷◌, ◌≡◌}
+use Rattle.std.proofs.Common.{◌≤◌, Bool, [], ap, arith, eq-eqb, false, le-ltb, lt-ltb, ltb, ne_eqb, sym, true, ℕ, ◌+◌, ◌<◌, ◌∙◌, ◌∷◌, ◌≡◌}
 use Rattle.answer.specs.Checks.{pick}
 use Rattle.pending.specs.Waiting.{silences, up_to, comes_before}
 use Rattle.pending.specs.declared.Pending.{Pending}

@@ -1,6 +1,6 @@
 -- `clear_until` meets its contract: the clock under a switch that silences, else the first quiet unit up to the switch.
 -- Assumes nothing.
-use Rattle.std.proofs.Common.{Bool, ap, rules, sym, ◌+◌, ◌∙◌, ◌≡◌}
+use Rattle.std.proofs.Common.{Bool, ap, sym, ◌+◌, ◌∙◌, ◌≡◌}
 use Rattle.answer.specs.Checks.{pick}
 use Rattle.pending.specs.Waiting.{silences, up_to}
 use Rattle.station.specs.Asking.{first_quiet}

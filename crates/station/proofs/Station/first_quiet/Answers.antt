@@ -1,10 +1,10 @@
 -- `Station::first_quiet` meets its contract. The invariant: before the first unit that was found, the schedules from i on answer for all.
 -- Assumes nothing.
-use Rattle.std.proofs.Common.{ap, drop, get_or, rules, subst, sym, ℕ, ◌+◌, ◌-◌, ◌∙◌, ◌≡◌, ◌≤◌}
+use Rattle.std.proofs.Common.{ap, drop, get_or, rules, subst, sym, ℕ, ◌+◌, ◌-◌, ◌∙◌, ◌≤◌}
 use Rattle.schedule.proofs.FirstUnit.{no_units, first_has}
 use Rattle.schedule.specs.Schedules.{covered}
 use Rattle.schedule.specs.Units.{first_unit}
-use Rattle.station.specs.Asking.{covered_by, first_quiet}
+use Rattle.station.specs.Asking.{covered_by}
 use Rattle.station.specs.Stations.{no_schedule, in_use}
 use Rattle.station.proofs.InUse.{looked_here, none_left, by_schedules, runs_on}
 use Rattle.station.proofs.Station.first_quiet.Goals as goal

@@ -1,10 +1,7 @@
-use Rattle.std.proofs.Common.{ap, drop, get_or, rules, subst, sym, ℕ, ◌+◌, ◌-◌, ◌∙◌, ◌≡◌, ◌≤◌}
-use Rattle.schedule.proofs.FirstUnit.{no_units, first_has}
-use Rattle.schedule.specs.Schedules.{covered}
+use Rattle.std.proofs.Common.{drop, ◌-◌, ◌≡◌, ◌≤◌}
 use Rattle.schedule.specs.Units.{first_unit}
 use Rattle.station.specs.Asking.{covered_by, first_quiet}
-use Rattle.station.specs.Stations.{no_schedule, in_use}
-use Rattle.station.proofs.InUse.{looked_here, none_left, by_schedules, runs_on}
+use Rattle.station.specs.Stations.{in_use}
 use Rattle.station.proofs.Station.first_quiet.Given as goal
 
 abbrev pub invariant-loop-i : goal.invariant-loop-i

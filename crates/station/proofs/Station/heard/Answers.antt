@@ -1,6 +1,6 @@
 -- `Station::heard` meets its contract: the verdict on what was read, and what it changes; where the frame is allowed, the station stays valid.
 -- Assumes nothing.
-use Rattle.std.proofs.Common.{rules, subst, sym, ◌≡◌}
+use Rattle.std.proofs.Common.{subst, sym, ◌≡◌}
 use Rattle.station.specs.Taking.{heard_of}
 use Rattle.station.specs.Validity.{Valid}
 use Rattle.station.specs.declared.taking.Taken.{Taken}

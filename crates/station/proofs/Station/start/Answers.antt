@@ -1,6 +1,6 @@
 -- `Station::start` meets its contract, and an accepted start gives a valid station.
 -- Assumes nothing.
-use Rattle.std.proofs.Common.{ap, arith, rules, subst, sym, ℕ, ◌∙◌, ◌≡◌}
+use Rattle.std.proofs.Common.{ap, arith, subst, sym, ℕ, ◌∙◌, ◌≡◌}
 use Rattle.answer.proofs.Judged.{past, stop, done}
 use Rattle.answer.specs.declared.Answer.{Answer}
 use Rattle.answer.specs.declared.Refusal.{Refusal}

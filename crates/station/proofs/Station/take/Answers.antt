@@ -1,6 +1,6 @@
 -- `Station::take` meets its contract, and the station stays valid: it hears what was read with its own settings.
 -- Assumes nothing.
-use Rattle.std.proofs.Common.{ap, rules, subst, sym, ◌∙◌}
+use Rattle.std.proofs.Common.{ap, subst, sym, ◌∙◌}
 use Rattle.frame.proofs.Allowing.{read_allowed}
 use Rattle.frame.specs.Allowed.{ReceivedAllowed}
 use Rattle.station.specs.Taking.{taken}

@@ -1,6 +1,6 @@
 -- `advance_clock` meets its contract: refused, or no switch is pending, or it is still to come, or it is met.
 -- Assumes nothing.
-use Rattle.std.proofs.Common.{arith, le-ltb, lt-ltb, rules, ◌+◌, ◌∙◌, ◌≡◌}
+use Rattle.std.proofs.Common.{arith, le-ltb, lt-ltb, ◌+◌, ◌∙◌, ◌≡◌}
 use Rattle.answer.proofs.Booleans.{or_go, or_stop}
 use Rattle.station.specs.Clock.{reached, clock_advance}
 use Rattle.station.specs.Stations.{clock_limit, unit_limit}

@@ -1,11 +1,11 @@
 -- `replace` meets its contract. The invariant: the first i slots are the new schedules', and the latest end so far and those from i on give the latest
 -- of all. Assumes nothing.
-use Rattle.std.proofs.Common.{List, ap, arith, drop, get_or, length, refl, rules, sym, take, ℕ, ◌-◌, ◌/◌, ◌<◌, ◌∙◌, ◌≡◌, ◌≤◌}
+use Rattle.std.proofs.Common.{List, ap, arith, get_or, length, refl, rules, sym, take, ℕ, ◌/◌, ◌<◌, ◌∙◌, ◌≡◌}
 use Rattle.beacon.specs.Beacons.{quiet_limit}
 use Rattle.schedule.specs.declared.Schedule.{Schedule}
 use Rattle.station.specs.CodeTerms.Changing.{overlaid}
 use Rattle.station.specs.Stations.{no_schedule, slotted}
-use Rattle.station.specs.Taking.{schedules_of, latest_end}
+use Rattle.station.specs.Taking.{schedules_of}
 use Rattle.station.proofs.SlotBySlot.{not_yet, all_slots, slot_replaced, counted_here, all_counted}
 use Rattle.station.proofs.replacing.replace.Goals as goal
 

@@ -1,10 +1,7 @@
-use Rattle.std.proofs.Common.{List, ap, arith, drop, get_or, length, refl, rules, sym, take, ℕ, ◌-◌, ◌/◌, ◌<◌, ◌∙◌, ◌≡◌, ◌≤◌}
-use Rattle.beacon.specs.Beacons.{quiet_limit}
-use Rattle.schedule.specs.declared.Schedule.{Schedule}
+use Rattle.std.proofs.Common.{drop, take, ◌-◌, ◌/◌, ◌≡◌, ◌≤◌}
 use Rattle.station.specs.CodeTerms.Changing.{overlaid}
-use Rattle.station.specs.Stations.{no_schedule, slotted}
+use Rattle.station.specs.Stations.{slotted}
 use Rattle.station.specs.Taking.{schedules_of, latest_end}
-use Rattle.station.proofs.SlotBySlot.{not_yet, all_slots, slot_replaced, counted_here, all_counted}
 use Rattle.station.proofs.replacing.replace.Given as goal
 
 abbrev pub invariant-loop-i : goal.invariant-loop-i

@@ -1,5 +1,5 @@
 -- `Table::heard` meets its contract: the row at the place hears what was read, or all of them do. Assumes nothing.
-use Rattle.std.proofs.Common.{ap, arith, length, rules, set, subst, sym, ◌<◌, ◌∙◌}
+use Rattle.std.proofs.Common.{ap, arith, length, set, subst, sym, ◌<◌, ◌∙◌}
 use Rattle.row.proofs.InTurn.{within_reads, all_at}
 use Rattle.row.specs.Rows.{row_count, free, ValidRow, row_heard}
 use Rattle.row.specs.declared.Row.{Row}

@@ -1,5 +1,5 @@
 -- `Table::join` meets its contract, and the table stays valid: what 01's start refuses is refused, and else a fresh station is seated. Assumes nothing.
-use Rattle.std.proofs.Common.{Bool, List, ap, arith, false, refl, rules, subst, sym, true, ℕ, ◌∙◌, ◌≡◌}
+use Rattle.std.proofs.Common.{Bool, List, ap, arith, false, refl, subst, sym, true, ℕ, ◌∙◌, ◌≡◌}
 use Rattle.answer.specs.Checks.{refused, accepted, pick, checked}
 use Rattle.answer.specs.declared.Answer.{Answer}
 use Rattle.answer.specs.declared.Refusal.{Refusal}

@@ -1,5 +1,5 @@
 -- `Table::reader_of` meets its contract. Assumes nothing.
-use Rattle.std.proofs.Common.{List, ap, refl, rules, ℕ, ◌∙◌}
+use Rattle.std.proofs.Common.{List, ap, refl, ℕ, ◌∙◌}
 use Rattle.row.specs.Places.{place_of}
 use Rattle.row.specs.Rows.{is_of}
 use Rattle.table.specs.CodeTerms.Hearing.{reader_at}

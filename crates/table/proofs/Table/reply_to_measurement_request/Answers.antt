@@ -1,5 +1,5 @@
 -- `Table::reply_to_measurement_request` meets its contract: it is the reply of the station as which the frame is read. Assumes nothing.
-use Rattle.std.proofs.Common.{List, ap, rules, ℕ}
+use Rattle.std.proofs.Common.{List, ap, ℕ}
 use Rattle.reply.specs.Replies.{measurement_reply}
 use Rattle.table.proofs.SameReply.{same_reply}
 use Rattle.table.proofs.Table.reply_to_measurement_request.Goals as goal

@@ -1,5 +1,5 @@
 -- `Table::take` meets its contract, and the table stays valid: the frame is read once, and goes where it was sent to. Assumes nothing.
-use Rattle.std.proofs.Common.{List, ap, rules, subst, sym, ℕ, ◌∙◌, ◌≡◌}
+use Rattle.std.proofs.Common.{List, ap, subst, sym, ℕ, ◌∙◌, ◌≡◌}
 use Rattle.answer.specs.declared.Verdict.{Verdict}
 use Rattle.frame.specs.Frames.{frame_means}
 use Rattle.frame.specs.Laid.{frame_laid}

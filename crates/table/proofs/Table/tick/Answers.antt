@@ -1,5 +1,5 @@
 -- `Table::tick` meets its contract, and the table stays valid. Assumes nothing.
-use Rattle.std.proofs.Common.{arith, le-ltb, lt-ltb, rules, subst, sym, ◌+◌, ◌<◌, ◌∙◌, ◌≤◌}
+use Rattle.std.proofs.Common.{arith, le-ltb, lt-ltb, subst, sym, ◌+◌, ◌<◌, ◌∙◌, ◌≤◌}
 use Rattle.answer.proofs.Booleans.{or_go, or_stop}
 use Rattle.station.specs.Stations.{clock_limit, unit_limit}
 use Rattle.table.specs.Validity.{ValidTable}
