@@ -179,8 +179,12 @@ begins file l out digits pen f same none s =
       few_damaged = f.few_damaged;
     }
 
+-- the blocks do not go past the limit
+abbrev pub Few : List ℕ → Lister → Type 0
+Few file l = l.blocks + length (blocks_in file) ≤ block_limit
+
 module _ {file : List ℕ} {l₀ : Lister} {out₀ out : List ℕ} {l : Lister} {digits : List ℕ} {pen : Pen} {clear at stop after : ℕ}
-    (fits₀ : Fits l₀) (limit : l₀.blocks + length (blocks_in file) ≤ block_limit) (big : length (blocks_in file) * enough_room ≤ length out₀)
+    (fits₀ : Fits l₀) (limit : Few file l₀) (big : length (blocks_in file) * enough_room ≤ length out₀)
     (i : Standing file l₀ out₀ out l digits pen clear at stop after) where
   -- the records of the block
   pub used_size : length (take stop file) ≡ stop

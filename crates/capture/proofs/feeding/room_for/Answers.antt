@@ -1,5 +1,5 @@
 -- `room_for` meets its contract: what the limit and the buffer leave is compared with what is asked.
-use Rattle.std.proofs.Common.{arith, le-ltb, lt-ltb, rules, ◌*◌, ◌+◌}
+use Rattle.std.proofs.Common.{arith, le-ltb, lt-ltb, ◌*◌, ◌+◌}
 use Rattle.answer.proofs.Judged.{past, stop, done}
 use Rattle.capture.specs.CodeTerms.Rooms.{room_for}
 use Rattle.capture.specs.Feeding.{enough_room}

@@ -1,6 +1,6 @@
 -- `block_at` meets its contract: no block, or one that is judged.
 -- Assumes nothing.
-use Rattle.std.proofs.Common.{ap, arith, drop, length, length-take, refl, rules, sym, take, ℕ, ◌-◌, ◌<◌, ◌∙◌, ◌≡◌, ◌≤◌}
+use Rattle.std.proofs.Common.{ap, arith, drop, length, length-take, refl, sym, take, ℕ, ◌-◌, ◌<◌, ◌∙◌, ◌≡◌, ◌≤◌}
 use Rattle.block.proofs.Ending.{end_inside}
 use Rattle.block.proofs.Judging.{used_within}
 use Rattle.block.specs.Blocks.{block_means}
@@ -29,6 +29,16 @@ begins c j told =
       ends = c.end_after-end.ensures;
       judged = ap (λ (n : ℕ). block_means (take (n - a.at) (drop a.at a.blocks.now))) (sym c.end_after-end.ensures) ∙ sym c.judge.ensures ∙ told;
     }
+
+-- the end of what is used lies in the block
+pub overflow_add-result-in-Used : goal.overflow_add-result-in-Used
+overflow_add-result-in-Used c =
+    let a = c.args in
+    let j = (goal.at.overflow_add-result-in-Used c).After-judge in
+    let e = c.end_after-end.result in
+    let w = used_within _ _ (begins j _ c.in-Used.is).judged in
+    let i = inside (goal.at.overflow_add-result-in-Used c).After-end_after-end in
+    omega (arith, w, i, length-take (e - a.at) (drop a.at a.blocks.now))
 
 pub returns-in-Damaged : goal.returns-in-Damaged
 returns-in-Damaged c = begins (goal.at.returns-in-Damaged c).After-judge Block.Damaged c.in-Damaged.is

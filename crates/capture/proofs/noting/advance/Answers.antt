@@ -1,6 +1,6 @@
 -- `advance` meets its contract.
 -- Assumes nothing.
-use Rattle.std.proofs.Common.{ap, rules, subst, sym, ◌∙◌}
+use Rattle.std.proofs.Common.{ap, subst, sym, ◌∙◌}
 use Rattle.pen.specs.declared.words.Word.{Word}
 use Rattle.capture.specs.CodeTerms.Following.{Follows}
 use Rattle.capture.specs.Lists.{line, stepped}
@@ -11,7 +11,7 @@ use Rattle.capture.proofs.StaysSound.{sound_following}
 use Rattle.capture.proofs.noting.advance.Goals as goal
 
 pub advance-stepped-requires : goal.advance-stepped-requires
-advance-stepped-requires c = let p = c.requires in p.0.followed p.1
+advance-stepped-requires c = c.requires.sound.followed c.requires.active_value
 
 pub returns : goal.returns
 returns c =

@@ -9,7 +9,7 @@ use Rattle.capture.proofs.Answering.{an_ask}
 use Rattle.capture.proofs.noting.ask.Goals as goal
 
 pub ask-permission-requires : goal.ask-permission-requires
-ask-permission-requires c = let p = c.requires in p.0.followed p.1
+ask-permission-requires c = c.requires.sound.followed c.requires.active_value
 
 pub returns : goal.returns
 returns c =

@@ -1,6 +1,6 @@
 -- `note` meets its contract: no station where one is needed, or entry by entry.
 -- Assumes nothing.
-use Rattle.std.proofs.Common.{ap, false, not, rules, sym, ◌∙◌, ◌≡◌}
+use Rattle.std.proofs.Common.{ap, false, not, sym, ◌∙◌, ◌≡◌}
 use borrow.Author.Tests.{not-false}
 use Rattle.capture_record.specs.declared.entry.Entry.{Entry}
 use Rattle.capture.specs.CodeTerms.Noting.{lacks_station}
@@ -42,21 +42,21 @@ ask-requires c =
 pub returns-in-Malformed : goal.returns-in-Malformed
 unfolding noted
 returns-in-Malformed c = record {
-      result_value = c.malformed.ensures.result_value ∙ rw c.in-Malformed.is;
-      follows = c.malformed.ensures.follows;
-    }
+  result_value = c.malformed.ensures.result_value ∙ rw c.in-Malformed.is;
+  follows = c.malformed.ensures.follows;
+}
 
 pub returns-in-Start : goal.returns-in-Start
 returns-in-Start c = record {
-      result_value = c.start.ensures.result_value ∙ rw c.in-Start.is;
-      follows = c.start.ensures.follows;
-    }
+  result_value = c.start.ensures.result_value ∙ rw c.in-Start.is;
+  follows = c.start.ensures.follows;
+}
 
 pub returns-in-Advance : goal.returns-in-Advance
 returns-in-Advance c = record {
-      result_value = c.advance.ensures.result_value ∙ rw c.in-Advance.is;
-      follows = c.advance.ensures.follows;
-    }
+  result_value = c.advance.ensures.result_value ∙ rw c.in-Advance.is;
+  follows = c.advance.ensures.follows;
+}
 
 pub returns-in-Frame : goal.returns-in-Frame
 returns-in-Frame c =
@@ -67,6 +67,6 @@ returns-in-Frame c =
 
 pub returns-in-Ask : goal.returns-in-Ask
 returns-in-Ask c = record {
-      result_value = c.ask.ensures.result_value ∙ rw c.in-Ask.is;
-      follows = c.ask.ensures.follows;
-    }
+  result_value = c.ask.ensures.result_value ∙ rw c.in-Ask.is;
+  follows = c.ask.ensures.follows;
+}

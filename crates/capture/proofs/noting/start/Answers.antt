@@ -1,6 +1,6 @@
 -- `start` meets its contract: the station that was started, or none.
 -- Assumes nothing.
-use Rattle.std.proofs.Common.{ap, rules, subst, sym, ◌∙◌, ◌≡◌}
+use Rattle.std.proofs.Common.{ap, subst, sym, ◌∙◌, ◌≡◌}
 use Rattle.answer.specs.Checks.{Outcome}
 use Rattle.capture_record.specs.Entries.{settings_of}
 use Rattle.capture_record.specs.declared.entry.Settings.{Settings}

@@ -1,6 +1,6 @@
 -- `clear_after` meets its contract: what the station says, or nothing.
 -- Assumes nothing.
-use Rattle.std.proofs.Common.{rules, subst, sym}
+use Rattle.std.proofs.Common.{subst, sym}
 use borrow.Author.Tests.{not-false}
 use Rattle.station.proofs.Clearing.{nothing_clear, until_clear}
 use Rattle.station.specs.Clear.{Clear}

@@ -1,11 +1,12 @@
-use Rattle.std.proofs.Common.{Bool, arith, length, rules, subst, sym, true, ◌*◌, ◌+◌, ◌-◌, ◌∙◌, ◌≡◌, ◌≤◌}
-use borrow.Author.Tests.{not-false}
-use Rattle.pen.specs.Rooms.{line_room}
-use Rattle.capture.specs.CodeTerms.Plain.{lines_left, PlainAt, RanFrom}
-use Rattle.capture.specs.Listers.{line_limit}
-use Rattle.capture.specs.declared.plain.Plain.{Plain}
-use Rattle.capture.proofs.Plainly.{may_put_lem, ran_none, ran_size, ran_room, ran_advance, ran_question}
+-- A station is followed wherever the loop is reached, and the lines so far are those of the records before the place.
+use Rattle.std.proofs.Common.{true, length, ◌-◌}
+use Rattle.capture.specs.CodeTerms.Plain.{RanFrom}
 use Rattle.capture.proofs.plain.run.Given as goal
+
+abbrev pub invariant-loop-later : goal.invariant-loop-later
+invariant-loop-later l =
+    RanFrom l.used l.fn.start true l.fn.moment l.pending l.clear l.fn.begun l.fn.out
+    (record { at = l.at; clock = l.clock; pen = l.pen }) l.digits l.out
 
 abbrev pub decreases-loop-later : goal.decreases-loop-later
 decreases-loop-later l = length l.used - l.at

@@ -1,6 +1,6 @@
 -- `Parts::note` meets its contract: the lister is put together, notes the record, and is taken apart again.
 -- Assumes nothing.
-use Rattle.std.proofs.Common.{ap, refl, rules, subst, sym, ◌∙◌}
+use Rattle.std.proofs.Common.{ap, refl, subst, sym, ◌∙◌}
 use Rattle.capture_record.specs.Entries.{entry_told}
 use Rattle.capture.specs.CodeTerms.Following.{Follows}
 use Rattle.capture.specs.Listers.{Sound}
@@ -10,10 +10,9 @@ use Rattle.capture.proofs.parts.Parts.note.Goals as goal
 
 pub note-answered-requires : goal.note-answered-requires
 note-answered-requires c =
-    let p = c.requires in
     record {
-      sound = subst Sound (sym c.whole-lister.ensures) p.1.0;
-      active_value = λ e. ap (λ (l : Lister). l.active) c.whole-lister.ensures ∙ p.1.1 e;
+      sound = subst Sound (sym c.whole-lister.ensures) c.requires.sound;
+      active_value = λ e. ap (λ (l : Lister). l.active) c.whole-lister.ensures ∙ c.requires.active_value e;
     }
 
 pub clear_after-clear-requires : goal.clear_after-clear-requires
@@ -21,9 +20,9 @@ clear_after-clear-requires c = c.note-answered.ensures.follows.sound
 
 pub of-parts-requires : goal.of-parts-requires
 of-parts-requires c = record {
-      sound = c.note-answered.ensures.follows.sound;
-      roomy = c.requires.makes.roomy;
-    }
+  sound = c.note-answered.ensures.follows.sound;
+  roomy = c.requires.makes.roomy;
+}
 
 pub returns : goal.returns
 returns c =

@@ -1,6 +1,6 @@
 -- `Parts::without` meets its contract.
 -- Assumes nothing.
-use Rattle.std.proofs.Common.{[], ap, false, rules}
+use Rattle.std.proofs.Common.{[], ap, false}
 use Rattle.apart.specs.Apart.{whole_of}
 use Rattle.apart.specs.Columns.{columns}
 use Rattle.station.specs.declared.Station.{Station}
