@@ -155,13 +155,13 @@ busy_in_range duration time = by (busy_of duration time) refl
 
 -- ---- an offset is no further than the frame's end
 
-offset_in_range : (size : ℕ) → size < 2 ^ 63 → (r : Refusal) (o : Offset) → OffsetWithin size o → InRange (offset_or r o)
-offset_in_range size h r Offset.Absent k = tt
-offset_in_range size h r (Offset.At n) k = omega arith
+offset_in_range : (n : ℕ) → n < 2 ^ 63 → (r : Refusal) (o : Offset) → OffsetWithin n o → InRange (offset_or r o)
+offset_in_range n h r Offset.Absent k = tt
+offset_in_range n h r (Offset.At at) k = omega arith
 
-fault_in_range : {A : Type 0} (size : ℕ) → size < 2 ^ 63 → (o : Placed A) → ((x : Fault) → o ≡ refused x → OffsetWithin size x.offset) → InRange (fault_offset o)
-fault_in_range size h (refused x) k = offset_in_range size h x.refusal x.offset (k x refl)
-fault_in_range size h (accepted a) k = tt
+fault_in_range : {A : Type 0} (n : ℕ) → n < 2 ^ 63 → (o : Placed A) → ((x : Fault) → o ≡ refused x → OffsetWithin n x.offset) → InRange (fault_offset o)
+fault_in_range n h (refused x) k = offset_in_range n h x.refusal x.offset (k x refl)
+fault_in_range n h (accepted a) k = tt
 
 -- a slice of octets has fewer than 2 ^ 63 of them
 fewer : {n : ℕ} → (n < 2 ^ 64) × (n * 1 < 2 ^ 63) → n < 2 ^ 63

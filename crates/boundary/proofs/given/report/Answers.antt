@@ -1,0 +1,7 @@
+-- `report` meets its contract.
+-- Assumes nothing.
+use Rattle.std.proofs.Common.{rules}
+use Rattle.boundary.proofs.given.report.Goals as goal
+
+pub returns : goal.returns
+returns c = rw (c.octets64-densities.ensures, c.says-matter.ensures)
