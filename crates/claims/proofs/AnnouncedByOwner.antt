@@ -7,7 +7,6 @@ use Prim.Native.Nat.{ℕ}
 use native.Mathlib.Omega.{arith}
 use borrow.Author.Tests.{not-false}
 use Rattle.answer.specs.Checks.{accepted, pick}
-use Rattle.answer.specs.Faults.{Placed}
 use Rattle.beacon.specs.Beacons.{Told}
 use Rattle.beacon.specs.IbssBeacons.{MaybeDfs}
 use Rattle.beacon.specs.Notices.{has_switch}
@@ -21,7 +20,7 @@ use Rattle.header.proofs.Addresses.{same_is}
 use Rattle.header.specs.Headers.{same}
 use Rattle.claims.specs.Histories.{frame, History, clock_after}
 use Rattle.claims.specs.Naming.{LastNamed}
-use Rattle.claims.specs.Reigns.{OwnerOf, Reigning, nobody, reigns, reign_of, owns, naming_at, heard_at, foreign_to, after_kind, after_frame, read_as, reigning}
+use Rattle.claims.specs.Reigns.{OwnerOf, Reigning, nobody, reigns, reign_of, owns, naming_at, heard_at, foreign_to, after_kind, read_as, reigning}
 use Rattle.claims.proofs.IbssReadings.{beacons_only}
 use Rattle.claims.proofs.OwnersExactly.{accepted_leaves}
 use Rattle.claims.proofs.OwnersNamed.{last_named}

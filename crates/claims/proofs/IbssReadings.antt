@@ -1,7 +1,7 @@
 -- What is read of a frame in an IBSS, as the history's theorems need it (02, Five). Assumes nothing.
 use mathlib.Core.List.{List}
 use mathlib.Core.Logic.{◌⊎◌, inl, inr}
-use mathlib.Core.Path.{◌≡◌, sym, ap, ◌∙◌}
+use mathlib.Core.Path.{◌≡◌, sym, ◌∙◌}
 use Prim.Native.Nat.{ℕ, ◌≤◌}
 use Rattle.answer.specs.Checks.{accepted}
 use Rattle.beacon.specs.Beacons.{Told}

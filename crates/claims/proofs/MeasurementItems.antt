@@ -17,7 +17,7 @@ use Rattle.measurement_body.specs.Lists.{Sort, used, repeats, listed, measuremen
 use Rattle.walk.proofs.Requiring.{there}
 use Rattle.walk.specs.Elements.{Elements, elements_in, past_element}
 use Rattle.walk.specs.Elements as Raw
-use Rattle.walk.specs.Handed.{Handed, cut_header, cut_contents, more, passed, cut_passed, vendor_id, passing, handing}
+use Rattle.walk.specs.Handed.{cut_header, cut_contents, more, passed, cut_passed, vendor_id, passing, handing}
 use Rattle.claims.specs.FilteredFrames.{of_token, ListOf}
 use Rattle.claims.specs.Filters.{Item, item, of_id, not_of_id, walked_as}
 use Rattle.claims.proofs.ReadItems.{Grows, grows_none, grew_none, grows_all, grew_all, grows_first, grew_first}

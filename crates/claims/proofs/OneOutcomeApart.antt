@@ -14,7 +14,6 @@ use Rattle.apart.proofs.Apart.whole as Whole
 use Rattle.apart.specs.Apart.{apart_of, whole_of}
 use Rattle.apart.specs.Columns.{Columns, columns}
 use Rattle.apart.specs.declared.Apart.{Apart}
-use Rattle.apart.specs.declared.Told.{Told}
 use Rattle.frame.proofs.hear as FrameHear
 use Rattle.frame.proofs.hearing.Change.by_reading as ByReading
 use Rattle.frame.proofs.verdict_on as VerdictOn
@@ -24,7 +23,6 @@ use Rattle.station.proofs.changing.Rest.constrained as RestConstrained
 use Rattle.station.proofs.changing.Rest.switched as RestSwitched
 use Rattle.station.proofs.is_at_once as IsAtOnce
 use Rattle.station.proofs.later as Later
-use Rattle.station.specs.declared.Station.{Station}
 use Rattle.claims.proofs.Same.{once}
 
 -- ---- what a station hears

@@ -1,10 +1,9 @@
 -- Exactly who owns: whom the latest accepted beacon with element 41 named, if it was not given up since; and exactly from when its misses are counted (02, Five). Assumes nothing.
-use mathlib.Core.Bool.{Bool, true, false, not, ◌&&◌}
+use mathlib.Core.Bool.{Bool, true, false}
 use mathlib.Core.List.{List, [], ◌∷◌}
 use mathlib.Core.Logic.{◌⊎◌, inl, inr, ⊎_elim, ◌↔◌}
 use mathlib.Core.Path.{◌≡◌, refl, sym, ap, ap₂, ◌∙◌, subst}
 use Prim.Native.Nat.{ℕ, zero, suc, ◌+◌}
-use native.Mathlib.Omega.{arith}
 use Rattle.answer.proofs.Booleans.{clash}
 use Rattle.answer.specs.Checks.{refused, accepted, pick}
 use Rattle.answer.specs.Faults.{Placed}
@@ -14,11 +13,11 @@ use Rattle.capture_record.specs.declared.entry.Settings.{Settings}
 use Rattle.element.specs.IbssDfs.{Dfs}
 use Rattle.frame.specs.Frames.{Kind, beacon, probe_response, action}
 use Rattle.frame.specs.IbssFrames.{SentInIbss}
-use Rattle.header.proofs.Addresses.{same_is, same_self}
+use Rattle.header.proofs.Addresses.{same_is}
 use Rattle.header.specs.Headers.{same}
-use Rattle.claims.specs.Histories.{Call, frame, advance, ask, History, too_far, clock_after, Latest}
+use Rattle.claims.specs.Histories.{frame, advance, ask, History, too_far, clock_after, Latest}
 use Rattle.claims.specs.Naming.{Names, LastNamed, GivesUp, Owned, Restarts, FromOwner, NamesAnother, LastRestarted, Counted}
-use Rattle.claims.specs.Reigns.{Reign, reign_of, Reigning, nobody, reigns, OwnerOf, MarkOf, GivenUp, at_unit, over_units, owns, naming_at, heard_at, foreign_to, after_kind, after_frame, read_as, reigning}
+use Rattle.claims.specs.Reigns.{reign_of, Reigning, nobody, reigns, OwnerOf, MarkOf, at_unit, over_units, owns, naming_at, heard_at, foreign_to, after_kind, after_frame, read_as, reigning}
 use Rattle.claims.proofs.CountsRestarted.{last_restarted}
 use Rattle.claims.proofs.OwnersNamed.{last_named}
 use Rattle.claims.proofs.TbttsPassed.{over_units_lem, not_given_up}

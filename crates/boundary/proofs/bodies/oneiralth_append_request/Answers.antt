@@ -1,6 +1,6 @@
 -- `oneiralth_append_request` meets its contract: the answer of what it calls, as a number.
 -- Assumes nothing.
-use Rattle.std.proofs.Common.{rules, subst, take}
+use Rattle.std.proofs.Common.{subst, take}
 use Rattle.measurement_body.specs.Bodies.{may_append, appended}
 use Rattle.measurement_body.specs.Requests.{request_sort}
 use Rattle.measurement_element.specs.declared.measurement_request.Request.{Request}

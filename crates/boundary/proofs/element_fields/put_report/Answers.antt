@@ -1,5 +1,5 @@
 -- `put_report` meets its contract: the buffer is too short, or the three parts are put, one after the other.
-use Rattle.std.proofs.Common.{List, [], ap, arith, length, length-append, refl, rules, ℕ, ◌∙◌, ◌∷◌, ◌≡◌, ◌≤◌}
+use Rattle.std.proofs.Common.{[], ap, arith, length, length-append, refl, rules, ◌∙◌, ◌∷◌, ◌≡◌, ◌≤◌}
 use Rattle.measurement_element.specs.Span.{span_octets}
 use Rattle.octets.proofs.Storing.{short_written, all_written}
 use Rattle.boundary.specs.ElementFields.{report_fields}

@@ -1,5 +1,5 @@
 -- `put_request` meets its contract: the buffer is too short, or both parts are put, one after the other.
-use Rattle.std.proofs.Common.{List, [], ap, arith, length, refl, rules, ℕ, ◌∙◌, ◌∷◌, ◌≤◌}
+use Rattle.std.proofs.Common.{[], ap, arith, length, refl, ◌∙◌, ◌∷◌, ◌≤◌}
 use Rattle.measurement_element.specs.Span.{span_octets}
 use Rattle.octets.proofs.Storing.{short_written, all_written}
 use Rattle.boundary.specs.ElementFields.{request_fields}

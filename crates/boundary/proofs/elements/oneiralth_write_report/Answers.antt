@@ -1,6 +1,6 @@
 -- `oneiralth_write_report` meets its contract: the answer of what it calls, as a number.
 -- Assumes nothing.
-use Rattle.std.proofs.Common.{rules, subst}
+use Rattle.std.proofs.Common.{subst}
 use Rattle.measurement_element.specs.MeasurementReport.{report_may, report_octets}
 use Rattle.measurement_element.specs.declared.measurement_report.Report.{Report}
 use Rattle.boundary.specs.Codes.{Put}

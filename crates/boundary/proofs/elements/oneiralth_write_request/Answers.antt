@@ -1,6 +1,6 @@
 -- `oneiralth_write_request` meets its contract: the answer of what it calls, as a number.
 -- Assumes nothing.
-use Rattle.std.proofs.Common.{rules, subst}
+use Rattle.std.proofs.Common.{subst}
 use Rattle.measurement_element.specs.MeasurementRequest.{request_may, request_octets}
 use Rattle.measurement_element.specs.declared.measurement_request.Request.{Request}
 use Rattle.boundary.specs.Codes.{Put}

@@ -1,10 +1,10 @@
 -- `put` meets its contract: the buffer is too short, or the eight parts are put, one after the other.
-use Rattle.std.proofs.Common.{List, [], ap, arith, length, refl, rules, ℕ, ◌∷◌, ◌≡◌, ◌≤◌}
+use Rattle.std.proofs.Common.{[], ap, arith, length, refl, ℕ, ◌∷◌, ◌≤◌}
 use Rattle.beacon.proofs.HeldLengths.{power_length}
-use Rattle.octets.proofs.Storing.{short_written, all_written, same_room}
+use Rattle.octets.proofs.Storing.{short_written, all_written}
 use Rattle.boundary.specs.FrameFields.{field_octets}
 use Rattle.boundary.proofs.FieldLengths.{report_length, switch_length, fields_length}
-use Rattle.octets.proofs.PartsBuilt.{Built, none_built, part_built}
+use Rattle.octets.proofs.PartsBuilt.{none_built, part_built}
 use Rattle.boundary.proofs.frame_fields.put.Goals as goal
 
 pub returns-then-out-lt-LENGTH : goal.returns-then-out-lt-LENGTH

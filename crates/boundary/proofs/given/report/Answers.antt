@@ -1,6 +1,5 @@
 -- `report` meets its contract.
 -- Assumes nothing.
-use Rattle.std.proofs.Common.{rules}
 use Rattle.boundary.proofs.given.report.Goals as goal
 
 pub returns : goal.returns

@@ -1,6 +1,5 @@
 -- `request` meets its contract.
 -- Assumes nothing.
-use Rattle.std.proofs.Common.{rules}
 use Rattle.boundary.proofs.given.request.Goals as goal
 
 pub returns : goal.returns

@@ -1,5 +1,5 @@
 -- `says` meets its contract: a number for each case.
-use Rattle.std.proofs.Common.{ne_eqb, rules, ◌∙◌}
+use Rattle.std.proofs.Common.{ne_eqb, ◌∙◌}
 use Rattle.boundary.specs.Given.{says_given}
 use Rattle.boundary.proofs.given.says.Goals as goal
 

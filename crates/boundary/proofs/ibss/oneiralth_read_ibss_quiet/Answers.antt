@@ -1,11 +1,10 @@
 -- `oneiralth_read_ibss_quiet` meets its contract: minus a refusal's number, or the fields of the element at the index.
-use Rattle.std.proofs.Common.{List, ap, ap₂, rules, subst, sym, ℕ, ◌∙◌, ◌≡◌, ◌≤◌}
+use Rattle.std.proofs.Common.{List, ap, ap₂, subst, sym, ℕ, ◌∙◌, ◌≡◌, ◌≤◌}
 use Rattle.answer.specs.Checks.{Outcome, accepted, and_then}
 use Rattle.answer.specs.Faults.{Placed}
 use Rattle.beacon.specs.Beacons.{quiet_limit}
 use Rattle.element.specs.Quiet.{quiet_contents}
 use Rattle.element.specs.declared.quiet.Quiet.{Quiet}
-use Rattle.frame.specs.Frames.{Sent}
 use Rattle.frame.specs.IbssFrames.{SentInIbss, ibss_frame_means}
 use Rattle.frame.specs.IbssLaid.{ibss_laid}
 use Rattle.frame.specs.Laid.{frame_laid}

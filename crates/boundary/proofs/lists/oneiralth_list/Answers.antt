@@ -1,6 +1,5 @@
 -- `oneiralth_list` meets its contract: the answer of what it calls, as a number.
 -- Assumes nothing.
-use Rattle.std.proofs.Common.{rules}
 use Rattle.boundary.proofs.Coded.{put_as}
 use Rattle.boundary.proofs.lists.oneiralth_list.Goals as goal
 

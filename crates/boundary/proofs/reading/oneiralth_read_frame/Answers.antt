@@ -1,5 +1,5 @@
 -- `oneiralth_read_frame` meets its contract: minus a refusal's number, or the fields.
-use Rattle.std.proofs.Common.{List, ap, ap₂, rules, ℕ, ◌∙◌}
+use Rattle.std.proofs.Common.{List, ap, ap₂, ℕ, ◌∙◌}
 use Rattle.frame.specs.Frames.{frame_means}
 use Rattle.frame.specs.Laid.{frame_laid}
 use Rattle.boundary.specs.Codes.{address_of}

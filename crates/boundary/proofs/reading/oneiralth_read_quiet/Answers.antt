@@ -1,5 +1,5 @@
 -- `oneiralth_read_quiet` meets its contract: minus a refusal's number, or the fields of the element at the index.
-use Rattle.std.proofs.Common.{List, ap, ap₂, rules, subst, sym, ℕ, ◌∙◌, ◌≡◌, ◌≤◌}
+use Rattle.std.proofs.Common.{List, ap, ap₂, subst, sym, ℕ, ◌∙◌, ◌≡◌, ◌≤◌}
 use Rattle.answer.specs.Checks.{Outcome, accepted, and_then}
 use Rattle.answer.specs.Faults.{Placed}
 use Rattle.beacon.specs.Beacons.{quiet_limit}

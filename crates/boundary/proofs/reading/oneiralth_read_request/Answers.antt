@@ -1,5 +1,5 @@
 -- `oneiralth_read_request` meets its contract: minus a refusal's number, or the fields.
-use Rattle.std.proofs.Common.{List, ap, ap₂, rules, sym, ℕ, ◌∙◌, ◌≡◌}
+use Rattle.std.proofs.Common.{List, ap, ap₂, sym, ℕ, ◌∙◌, ◌≡◌}
 use Rattle.answer.specs.Checks.{Outcome, accepted, and_then}
 use Rattle.measurement_element.specs.MeasurementRequest.{request_told}
 use Rattle.measurement_element.specs.declared.measurement_request.Request.{Request}

@@ -1,5 +1,5 @@
 -- `put_frame` meets its contract: the frame's refusal, or its fields.
-use Rattle.std.proofs.Common.{ap, rules, sym, ◌∙◌, ◌≡◌}
+use Rattle.std.proofs.Common.{ap, sym, ◌∙◌, ◌≡◌}
 use Rattle.answer.specs.Checks.{accepted}
 use Rattle.frame.specs.declared.Reading.{Reading}
 use Rattle.frame.specs.declared.Received.{Received}

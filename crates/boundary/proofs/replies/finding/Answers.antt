@@ -1,6 +1,6 @@
 -- `finding` meets its contract, number by number.
 -- Assumes nothing.
-use Rattle.std.proofs.Common.{ne_eqb, rules}
+use Rattle.std.proofs.Common.{ne_eqb}
 use Rattle.boundary.specs.Findings.{finding_given}
 use Rattle.boundary.proofs.replies.finding.Goals as goal
 

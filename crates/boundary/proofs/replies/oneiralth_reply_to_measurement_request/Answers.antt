@@ -1,6 +1,6 @@
 -- `oneiralth_reply_to_measurement_request` meets its contract: the answer of what it calls, as a number.
 -- Assumes nothing.
-use Rattle.std.proofs.Common.{List, [], ap, ap₂, rules, subst, ℕ, ◌∙◌, ◌∷◌}
+use Rattle.std.proofs.Common.{List, [], ap, ap₂, subst, ℕ, ◌∙◌, ◌∷◌}
 use Rattle.reply.specs.Replies.{measurement_reply}
 use Rattle.measured_report.specs.declared.Finding.{Finding}
 use Rattle.boundary.specs.Codes.{address_of, Given}

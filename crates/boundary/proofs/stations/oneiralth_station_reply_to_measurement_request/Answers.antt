@@ -1,6 +1,6 @@
 -- `oneiralth_station_reply_to_measurement_request` meets its contract: the refusal of octets that hold no station, or the reply of the station that they hold.
 -- Assumes nothing.
-use Rattle.std.proofs.Common.{List, [], ap, rules, sym, ℕ, ◌∙◌, ◌∷◌}
+use Rattle.std.proofs.Common.{List, [], ap, sym, ℕ, ◌∙◌, ◌∷◌}
 use Rattle.answer.specs.Checks.{Outcome, and_then}
 use Rattle.measured_report.specs.declared.Finding.{Finding}
 use Rattle.reply.specs.Replies.{measurement_reply}

@@ -1,6 +1,6 @@
 -- `list` meets its contract: too little room for the lines, too little for the closing line, or the whole list.
 -- Assumes nothing.
-use Rattle.std.proofs.Common.{List, ap, arith, leb-false, length, length-take-le, rules, sym, true, ℕ, ◌+◌, ◌∙◌, ◌≡◌, ◌≤◌}
+use Rattle.std.proofs.Common.{List, ap, arith, leb-false, length, length-take-le, sym, true, ℕ, ◌+◌, ◌∙◌, ◌≡◌, ◌≤◌}
 use borrow.Author.Tests.{not-true, not-false}
 use Rattle.answer.proofs.Booleans.{clash}
 use Rattle.octets.specs.Writing.{left}

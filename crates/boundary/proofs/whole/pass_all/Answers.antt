@@ -1,12 +1,11 @@
 -- `pass_all` meets its contract: the blocks before the place are passed.
 -- Assumes nothing.
-use Rattle.std.proofs.Common.{ap, arith, length, refl, rules, sym, true, ◌-◌, ◌<◌, ◌≡◌, ◌≤◌}
+use Rattle.std.proofs.Common.{ap, arith, length, refl, rules, sym, ◌<◌, ◌≤◌}
 use borrow.Author.Tests.{not-true, not-false}
 use Rattle.block.proofs.Ending.{end_inside}
-use Rattle.capture.specs.Feeding.{enough_room}
-use Rattle.capture.specs.Lists.{blocks_in, blocks_told, file_told}
+use Rattle.capture.specs.Lists.{blocks_in, blocks_told}
 use Rattle.capture.specs.declared.lister.Lister.{Lister}
-use Rattle.boundary.proofs.Passes.{Standing, begins, same_size, passed_all, passes, stops}
+use Rattle.boundary.proofs.Passes.{begins, same_size, passed_all, passes, stops}
 use Rattle.boundary.proofs.whole.pass_all.Goals as goal
 use Rattle.boundary.proofs.whole.pass_all.Goals.{After-end_after-end}
 

@@ -1,10 +1,7 @@
-use Rattle.std.proofs.Common.{ap, arith, length, refl, rules, sym, true, ◌-◌, ◌<◌, ◌≡◌, ◌≤◌}
-use borrow.Author.Tests.{not-true, not-false}
-use Rattle.block.proofs.Ending.{end_inside}
+use Rattle.std.proofs.Common.{length, true, ◌-◌, ◌≡◌, ◌≤◌}
 use Rattle.capture.specs.Feeding.{enough_room}
-use Rattle.capture.specs.Lists.{blocks_in, blocks_told, file_told}
-use Rattle.capture.specs.declared.lister.Lister.{Lister}
-use Rattle.boundary.proofs.Passes.{Standing, begins, same_size, passed_all, passes, stops}
+use Rattle.capture.specs.Lists.{file_told}
+use Rattle.boundary.proofs.Passes.{Standing}
 use Rattle.boundary.proofs.whole.pass_all.Given as goal
 
 abbrev pub invariant-loop-at : goal.invariant-loop-at

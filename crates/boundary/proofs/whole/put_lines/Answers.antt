@@ -1,6 +1,6 @@
 -- `put_lines` meets its contract: the lines are put, or do not fit.
 -- Assumes nothing.
-use Rattle.std.proofs.Common.{arith, length, refl, rules, sym, ◌+◌, ◌<◌}
+use Rattle.std.proofs.Common.{arith, length, refl, sym, ◌+◌, ◌<◌}
 use Rattle.octets.proofs.Storing.{left_short}
 use Rattle.boundary.proofs.Passes.{too_long, fitting}
 use Rattle.boundary.proofs.whole.put_lines.Goals as goal
