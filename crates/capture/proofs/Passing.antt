@@ -38,6 +38,7 @@ use Rattle.capture.specs.Lists as Lists
 use Rattle.capture.specs.Lists.{Told, nothing, before, refusal, answer_line, bad_record, noted, is_malformed, recorded, blocks_in, blocks_told}
 use Rattle.capture.specs.declared.lister.Lister.{Lister}
 use Rattle.capture.specs.declared.noting.Answered.{Answered}
+use Rattle.capture.specs.declared.parts.Parts.{Parts}
 use Rattle.capture.specs.declared.plain.Ran.{Ran}
 use Rattle.capture.proofs.Cutting.{next_block}
 use Rattle.capture.proofs.Fitting.{told_as}
@@ -179,12 +180,46 @@ begins file l out digits pen f same none s =
       few_damaged = f.few_damaged;
     }
 
+-- of a lister and at a place under other names
+pub standing_as : {file : List ℕ} {l₀ : Lister} {out₀ out : List ℕ} {l m : Lister} {digits : List ℕ}
+    {pen : Pen} {clear at i stop after : ℕ} → m ≡ l → i ≡ at
+    → Standing file l₀ out₀ out l digits pen clear at stop after
+    → Standing file l₀ out₀ out m digits pen clear i stop after
+standing_as e f w = rw (e, f) w
+
+-- parts whose station's clock has gone on
+abbrev pub clocked_parts : Parts → ℕ → Parts
+clocked_parts p t =
+    let a = p.apart in
+    let r = a.rest in
+    record {
+      blocks = p.blocks;
+      damaged = p.damaged;
+      active = p.active;
+      apart =
+          record {
+            own = a.own;
+            ap = a.ap;
+            rest =
+                record {
+                  interval = r.interval;
+                  clock = t;
+                  channel = r.channel;
+                  power = r.power;
+                  pending = r.pending;
+                  until = r.until;
+                };
+            count = a.count;
+          };
+    }
+
 -- the blocks do not go past the limit
 abbrev pub Few : List ℕ → Lister → Type 0
 Few file l = l.blocks + length (blocks_in file) ≤ block_limit
 
 module _ {file : List ℕ} {l₀ : Lister} {out₀ out : List ℕ} {l : Lister} {digits : List ℕ} {pen : Pen} {clear at stop after : ℕ}
-    (fits₀ : Fits l₀) (limit : Few file l₀) (big : length (blocks_in file) * enough_room ≤ length out₀)
+    (fits₀ : Fits l₀) (limit : Few file l₀)
+    (big : length (blocks_in file) * enough_room ≤ length out₀)
     (i : Standing file l₀ out₀ out l digits pen clear at stop after) where
   -- the records of the block
   pub used_size : length (take stop file) ≡ stop
@@ -197,11 +232,16 @@ module _ {file : List ℕ} {l₀ : Lister} {out₀ out : List ℕ} {l : Lister} 
   pub same_size : length out ≡ length out₀
   same_size = ap length i.stands ∙ filled_length i.lines out₀ inside
 
-  -- there is room for the lines of the records that are left, and numbers
-  pub records_room : (pen.lines + lines_left (length (take stop file) - at) ≤ line_limit) × (pen.count + line_room * lines_left (length (take stop file) - at) ≤ length out)
-  records_room = (
-    omega (arith, used_size, i.few, i.counted, fits₀.few_lines, limit),
-    omega (arith, used_size, i.few, i.counted, i.room, same_size, big),
+  -- the counts of blocks are small
+  pub few_counts : (l.blocks ≤ block_limit) × (l.damaged ≤ block_limit)
+  few_counts = (omega (arith, i.counted, limit), omega (arith, i.counted, limit, i.few_damaged))
+
+  -- and those of a lister that is the same without its station
+  pub few_without : {m : Lister} → m ≡ without l
+      → (m.blocks ≤ block_limit) × (m.damaged ≤ block_limit)
+  few_without e = (
+    omega (arith, few_counts, ap (λ (x : Lister). x.blocks) e),
+    omega (arith, few_counts, ap (λ (x : Lister). x.damaged) e),
   )
 
   watched : Watched l l.active l.station.clock l.station.pending clear
@@ -364,9 +404,6 @@ module _ {file : List ℕ} {l₀ : Lister} {out₀ out : List ℕ} {l : Lister} 
   -- ---- a record that is cut
 
   module _ (e : records_in (drop at (take stop file)) ≡ cut) (some : at + 1 ≤ stop) where
-    pub cut_room : (pen.lines < line_limit) × (pen.count + line_room ≤ length out)
-    cut_room = line_room_lem l.blocks (omega (arith, i.counted)) (omega (arith, i.few))
-
     pub cut_standing : (pen' : Pen) (digits' exit : List ℕ) → Penned (answer_line (pen.lines + 1) Word.Record (refusal Refusal.RecordMalformed)) pen out pen' digits' exit
         → Standing file l₀ out₀ exit (with_lines (without l) pen'.lines) digits' pen' clear stop stop after
     cut_standing pen' digits' exit w =
@@ -391,9 +428,6 @@ module _ {file : List ℕ} {l₀ : Lister} {out₀ out : List ℕ} {l : Lister} 
 
   module _ (y : Entry) (contents : List ℕ) (end' : ℕ) (n : Notes (take stop file) at end' (entry_told contents y)) (a : Answered) (says : line_for a ≡ noted l (entry_told contents y))
       (follows : Follows l a.lister) where
-    pub record_room : (pen.lines < line_limit) × (pen.count + line_room ≤ length out)
-    record_room = line_room_lem l.blocks (omega (arith, i.counted)) (omega (arith, i.few, n.past, n.within, used_size))
-
     -- its line, and what is left after it
     record_told : rest file at stop after l ≡ before (line_for a).text (rest file (rest_from y end' stop) stop after (line_for a).lister)
     record_told = by (entry_malformed y) refl

@@ -29,7 +29,7 @@ use Rattle.station.specs.Clock.{reached, clock_advance}
 use Rattle.station.specs.Stations.{clock_limit, unit_limit}
 use Rattle.station.specs.declared.asking.Permission.{Permission}
 use Rattle.station.specs.declared.clock.Advanced.{Advanced}
-use Rattle.capture.specs.CodeTerms.Plain.{known_granted, goes_to, lines_left, clocked_at, Notes, PlainAt, Watched, RanFrom}
+use Rattle.capture.specs.CodeTerms.Plain.{known_granted, lines_left, clocked_at, Notes, Watched, RanFrom}
 use Rattle.capture.specs.Listers.{line_limit, with_lines}
 use Rattle.capture.specs.Lists.{Told, before, answer_line, bad_record, line, noted, is_malformed, recorded}
 use Rattle.capture.specs.declared.lister.Lister.{Lister}
@@ -86,15 +86,6 @@ known_granted_lem t c n e = by (eqb n 0) refl e
         some : (m : ℕ) → (m ≡ 0 → ⊥) → 1 ≤ m
         some zero g = absurd (g refl)
         some (suc m) g = omega arith
-
--- an advance is plain where the clock goes on
-pub advance_plain : (used : List ℕ) (at end t : ℕ) (p : Pending) (c n : ℕ) → Notes used at end (advancing n) → PlainAt used at t p c (goes_to (clock_advance t p n) end)
-advance_plain used at end t p c n m = by (clock_advance t p n) refl
-  where
-    by : (a : Advanced) → clock_advance t p n ≡ a → PlainAt used at t p c (goes_to a end)
-    by (Advanced.Goes later) e = (n, m, e)
-    by Advanced.Refused e = tt
-    by (Advanced.Switches later channel) e = tt
 
 -- an advance does not go back
 no_earlier : (t : ℕ) (p : Pending) (n later : ℕ) → clock_advance t p n ≡ Advanced.Goes later → t ≤ later

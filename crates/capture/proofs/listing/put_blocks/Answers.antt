@@ -1,4 +1,5 @@
--- `put_blocks` meets its contract: the lines so far, with what is left from the place on, are the lines of the blocks.
+-- `put_blocks` meets its contract: the lines so far, with what is left from the place on, are the
+-- lines of the blocks.
 -- Assumes nothing.
 use Rattle.std.proofs.Common.{Bool, true, List, length, take, drop, refl, sym, ap, ap₂, ◌∙◌, subst, arith, ℕ, ◌≡◌, ◌+◌, ◌*◌, ◌-◌, ◌≤◌}
 use Rattle.answer.specs.declared.Offset.{Offset}
@@ -16,18 +17,34 @@ use Rattle.pen.specs.Penning.{Penned}
 use Rattle.pen.specs.declared.Pen.{Pen}
 use Rattle.pen.specs.declared.words.Word.{Word}
 use Rattle.station.proofs.Clearing.{nothing_clear}
-use Rattle.capture.specs.CodeTerms.Blocks.{rest_from}
 use Rattle.capture.specs.CodeTerms.Following.{Fed}
 use Rattle.capture.specs.CodeTerms.Noting.{heard_by}
 use Rattle.capture.specs.CodeTerms.Parts.{lister_of, PartsOf}
 use Rattle.capture.specs.CodeTerms.Plain.{Notes}
 use Rattle.capture.specs.Feeding.{enough_room}
-use Rattle.capture.specs.Listers.{block_limit, with_lines, with_blocks, Fits}
+use Rattle.capture.specs.Listers.{with_lines, one_block_more, Fits}
 use Rattle.capture.specs.Lists.{answer_line, blocks_in, blocks_told}
 use Rattle.capture.specs.declared.lister.Lister.{Lister}
 use Rattle.capture.specs.declared.parts.Parts.{Parts}
 use Rattle.capture.specs.declared.response.Response.{Response}
-use Rattle.capture.proofs.Passing.{penned_as, Few, Standing, begins, used_size, ran_standing, ended, opened, damaged_room, damaged_standing, cut_standing, record_standing}
+use Rattle.capture.proofs.Passing.{
+  penned_as,
+  standing_as,
+  clocked_parts,
+  Few,
+  Standing,
+  begins,
+  used_size,
+  few_counts,
+  few_without,
+  ran_standing,
+  ended,
+  opened,
+  damaged_room,
+  damaged_standing,
+  cut_standing,
+  record_standing,
+}
 use Rattle.capture.proofs.Plainly.{may_put_lem}
 use Rattle.capture.proofs.Together.{is_frame, no_hearer, heard_parts, answered, frame_says, frame_follows, frame_same, frame_makes}
 use Rattle.capture.proofs.listing.put_blocks.Goals as goal
@@ -36,15 +53,18 @@ use Rattle.capture.proofs.listing.put_blocks.Goals.{After-run-ran, After-entry_o
 -- ---- before the first block
 
 -- the parts are those of the lister that was handed in
-same_first : {l : Lister} {p : Parts} {c : Columns} {n : ℕ} → PartsOf l p c → n ≡ l.lines → lister_of p n c ≡ l
+same_first : {l : Lister} {p : Parts} {c : Columns} {n : ℕ}
+    → PartsOf l p c → n ≡ l.lines → lister_of p n c ≡ l
 same_first {l} {n} w e = w.same n ∙ ap (with_lines l) e
 
 pub loop-count-init : goal.loop-count-init
 loop-count-init c =
     let b = c.begin-pen in
-    let same = same_first c.of-parts.ensures b.ensures.0 in (
+    let same = same_first c.of-parts.ensures b.ensures.0 in
+    let spells =
+    subst (λ (n : ℕ). Spells n b.new.digits b.result.from) (sym b.ensures.0) b.ensures.2 in (
       begins c.args.blocks.now _ c.args.out.now _ b.result (subst Fits (sym same) c.requires.fits)
-          refl b.ensures.1 (subst (λ (n : ℕ). Spells n b.new.digits b.result.from) (sym b.ensures.0) b.ensures.2),
+          refl b.ensures.1 spells,
       c.of-parts.ensures.makes,
     )
 
@@ -60,29 +80,7 @@ columns_in c = columns c.loop-count.starts c.loop-count.periods c.loop-count.dur
 
 -- the parts then: the clock has gone on
 abbrev parts_in : After-run-ran → Parts
-parts_in c =
-    let p = c.loop-count.parts in
-    let r = p.apart.rest in
-    record {
-      blocks = p.blocks;
-      damaged = p.damaged;
-      active = p.active;
-      apart =
-          record {
-            own = p.apart.own;
-            ap = p.apart.ap;
-            rest =
-                record {
-                  interval = r.interval;
-                  clock = c.run-ran.result.clock;
-                  channel = r.channel;
-                  power = r.power;
-                  pending = r.pending;
-                  until = r.until;
-                };
-            count = p.apart.count;
-          };
-    }
+parts_in c = clocked_parts c.loop-count.parts c.run-ran.result.clock
 
 fits₀ : (c : After-run-ran) → Fits (first_in c)
 fits₀ c = subst Fits (sym (same_first c.of-parts.ensures c.begin-pen.ensures.0)) c.requires.fits
@@ -104,11 +102,8 @@ standing : (c : After-run-ran)
     r.result.at l.stop l.after
 unfolding whole_of
 standing c =
-    let first = same_first c.of-parts.ensures c.begin-pen.ensures.0 in
-    let blocks = c.requires.blocks_bound in
-    ran_standing (subst Fits (sym first) c.requires.fits)
-    (subst (Few c.args.blocks.now) (sym first) blocks.0)
-    blocks.1 c.loop-count.invariant.0 c.run-ran.result _ _ c.run-ran.ensures
+    ran_standing (fits₀ c) (limit c) (big c) c.loop-count.invariant.0 c.run-ran.result _ _
+    c.run-ran.ensures
 
 makes : (c : After-run-ran) → Makes (parts_in c).apart (columns_in c)
 makes c = let m = c.loop-count.invariant.1 in record { roomy = m.roomy; few = m.few }
@@ -128,7 +123,9 @@ pub returns-in-End-block_at : goal.returns-in-End-block_at
 returns-in-End-block_at c =
     let r = (goal.at.returns-in-End-block_at c).After-run-ran in
     let first = same_first c.of-parts.ensures c.begin-pen.ensures.0 in
-    let e = ended (fits₀ r) (limit r) (big r) (standing r) c.in-End.ensures.used_value c.in-End-block_at.ensures _ refl in
+    let e =
+    ended (fits₀ r) (limit r) (big r) (standing r) c.in-End.ensures.used_value
+    c.in-End-block_at.ensures _ refl in
     let f = back_to c.args.blocks.now _ _ _ first (sym c.whole.ensures) e in
     record { fed = f.0; out_after = f.1 }
 
@@ -142,34 +139,32 @@ pub put_told-pen-requires : goal.put_told-pen-requires
 put_told-pen-requires c =
     let r = (goal.at.put_told-pen-requires c).After-run-ran in
     may_put_lem (standing r).spells
-    (damaged_room (fits₀ r) (limit r) (big r) (standing r) c.in-End.ensures.used_value _ c.in-Damaged.ensures)
-
--- the counts of blocks are small
-few_blocks : {file : List ℕ} {l₀ l : Lister} {out₀ out digits : List ℕ} {pen : Pen} {clear at stop after : ℕ}
-    → Few file l₀ → Standing file l₀ out₀ out l digits pen clear at stop after
-    → (l.blocks ≤ block_limit) × (l.damaged ≤ block_limit)
-few_blocks h i = (omega (arith, i.counted, h), omega (arith, i.counted, h, i.few_damaged))
+    (damaged_room (fits₀ r) (limit r) (big r) (standing r) c.in-End.ensures.used_value _
+    c.in-Damaged.ensures)
 
 pub overflow_add-parts : goal.overflow_add-parts
 overflow_add-parts c =
     let r = (goal.at.overflow_add-parts c).After-run-ran in
-    omega (arith, few_blocks (limit r) (standing r), ap (λ (x : Lister). x.blocks) (c.without-parts.ensures.by_index 0 (columns_in r)))
+    let same = c.without-parts.ensures.by_index c.run-ran.result.pen.lines (columns_in r) in
+    omega (arith, few_without (fits₀ r) (limit r) (big r) (standing r) same)
 
 pub overflow_add-parts-in-Damaged : goal.overflow_add-parts-in-Damaged
 overflow_add-parts-in-Damaged c =
     let r = (goal.at.overflow_add-parts-in-Damaged c).After-run-ran in
-    omega (arith, few_blocks (limit r) (standing r), ap (λ (x : Lister). x.damaged) (c.without-parts.ensures.by_index 0 (columns_in r)))
+    let same = c.without-parts.ensures.by_index c.run-ran.result.pen.lines (columns_in r) in
+    omega (arith, few_without (fits₀ r) (limit r) (big r) (standing r) same)
 
 pub loop-count-preserved-in-Damaged : goal.loop-count-preserved-in-Damaged
 loop-count-preserved-in-Damaged c =
     let r = (goal.at.loop-count-preserved-in-Damaged c).After-run-ran in
     let put = c.put_told-pen in
-    let end = c.in-Damaged.end in (
-      subst
-          (λ (x : Lister). Standing c.args.blocks.now (first_in r) c.args.out.now put.new.out x put.new.digits put.result c.loop-count.clear end end end)
-          (sym (ap (λ (x : Lister). with_blocks x (x.blocks + 1) (x.damaged + 1)) (c.without-parts.ensures.by_index put.result.lines (columns_in r))))
-          (damaged_standing (fits₀ r) (limit r) (big r) (standing r) c.in-End.ensures.used_value end c.in-Damaged.ensures put.result _ _
-          (penned_as (ap (λ (m : ℕ). line_of (c.run-ran.result.pen.lines + 1) Word.Block m Offset.Absent) c.number-number.ensures) put.ensures.penned)),
+    let k = c.run-ran.result.pen.lines + 1 in
+    let number = ap (λ (m : ℕ). line_of k Word.Block m Offset.Absent) c.number-number.ensures in
+    let same = c.without-parts.ensures.by_index put.result.lines (columns_in r) in (
+      standing_as (ap (λ (x : Lister). one_block_more x 1) same) refl
+          (damaged_standing (fits₀ r) (limit r) (big r) (standing r) c.in-End.ensures.used_value
+          c.in-Damaged.end c.in-Damaged.ensures put.result _ _
+          (penned_as number put.ensures.penned)),
       none-makes (makes r).roomy c.without-parts.ensures.count_value,
     )
 
@@ -178,7 +173,7 @@ loop-count-preserved-in-Damaged c =
 pub overflow_add-parts-in-Whole-block_at : goal.overflow_add-parts-in-Whole-block_at
 overflow_add-parts-in-Whole-block_at c =
     let r = (goal.at.overflow_add-parts-in-Whole-block_at c).After-run-ran in
-    omega (arith, few_blocks (limit r) (standing r))
+    omega (arith, few_counts (fits₀ r) (limit r) (big r) (standing r))
 
 pub loop-count-preserved-in-Whole-block_at : goal.loop-count-preserved-in-Whole-block_at
 loop-count-preserved-in-Whole-block_at c =
@@ -194,13 +189,15 @@ pub loop-count-preserved-in-Cut : goal.loop-count-preserved-in-Cut
 loop-count-preserved-in-Cut c =
     let r = (goal.at.loop-count-preserved-in-Cut c).After-run-ran in
     let put = c.put_told-pen-in-Cut in
-    let l = c.loop-count in
-    let size = used_size (fits₀ r) (limit r) (big r) l.invariant.0 in (
-      subst
-          (λ (x : Lister). Standing c.args.blocks.now (first_in r) c.args.out.now put.new.out x put.new.digits put.result l.clear l.stop l.stop l.after)
-          (sym (c.without-parts-in-Cut.ensures.by_index put.result.lines (columns_in r)))
-          (cut_standing (fits₀ r) (limit r) (big r) (standing r) c.in-Cut.ensures.used_value (omega (arith, c.in-Cut.ensures.within, size)) put.result _ _
-          (penned_as (ap (λ (m : ℕ). line_of (c.run-ran.result.pen.lines + 1) Word.Record m Offset.Absent) c.number-number-in-Cut.ensures) put.ensures.penned)),
+    let size = used_size (fits₀ r) (limit r) (big r) c.loop-count.invariant.0 in
+    let k = c.run-ran.result.pen.lines + 1 in
+    let number =
+    ap (λ (m : ℕ). line_of k Word.Record m Offset.Absent) c.number-number-in-Cut.ensures in
+    let same = c.without-parts-in-Cut.ensures.by_index put.result.lines (columns_in r) in (
+      standing_as same refl
+          (cut_standing (fits₀ r) (limit r) (big r) (standing r) c.in-Cut.ensures.used_value
+          (omega (arith, c.in-Cut.ensures.within, size)) put.result _ _
+          (penned_as number put.ensures.penned)),
       none-makes (makes r).roomy c.without-parts-in-Cut.ensures.count_value,
     )
 
@@ -230,22 +227,27 @@ frame by heard = is_frame _ _ (sym by ∙ heard)
 
 frame-notes : {used contents : List ℕ} {at end : ℕ} {y : Entry} → y ≡ Entry.Frame
     → Notes used at end (entry_told contents y) → Notes used at end (hearing contents)
-frame-notes {used} {contents} {at} {end} e n = subst (λ (x : Entry). Notes used at end (entry_told contents x)) e n
+frame-notes {used} {contents} {at} {end} e n =
+    subst (λ (x : Entry). Notes used at end (entry_told contents x)) e n
 
-module _ {file : List ℕ} {l₀ : Lister} {out₀ out digits : List ℕ} {pen : Pen} {clear at stop after : ℕ} (p : Parts) (c : Columns)
-    (fits : Fits l₀) (most : Few file l₀) (room : length (blocks_in file) * enough_room ≤ length out₀)
+module _ {file : List ℕ} {l₀ : Lister} {out₀ out digits : List ℕ} {pen : Pen}
+    {clear at stop after : ℕ} (p : Parts) (c : Columns) (fits : Fits l₀) (most : Few file l₀)
+    (room : length (blocks_in file) * enough_room ≤ length out₀)
     (i : Standing file l₀ out₀ out (lister_of p pen.lines c) digits pen clear at stop after)
-    {contents : List ℕ} {end : ℕ} (n : Notes (take stop file) at end (hearing contents)) (there : p.active ≡ true)
-    {t : Told} {cols : Columns} (h : HeardAs contents p.apart c t cols) where
+    {contents : List ℕ} {end : ℕ} (n : Notes (take stop file) at end (hearing contents))
+    (there : p.active ≡ true) {t : Told} {cols : Columns}
+    (h : HeardAs contents p.apart c t cols) where
   -- its line, and what it leaves
   heard-standing : {pen' : Pen} {digits' exit : List ℕ}
-      → Penned (answer_line (pen.lines + 1) Word.Frame (Response.Frame t.verdict)) pen out pen' digits' exit
-      → Standing file l₀ out₀ exit (lister_of (heard_parts p c there _ t cols h) pen'.lines cols) digits' pen' 0 end stop after
+      → Penned (answer_line (pen.lines + 1) Word.Frame (Response.Frame t.verdict)) pen out pen'
+      digits' exit
+      → Standing file l₀ out₀ exit
+      (lister_of (heard_parts p c there _ t cols h) pen'.lines cols) digits' pen' 0 end stop after
       × Makes t.apart cols
   heard-standing {pen'} {digits'} {exit} w = (
-    subst (λ (x : Lister). Standing file l₀ out₀ exit x digits' pen' 0 end stop after)
-        (sym (frame_same p c there _ t cols h pen'.lines))
-        (record_standing fits most room i Entry.Frame _ _ n (answered p c there _ t cols h pen.lines)
+    standing_as (frame_same p c there _ t cols h pen'.lines) refl
+        (record_standing fits most room i Entry.Frame _ _ n
+        (answered p c there _ t cols h pen.lines)
         (frame_says p c there _ t cols h pen.lines) (frame_follows p c there _ t cols h pen.lines)
         pen' digits' exit w 0 (λ e. nothing_clear _)),
     frame_makes p c there _ t cols h,
@@ -263,8 +265,10 @@ loop-count-preserved-in-Accepted c =
     let n = notes (goal.at.loop-count-preserved-in-Accepted c).After-entry_of-entry in
     let f = frame c.is_heard.ensures c.if-is_heard.true in
     let k = c.run-ran.result.pen.lines + 1 in
-    heard-standing (parts_in r) (columns_in r) (fits₀ r) (limit r) (big r) (standing r) (frame-notes f.0 n) f.1 c.hear-told.ensures
-    (penned_as (ap (λ (v : Verdict). answer_line k Word.Frame (Response.Frame v)) (sym c.in-Accepted.is))
+    heard-standing (parts_in r) (columns_in r) (fits₀ r) (limit r) (big r) (standing r)
+    (frame-notes f.0 n) f.1 c.hear-told.ensures
+    (penned_as
+    (ap (λ (v : Verdict). answer_line k Word.Frame (Response.Frame v)) (sym c.in-Accepted.is))
     c.put_accepted-pen.ensures.penned)
 
 pub loop-count-preserved-in-Refused : goal.loop-count-preserved-in-Refused
@@ -273,8 +277,11 @@ loop-count-preserved-in-Refused c =
     let n = notes (goal.at.loop-count-preserved-in-Refused c).After-entry_of-entry in
     let f = frame c.is_heard.ensures c.if-is_heard.true in
     let k = c.run-ran.result.pen.lines + 1 in
-    heard-standing (parts_in r) (columns_in r) (fits₀ r) (limit r) (big r) (standing r) (frame-notes f.0 n) f.1 c.hear-told.ensures
-    (penned_as (ap₂ (λ (m : ℕ) (x : Offset). line_of k Word.Frame m x) c.number-number-in-Refused.ensures c.offset.ensures)
+    let number = c.number-number-in-Refused.ensures in
+    heard-standing (parts_in r) (columns_in r) (fits₀ r) (limit r) (big r) (standing r)
+    (frame-notes f.0 n) f.1 c.hear-told.ensures
+    (penned_as
+    (ap₂ (λ (m : ℕ) (x : Offset). line_of k Word.Frame m x) number c.offset.ensures)
     c.put_told-pen-in-Refused.ensures.penned)
 
 -- ---- any other record
@@ -292,25 +299,21 @@ pub loop-count-preserved : goal.loop-count-preserved
 loop-count-preserved c =
     let r = (goal.at.loop-count-preserved c).After-run-ran in
     let e = (goal.at.loop-count-preserved c).After-entry_of-entry in
-    let l = c.loop-count in
     let m = c.note-noted in
     let n = m.ensures in
     let put = c.put_told-pen-else-is_heard in
     let k = c.run-ran.result.pen.lines + 1 in
-    let contents = take (c.in-Whole.end - c.in-Whole.start) (drop c.in-Whole.start (take l.stop c.args.blocks.now)) in
-    let after = columns m.new.starts m.new.periods m.new.durations in
+    let w = c.in-Whole in
+    let used = take c.loop-count.stop c.args.blocks.now in
+    let contents = take (w.end - w.start) (drop w.start used) in
     let line =
     penned_as
     (ap₂ (λ (i : ℕ) (x : Offset). line_of k m.result.word i x) n.number n.offset
     ∙ ap (λ (x : Word). answer_line k x n.answered.answer) n.word)
     put.ensures.penned in (
-      subst
-          (λ (i : ℕ). Standing c.args.blocks.now (first_in r) c.args.out.now put.new.out (lister_of m.result.parts put.result.lines after) put.new.digits put.result m.result.clear i l.stop l.after)
-          (sym c.goes_on-at.ensures)
-          (subst
-          (λ (x : Lister). Standing c.args.blocks.now (first_in r) c.args.out.now put.new.out x put.new.digits put.result m.result.clear (rest_from c.entry_of-entry.result c.in-Whole.end l.stop) l.stop l.after)
-          (sym (n.parts.same put.result.lines))
-          (record_standing (fits₀ r) (limit r) (big r) (standing r) c.entry_of-entry.result contents _ (notes e) n.answered n.says n.follows
-          put.result _ _ line m.result.clear n.clears)),
+      standing_as (n.parts.same put.result.lines) c.goes_on-at.ensures
+          (record_standing (fits₀ r) (limit r) (big r) (standing r) c.entry_of-entry.result
+          contents _
+          (notes e) n.answered n.says n.follows put.result _ _ line m.result.clear n.clears),
       n.parts.makes,
     )

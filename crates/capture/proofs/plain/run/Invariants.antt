@@ -1,4 +1,5 @@
--- A station is followed wherever the loop is reached, and the lines so far are those of the records before the place.
+-- A station is followed wherever the loop is reached. The lines so far are those of the records
+-- before the place.
 use Rattle.std.proofs.Common.{true, length, ◌-◌}
 use Rattle.capture.specs.CodeTerms.Plain.{RanFrom}
 use Rattle.capture.proofs.plain.run.Given as goal

@@ -27,7 +27,8 @@ returns-in-Accepted-clause-fed_with c =
     let a = c.args in
     let told = block_told a.block.now a.self in
     let put = c.put_block in
-    subst (λ (x : Listing). FedWith (feed_means a.self 1 told (length a.out.now)) a.self a.out.now x put.new.out)
+    let means = feed_means a.self 1 told (length a.out.now) in
+    subst (λ (x : Listing). FedWith means a.self a.out.now x put.new.out)
     (sym c.listed.ensures)
     (fed a.self 1 told a.out.now (ap answer_told (sym c.in-Accepted.is) ∙ c.room_for.ensures)
     put.result put.ensures.fed put.ensures.out_after)

@@ -12,7 +12,9 @@ pub note-answered-requires : goal.note-answered-requires
 note-answered-requires c =
     record {
       sound = subst Sound (sym c.whole-lister.ensures) c.requires.sound;
-      active_value = λ e. ap (λ (l : Lister). l.active) c.whole-lister.ensures ∙ c.requires.active_value e;
+      active_value =
+          λ e.
+          ap (λ (l : Lister). l.active) c.whole-lister.ensures ∙ c.requires.active_value e;
     }
 
 pub clear_after-clear-requires : goal.clear_after-clear-requires

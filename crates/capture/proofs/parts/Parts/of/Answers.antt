@@ -5,4 +5,5 @@ use Rattle.capture.proofs.parts.Parts.of.Goals as goal
 
 pub returns : goal.returns
 returns c =
-    parts_of c.args.lister c.requires.sound _ _ c.of-apart.ensures.value c.of-apart.ensures.holds_schedules
+    parts_of c.args.lister c.requires.sound _ _ c.of-apart.ensures.value
+    c.of-apart.ensures.holds_schedules
