@@ -235,9 +235,8 @@ int64_t oneiralth_reply_to_measurement_request(const uint8_t *frame, size_t fram
                                                uint8_t found, uint32_t value, uint32_t t0, uint32_t t1, uint32_t t2, uint32_t t3, uint32_t t4,
                                                uint32_t t5, uint32_t t6, uint32_t t7, uint8_t *out, size_t out_length);
 
-/* ---- a station, in ONEIRALTH_STATION_SIZE octets that its caller keeps, and changed there. Octets that hold none, since none was started in them or they are
- * too few, give ONEIRALTH_IMPOSSIBLE, and stay as they are. Spoilt octets give it only where they hold no station: most single spoilt octets make the record
- * of another valid station, which the call then goes by (docs/BOUNDARY.md). No call may interrupt another on the same station. */
+/* ---- a station, in ONEIRALTH_STATION_SIZE octets that its caller keeps, and changed there. Octets that hold none, since none was started in them, they were
+ * spoilt or they are too few, give ONEIRALTH_IMPOSSIBLE, and stay as they are. No call may interrupt another on the same station. */
 
 /* ONEIRALTH_STATION_SIZE as the library has it. */
 int64_t oneiralth_station_size(void);

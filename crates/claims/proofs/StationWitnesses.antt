@@ -46,7 +46,7 @@ long = advance 75 ∷ beacon_of (quiet_for 100 20) ∷ advance 50 ∷ []
 abbrev long_and_short : List Call
 long_and_short = advance 75 ∷ beacon_of (quiet_for 10 0) ∷ advance 5 ∷ long
 
--- Power Constraint of 3 d_b
+-- Power Constraint of 3 dB
 abbrev constraint : List ℕ
 constraint = 32 ∷ 1 ∷ 3 ∷ []
 

@@ -1,4 +1,4 @@
--- Element 35, TPC Report (01, "Octets"; 7.3.2.18), length 2: power in d_bm, margin in d_b, both signed.
+-- Element 35, TPC Report (01, "Octets"; 7.3.2.18), length 2: power in dBm, margin in dB, both signed.
 use Rattle.std.specs.Prelude.{Bool, true, false, List, [], ◌∷◌, ℕ}
 use Rattle.std.specs.Int.{w8}
 use Rattle.std.proofs.Common.{SFits}

@@ -8,7 +8,7 @@ use octets::Wrote;
 
 pub const ID: u8 = 35;
 
-// Power in d_bm and link margin in d_b, both signed.
+// Power in dBm and link margin in dB, both signed.
 #[derive(Clone, Copy)]
 pub struct TpcReport {
     pub power: i8,

@@ -99,7 +99,7 @@ pub a_tpc_request : heard (action_frame (0 ∷ 2 ∷ 7 ∷ 34 ∷ 0 ∷ [])) ≡
 unfolding frame_means header_means management_means address_means foreign_header foreign_address to_all checked action_means opens_with single required nothing_left passing handing elements_in elements_after tpc_request_means fixed
 a_tpc_request = refl
 
--- 20 d_bm, and a margin of −1 d_b
+-- 20 dBm, and a margin of −1 dB
 pub a_tpc_report : heard (action_frame (0 ∷ 3 ∷ 0 ∷ 35 ∷ 2 ∷ 20 ∷ 255 ∷ []))
     ≡ to_own (action (tpc_report 0 (record { power = pos 20; margin = negsuc 0 })))
 unfolding frame_means header_means management_means address_means foreign_header foreign_address to_all checked action_means opens_with single required nothing_left passing handing elements_in elements_after tpc_report_means fixed
