@@ -6,9 +6,9 @@ use element::ibss_dfs::Pair;
 use frame::{Frame, Reading};
 use scene::call::Call;
 use scene::made::LONGEST;
+use scene::page::Page;
 use scene::verb::Form;
 use scene::{answers, fields, made, say};
-use std::io;
 use std::io::Write;
 
 // A frame of the AP to the station.
@@ -36,100 +36,99 @@ pub fn to_row(form: Form, call: Call, frame: &mut [u8]) -> usize
 }
 
 // A frame of an exchange, and its dialog token.
-fn exchanged<W: Write>(out: &mut W, word: &[u8], token: u8) -> io::Result<()> {
-    say::text(out, word)?;
-    say::octet(out, token)
+fn exchanged<W: Write>(page: &mut Page<W>, word: &[u8], token: u8) {
+    say::text(page, word);
+    say::octet(page, token);
 }
 
 // By its kind, each with its own fields.
-fn kind<W: Write>(out: &mut W, frame: Frame) -> io::Result<()> {
+fn kind<W: Write>(page: &mut Page<W>, frame: Frame) {
     match frame {
         Frame::Beacon(notice) => {
-            say::text(out, b" beacon")?;
-            fields::notice(out, notice)
+            say::text(page, b" beacon");
+            fields::notice(page, notice);
         }
         Frame::ProbeResponse(notice) => {
-            say::text(out, b" probe response")?;
-            fields::notice(out, notice)
+            say::text(page, b" probe response");
+            fields::notice(page, notice);
         }
         Frame::MeasurementRequest { token, count } => {
-            exchanged(out, b" measurement request", token)?;
-            say::number(out, count as u64)
+            exchanged(page, b" measurement request", token);
+            say::number(page, count as u64);
         }
         Frame::MeasurementReport { token, count } => {
-            exchanged(out, b" measurement report", token)?;
-            say::number(out, count as u64)
+            exchanged(page, b" measurement report", token);
+            say::number(page, count as u64);
         }
-        Frame::TpcRequest { token } => exchanged(out, b" tpc request", token),
+        Frame::TpcRequest { token } => exchanged(page, b" tpc request", token),
         Frame::TpcReport { token, report } => {
-            exchanged(out, b" tpc report", token)?;
-            fields::report(out, report)
+            exchanged(page, b" tpc report", token);
+            fields::report(page, report);
         }
-        Frame::ChannelSwitch(switch) => fields::switch(out, switch),
+        Frame::ChannelSwitch(switch) => fields::switch(page, switch),
     }
 }
 
 // The answer's number, then whether the frame went to all, or where it broke.
-fn answer<W: Write>(out: &mut W, reading: Reading, broadcast: bool) -> io::Result<()> {
+fn answer<W: Write>(page: &mut Page<W>, reading: Reading, broadcast: bool) {
     match reading {
-        Reading::Refused(fault) => answers::fault(out, fault),
+        Reading::Refused(fault) => answers::fault(page, fault),
         Reading::Is(_) => {
-            say::number(out, 0)?;
+            say::number(page, 0);
             if broadcast {
-                say::text(out, b" to all")?;
+                say::text(page, b" to all");
             }
-            Ok(())
         }
     }
 }
 
 // As document 01's station reads it: the answer, the frame and its Quiet elements.
-pub fn read<W: Write>(out: &mut W, form: Form, call: Call) -> io::Result<()> {
+pub fn read<W: Write>(page: &mut Page<W>, form: Form, call: Call) {
     let mut octets = [0u8; LONGEST];
     let length = of_ap(form, call, &mut octets);
     let received = frame::read(&octets[0..length], OWN, AP, INTERVAL);
     let reading = received.reading;
-    answer(out, reading, received.broadcast)?;
+    answer(page, reading, received.broadcast);
     if let Reading::Is(frame) = reading {
-        kind(out, frame)?;
+        kind(page, frame);
     }
     let slots = received.quiets;
-    fields::quiets(out, slots, received.count)
+    fields::quiets(page, slots, received.count);
 }
 
 // As a station of an IBSS reads it: its sender and element 41 too.
-pub fn read_in_ibss<W: Write>(out: &mut W, form: Form, call: Call) -> io::Result<()> {
+pub fn read_in_ibss<W: Write>(page: &mut Page<W>, form: Form, call: Call) {
     let mut octets = [0u8; LONGEST];
     let length = of_member(form, call, 1, &mut octets);
     let heard = frame::read_in_ibss(&octets[0..length], OWN, AP, INTERVAL);
     let received = heard.received;
     let reading = received.reading;
-    answer(out, reading, received.broadcast)?;
+    answer(page, reading, received.broadcast);
     if let Reading::Is(frame) = reading {
-        say::text(out, b" from")?;
+        say::text(page, b" from");
         let sender = heard.sender;
-        say::octets(out, &sender)?;
-        kind(out, frame)?;
+        say::octets(page, &sender);
+        kind(page, frame);
     }
     let dfs = heard.dfs;
     if heard.names {
-        fields::dfs(out, dfs)?;
+        fields::dfs(page, dfs);
     }
     let slots = received.quiets;
-    fields::quiets(out, slots, received.count)
+    fields::quiets(page, slots, received.count);
 }
 
 // A pair of a beacon's element 41, by its index: the answer's number, and the pair's channel and map.
-pub fn pair<W: Write>(out: &mut W, call: Call) -> io::Result<()> {
+pub fn pair<W: Write>(page: &mut Page<W>, call: Call) {
     let mut octets = [0u8; LONGEST];
     let length = of_member(Form::Beacon, call, 2, &mut octets);
     let index = call.numbers[1] as usize;
     match frame::dfs_pair_at(&octets[0..length], OWN, AP, INTERVAL, index) {
-        Pair::Refused(refusal) => say::octet(out, refusal.number()),
+        Pair::Refused(refusal) => say::octet(page, refusal.number()),
         Pair::Is(pair) => {
-            say::number(out, 0)?;
-            say::octet(out, pair.channel)?;
-            say::octet(out, pair.map)
+            say::number(page, 0);
+            say::octet(page, pair.channel);
+            say::octet(page, pair.map);
         }
     }
 }

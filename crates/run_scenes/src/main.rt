@@ -63,6 +63,7 @@ mod stage;
 mod stations;
 mod tables;
 
+use scene::page::Page;
 use std::io;
 
 // The scenes' station, its AP or its IBSS, the beacon interval and the channel.
@@ -75,5 +76,7 @@ const INTERVAL: u16 = 100;
 const CHANNEL: u8 = 36;
 
 fn main(rt: HostRuntime) -> io::Result<()> {
-    stage::play(&mut rt.stdin(), &mut rt.stdout())
+    let mut page = Page::begun(rt.stdout());
+    stage::play(&mut page, &mut rt.stdin());
+    page.ended()
 }

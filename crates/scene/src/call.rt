@@ -1,9 +1,9 @@
 // A call of a scene: its verb and its numbers.
 ghost use Rattle.std.specs.Prelude.{◌≤◌};
 
+use crate::page::Page;
 use crate::verb::Verb;
 use crate::{last, say};
-use std::io;
 use std::io::Write;
 
 // How many numbers a call may have, with place 0, which is the verb's.
@@ -34,13 +34,13 @@ impl Call {
     }
 
     // How many units lead from a clock to the moment that is its first number. None lead to one that is gone.
-    pub fn units_from<W: Write>(self, out: &mut W, clock: u32) -> io::Result<u32> {
+    pub fn units_from<W: Write>(self, page: &mut Page<W>, clock: u32) -> u32 {
         let moment = self.first();
         if moment < clock {
-            say::text(out, b" gone")?;
-            return Ok(0);
+            say::text(page, b" gone");
+            return 0;
         }
-        Ok(moment - clock)
+        moment - clock
     }
 
     // Where its octets end that begin at a place, or later.

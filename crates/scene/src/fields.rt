@@ -1,4 +1,5 @@
 // The fields of each element, and of what a beacon holds.
+use crate::page::Page;
 use crate::say;
 use beacon::{MaybePower, MaybeReport, MaybeSwitch, Notice};
 use element::channel_switch::ChannelSwitch;
@@ -9,149 +10,146 @@ use element::tpc_report::TpcReport;
 use measurement_element::measurement_report::Reason;
 use measurement_element::{Found, Span, measurement_report, measurement_request};
 use pending::Pending;
-use std::io;
 use std::io::Write;
 
-pub fn power<W: Write>(out: &mut W, p: PowerConstraint) -> io::Result<()> {
-    say::text(out, b" constraint")?;
-    say::octet(out, p.decibels)
+pub fn power<W: Write>(page: &mut Page<W>, p: PowerConstraint) {
+    say::text(page, b" constraint");
+    say::octet(page, p.decibels);
 }
 
 // The constraint that a station keeps.
-pub fn kept<W: Write>(out: &mut W, power: MaybePower) -> io::Result<()> {
+pub fn kept<W: Write>(page: &mut Page<W>, power: MaybePower) {
     match power {
-        MaybePower::Absent => say::text(out, b" none"),
-        MaybePower::Is(constraint) => say::octet(out, constraint.decibels),
+        MaybePower::Absent => say::text(page, b" none"),
+        MaybePower::Is(constraint) => say::octet(page, constraint.decibels),
     }
 }
 
 // The switch that a station awaits: 0, or its moment, mode and channel.
-pub fn pending<W: Write>(out: &mut W, pending: Pending) -> io::Result<()> {
+pub fn pending<W: Write>(page: &mut Page<W>, pending: Pending) {
     match pending {
-        Pending::Nothing => say::number(out, 0),
+        Pending::Nothing => say::number(page, 0),
         Pending::Switch(switch) => {
-            say::number(out, switch.at)?;
-            say::octet(out, switch.mode)?;
-            say::octet(out, switch.channel)
+            say::number(page, switch.at);
+            say::octet(page, switch.mode);
+            say::octet(page, switch.channel);
         }
     }
 }
 
 // The signed numbers as the octets that hold them.
-pub fn report<W: Write>(out: &mut W, t: TpcReport) -> io::Result<()> {
+pub fn report<W: Write>(page: &mut Page<W>, t: TpcReport) {
     let power = t.power;
     let margin = t.margin;
-    say::text(out, b" report")?;
-    say::octet(out, octets::from_signed(power))?;
-    say::octet(out, octets::from_signed(margin))
+    say::text(page, b" report");
+    say::octet(page, octets::from_signed(power));
+    say::octet(page, octets::from_signed(margin));
 }
 
-pub fn switch<W: Write>(out: &mut W, s: ChannelSwitch) -> io::Result<()> {
-    say::text(out, b" switch")?;
-    say::octet(out, s.mode)?;
-    say::octet(out, s.channel)?;
-    say::octet(out, s.count)
+pub fn switch<W: Write>(page: &mut Page<W>, s: ChannelSwitch) {
+    say::text(page, b" switch");
+    say::octet(page, s.mode);
+    say::octet(page, s.channel);
+    say::octet(page, s.count);
 }
 
-pub fn quiet<W: Write>(out: &mut W, q: Quiet) -> io::Result<()> {
-    say::text(out, b" quiet")?;
-    say::octet(out, q.count)?;
-    say::octet(out, q.period)?;
-    say::number(out, q.duration as u64)?;
-    say::number(out, q.offset as u64)
+pub fn quiet<W: Write>(page: &mut Page<W>, q: Quiet) {
+    say::text(page, b" quiet");
+    say::octet(page, q.count);
+    say::octet(page, q.period);
+    say::number(page, q.duration as u64);
+    say::number(page, q.offset as u64);
 }
 
 // Of the pairs how many there are.
-pub fn dfs<W: Write>(out: &mut W, d: IbssDfs) -> io::Result<()> {
-    say::text(out, b" dfs")?;
+pub fn dfs<W: Write>(page: &mut Page<W>, d: IbssDfs) {
+    say::text(page, b" dfs");
     let owner = d.owner;
-    say::octets(out, &owner)?;
-    say::octet(out, d.recovery)?;
-    say::number(out, d.pairs as u64)
+    say::octets(page, &owner);
+    say::octet(page, d.recovery);
+    say::number(page, d.pairs as u64);
 }
 
 // As many as the count says, at most.
-pub fn quiets<W: Write>(out: &mut W, slots: [Quiet; 8], count: usize) -> io::Result<()> {
+pub fn quiets<W: Write>(page: &mut Page<W>, slots: [Quiet; 8], count: usize) {
     let mut i = 0;
     while i < 8 {
         if i < count {
-            quiet(out, slots[i])?;
+            quiet(page, slots[i]);
         }
         i += 1;
     }
-    Ok(())
 }
 
-pub fn notice<W: Write>(out: &mut W, n: Notice) -> io::Result<()> {
-    say::number(out, n.timestamp)?;
-    say::number(out, n.capability as u64)?;
+pub fn notice<W: Write>(page: &mut Page<W>, n: Notice) {
+    say::number(page, n.timestamp);
+    say::number(page, n.capability as u64);
     let limit = n.power;
     if let MaybePower::Is(p) = limit {
-        power(out, p)?;
+        power(page, p);
     }
     let told = n.report;
     if let MaybeReport::Is(t) = told {
-        report(out, t)?;
+        report(page, t);
     }
     let announced = n.switch;
     if let MaybeSwitch::Is(s) = announced {
-        switch(out, s)?;
+        switch(page, s);
     }
-    Ok(())
 }
 
-fn span<W: Write>(out: &mut W, s: Span) -> io::Result<()> {
-    say::octet(out, s.channel)?;
-    say::number(out, s.start)?;
-    say::number(out, s.duration as u64)
+fn span<W: Write>(page: &mut Page<W>, s: Span) {
+    say::octet(page, s.channel);
+    say::number(page, s.start);
+    say::number(page, s.duration as u64);
 }
 
-pub fn asked<W: Write>(out: &mut W, matter: measurement_request::Matter) -> io::Result<()> {
+pub fn asked<W: Write>(page: &mut Page<W>, matter: measurement_request::Matter) {
     match matter {
         measurement_request::Matter::Enable { request, report } => {
-            say::text(out, b" enable")?;
-            say::flag(out, request)?;
-            say::flag(out, report)
+            say::text(page, b" enable");
+            say::flag(page, request);
+            say::flag(page, report);
         }
         measurement_request::Matter::Measure(s) => {
-            say::text(out, b" measure")?;
-            span(out, s)
+            say::text(page, b" measure");
+            span(page, s);
         }
-        measurement_request::Matter::Uninterpreted => say::text(out, b" uninterpreted"),
+        measurement_request::Matter::Uninterpreted => say::text(page, b" uninterpreted"),
     }
 }
 
-fn not_measured<W: Write>(out: &mut W, reason: Reason) -> io::Result<()> {
+fn not_measured<W: Write>(page: &mut Page<W>, reason: Reason) {
     match reason {
-        Reason::Late => say::text(out, b" late"),
-        Reason::Incapable => say::text(out, b" incapable"),
-        Reason::Refused => say::text(out, b" refused"),
+        Reason::Late => say::text(page, b" late"),
+        Reason::Incapable => say::text(page, b" incapable"),
+        Reason::Refused => say::text(page, b" refused"),
     }
 }
 
-fn measured<W: Write>(out: &mut W, s: Span, found: Found) -> io::Result<()> {
+fn measured<W: Write>(page: &mut Page<W>, s: Span, found: Found) {
     match found {
         Found::Map(map) => {
-            say::text(out, b" basic")?;
-            span(out, s)?;
-            say::octet(out, map)
+            say::text(page, b" basic");
+            span(page, s);
+            say::octet(page, map);
         }
         Found::Busy(busy) => {
-            say::text(out, b" cca")?;
-            span(out, s)?;
-            say::octet(out, busy)
+            say::text(page, b" cca");
+            span(page, s);
+            say::octet(page, busy);
         }
         Found::Densities => {
-            say::text(out, b" rpi")?;
-            span(out, s)
+            say::text(page, b" rpi");
+            span(page, s);
         }
     }
 }
 
-pub fn found<W: Write>(out: &mut W, matter: measurement_report::Matter) -> io::Result<()> {
+pub fn found<W: Write>(page: &mut Page<W>, matter: measurement_report::Matter) {
     match matter {
-        measurement_report::Matter::NotMeasured(reason) => not_measured(out, reason),
-        measurement_report::Matter::Measured { span, found } => measured(out, span, found),
-        measurement_report::Matter::Uninterpreted => say::text(out, b" uninterpreted"),
+        measurement_report::Matter::NotMeasured(reason) => not_measured(page, reason),
+        measurement_report::Matter::Measured { span, found } => measured(page, span, found),
+        measurement_report::Matter::Uninterpreted => say::text(page, b" uninterpreted"),
     }
 }

@@ -11,6 +11,7 @@ pub mod last;
 pub mod line;
 pub mod made;
 mod numbers;
+pub mod page;
 mod reads;
 pub mod replies;
 pub mod say;

@@ -1,10 +1,10 @@
 // A line as it is read, character by character.
-ghost use Rattle.std.specs.Prelude.{◌≡◌, ◌<◌, ◌≤◌, length, IfOk};
+ghost use Rattle.std.specs.Prelude.{◌≡◌, ◌<◌, ◌≤◌, length};
 
 use crate::call::{Call, ROOM};
+use crate::page::Page;
 use crate::verb::Verb;
 use crate::{say, verb};
-use std::io;
 use std::io::Write;
 
 // The longest verb has 17 letters.
@@ -188,27 +188,27 @@ impl Line {
     }
 
     // A call, read to this place. A number that found none must not go by unseen.
-    fn ended<W: Write>(self, out: &mut W, at: usize, expected: bool) -> io::Result<Read>
-        ensures { IfOk result (λ read. read.at ≡ at) }
+    fn ended<W: Write>(self, page: &mut Page<W>, at: usize, expected: bool) -> Read
+        ensures { result.at ≡ at }
     {
         if expected {
-            say::text(out, b"=")?;
+            say::text(page, b"=");
         }
         if self.spilled {
-            say::text(out, b" too long")?;
+            say::text(page, b" too long");
         }
-        Ok(Read {
+        Read {
             at,
             calls: true,
             expected,
             line: self,
-        })
+        }
     }
 
     // Reads on from a place in the text, and writes again what it reads, but for what is expected.
-    pub fn read<W: Write>(self, out: &mut W, text: &[u8], from: usize) -> io::Result<Read>
+    pub fn read<W: Write>(self, page: &mut Page<W>, text: &[u8], from: usize) -> Read
         requires { from < length text.now }
-        ensures { IfOk result (λ read. (from < read.at) × (read.at ≤ length text.now)) }
+        ensures { (from < result.at) × (result.at ≤ length text.now) }
     {
         let mut line = self;
         let mut written = from;
@@ -216,28 +216,28 @@ impl Line {
         while at < text.len() {
             let c = text[at];
             if line.ends_at(c) {
-                say::text(out, &text[written..at])?;
-                return line.ended(out, at + 1, c == b'=');
+                say::text(page, &text[written..at]);
+                return line.ended(page, at + 1, c == b'=');
             }
             at += 1;
             written = line.unwritten(c, written, at);
             line = line.take(c);
         }
-        say::text(out, &text[written..at])?;
-        Ok(Read {
+        say::text(page, &text[written..at]);
+        Read {
             at,
             calls: false,
             expected: false,
             line,
-        })
+        }
     }
 
     // The line after its call: what is expected is passed over, and the end of a line follows what was told.
-    pub fn after_call<W: Write>(self, out: &mut W, expected: bool) -> io::Result<Line> {
+    pub fn after_call<W: Write>(self, page: &mut Page<W>, expected: bool) -> Line {
         if expected {
-            return Ok(self.in_part(Part::Expected));
+            return self.in_part(Part::Expected);
         }
-        say::text(out, b"\n")?;
-        Ok(begun())
+        say::text(page, b"\n");
+        begun()
     }
 }

@@ -1,94 +1,94 @@
 // The contents of an element as they are read: the answer's number, then the fields.
+use crate::page::Page;
 use crate::{fields, say};
 use element::{channel_switch, power_constraint, quiet, tpc_report, tpc_request};
 use measurement_element::{measurement_report, measurement_request};
-use std::io;
 use std::io::Write;
 
-fn power<W: Write>(out: &mut W, contents: &[u8]) -> io::Result<()> {
+fn power<W: Write>(page: &mut Page<W>, contents: &[u8]) {
     match power_constraint::read(contents) {
-        power_constraint::Reading::Refused(r) => say::octet(out, r.number()),
+        power_constraint::Reading::Refused(r) => say::octet(page, r.number()),
         power_constraint::Reading::Is(p) => {
-            say::number(out, 0)?;
-            fields::power(out, p)
+            say::number(page, 0);
+            fields::power(page, p);
         }
     }
 }
 
-fn request<W: Write>(out: &mut W, contents: &[u8]) -> io::Result<()> {
+fn request<W: Write>(page: &mut Page<W>, contents: &[u8]) {
     match tpc_request::read(contents) {
-        tpc_request::Reading::Refused(r) => say::octet(out, r.number()),
-        tpc_request::Reading::Is => say::number(out, 0),
+        tpc_request::Reading::Refused(r) => say::octet(page, r.number()),
+        tpc_request::Reading::Is => say::number(page, 0),
     }
 }
 
-fn report<W: Write>(out: &mut W, contents: &[u8]) -> io::Result<()> {
+fn report<W: Write>(page: &mut Page<W>, contents: &[u8]) {
     match tpc_report::read(contents) {
-        tpc_report::Reading::Refused(r) => say::octet(out, r.number()),
+        tpc_report::Reading::Refused(r) => say::octet(page, r.number()),
         tpc_report::Reading::Is(t) => {
-            say::number(out, 0)?;
-            fields::report(out, t)
+            say::number(page, 0);
+            fields::report(page, t);
         }
     }
 }
 
-fn switch<W: Write>(out: &mut W, contents: &[u8]) -> io::Result<()> {
+fn switch<W: Write>(page: &mut Page<W>, contents: &[u8]) {
     match channel_switch::read(contents) {
-        channel_switch::Reading::Refused(r) => say::octet(out, r.number()),
+        channel_switch::Reading::Refused(r) => say::octet(page, r.number()),
         channel_switch::Reading::Is(s) => {
-            say::number(out, 0)?;
-            fields::switch(out, s)
+            say::number(page, 0);
+            fields::switch(page, s);
         }
     }
 }
 
-fn quiet_of<W: Write>(out: &mut W, contents: &[u8], interval: u16) -> io::Result<()> {
+fn quiet_of<W: Write>(page: &mut Page<W>, contents: &[u8], interval: u16) {
     match quiet::read(contents, interval) {
-        quiet::Reading::Refused(r) => say::octet(out, r.number()),
+        quiet::Reading::Refused(r) => say::octet(page, r.number()),
         quiet::Reading::Is(q) => {
-            say::number(out, 0)?;
-            fields::quiet(out, q)
+            say::number(page, 0);
+            fields::quiet(page, q);
         }
     }
 }
 
-fn asked<W: Write>(out: &mut W, contents: &[u8]) -> io::Result<()> {
+fn asked<W: Write>(page: &mut Page<W>, contents: &[u8]) {
     match measurement_request::read(contents) {
-        measurement_request::Reading::Refused(r) => say::octet(out, r.number()),
+        measurement_request::Reading::Refused(r) => say::octet(page, r.number()),
         measurement_request::Reading::Is(r) => {
-            say::number(out, 0)?;
-            say::octet(out, r.token)?;
-            say::octet(out, r.kind)?;
+            say::number(page, 0);
+            say::octet(page, r.token);
+            say::octet(page, r.kind);
             let matter = r.matter;
-            fields::asked(out, matter)
+            fields::asked(page, matter);
         }
     }
 }
 
 // The report stands beside the answer, and is blank beside a refusal.
-fn found<W: Write>(out: &mut W, contents: &[u8]) -> io::Result<()> {
+fn found<W: Write>(page: &mut Page<W>, contents: &[u8]) {
     let reading = measurement_report::read(contents);
     let answer = reading.answer;
-    say::octet(out, answer.number())?;
+    say::octet(page, answer.number());
     let report = reading.report;
-    say::octet(out, report.token)?;
-    say::octet(out, report.kind)?;
+    say::octet(page, report.token);
+    say::octet(page, report.kind);
     let matter = report.matter;
-    fields::found(out, matter)?;
+    fields::found(page, matter);
     let densities = report.densities;
-    say::octets(out, &densities)
+    say::octets(page, &densities);
 }
 
 // An element by its ID. One that there is not must not go by unseen.
-pub fn show<W: Write>(out: &mut W, id: u8, interval: u16, contents: &[u8]) -> io::Result<()> {
+pub fn show<W: Write>(page: &mut Page<W>, id: u8, interval: u16, contents: &[u8]) {
     match id {
-        power_constraint::ID => power(out, contents),
-        tpc_request::ID => request(out, contents),
-        tpc_report::ID => report(out, contents),
-        channel_switch::ID => switch(out, contents),
-        measurement_request::ID => asked(out, contents),
-        measurement_report::ID => found(out, contents),
-        quiet::ID => quiet_of(out, contents, interval),
-        _ => say::text(out, b" unknown"),
+        power_constraint::ID => power(page, contents),
+        tpc_request::ID => request(page, contents),
+        tpc_report::ID => report(page, contents),
+        channel_switch::ID => switch(page, contents),
+        measurement_request::ID => asked(page, contents),
+        measurement_report::ID => found(page, contents),
+        quiet::ID => quiet_of(page, contents, interval),
+        _ => say::text(page, b" unknown"),
     }
 }

@@ -3,12 +3,12 @@
 ghost use Rattle.std.specs.Prelude.{◌≤◌};
 
 use crate::call::Call;
+use crate::page::Page;
 use crate::verb::Reply;
 use crate::{last, say};
 use element::tpc_report::TpcReport;
 use measured_report::{Finding, Readings};
 use octets::Wrote;
-use std::io;
 use std::io::Write;
 
 // Every buffer is lent full of this octet, so that one that is changed shows.
@@ -89,28 +89,28 @@ fn is_blank(part: &[u8]) -> bool {
 }
 
 // The first octets, and whether the others are as they were lent.
-fn octets<W: Write>(out: &mut W, buffer: &[u8], count: usize) -> io::Result<()> {
+fn octets<W: Write>(page: &mut Page<W>, buffer: &[u8], count: usize) {
     if buffer.len() < count {
-        return Ok(());
+        return;
     }
-    say::octets(out, &buffer[0..count])?;
+    say::octets(page, &buffer[0..count]);
     if is_blank(&buffer[count..]) {
-        say::text(out, b" kept")
+        say::text(page, b" kept");
     } else {
-        say::text(out, b" changed")
+        say::text(page, b" changed");
     }
 }
 
-pub fn tell<W: Write>(out: &mut W, wrote: Wrote, buffer: &[u8; ROOM]) -> io::Result<()> {
+pub fn tell<W: Write>(page: &mut Page<W>, wrote: Wrote, buffer: &[u8; ROOM]) {
     match wrote {
         Wrote::Refused(refusal) => {
-            say::octet(out, refusal.number())?;
-            octets(out, buffer, 0)
+            say::octet(page, refusal.number());
+            octets(page, buffer, 0);
         }
         Wrote::Length(count) => {
-            say::number(out, 0)?;
-            say::number(out, count as u64)?;
-            octets(out, buffer, count)
+            say::number(page, 0);
+            say::number(page, count as u64);
+            octets(page, buffer, count);
         }
     }
 }

@@ -1,22 +1,23 @@
-// Words, numbers and octets on a writer.
+// Words, numbers and octets on a page.
 ghost use Rattle.std.specs.Prelude.{◌+◌, ◌≤◌, ◌<◌, length};
 
-use std::io;
+use crate::page::Page;
 use std::io::Write;
 
 // So many octets one after the other that are alike, or more, are told as one of them and how many they are, as in 0*312.
 const RUN: usize = 8;
 
-pub fn text<W: Write>(out: &mut W, word: &[u8]) -> io::Result<()> {
-    out.write_all(word)
+pub fn text<W: Write>(page: &mut Page<W>, word: &[u8]) {
+    page.text(word);
 }
 
-pub fn number<W: Write>(out: &mut W, n: u64) -> io::Result<()> {
-    write!(out, " {n}")
+pub fn number<W: Write>(page: &mut Page<W>, n: u64) {
+    text(page, b" ");
+    page.decimal(n);
 }
 
-pub fn octet<W: Write>(out: &mut W, o: u8) -> io::Result<()> {
-    number(out, o as u64)
+pub fn octet<W: Write>(page: &mut Page<W>, o: u8) {
+    number(page, o as u64);
 }
 
 // How many octets from a place on are alike.
@@ -35,21 +36,25 @@ pub fn alike(s: &[u8], from: usize) -> usize
     end - from
 }
 
-pub fn octets<W: Write>(out: &mut W, s: &[u8]) -> io::Result<()> {
+pub fn octets<W: Write>(page: &mut Page<W>, s: &[u8]) {
     let mut at = 0;
     while at < s.len() {
         let times = alike(s, at);
-        octet(out, s[at])?;
+        octet(page, s[at]);
         if times < RUN {
             at += 1;
         } else {
-            write!(out, "*{times}")?;
+            text(page, b"*");
+            page.decimal(times as u64);
             at += times;
         }
     }
-    Ok(())
 }
 
-pub fn flag<W: Write>(out: &mut W, b: bool) -> io::Result<()> {
-    if b { number(out, 1) } else { number(out, 0) }
+pub fn flag<W: Write>(page: &mut Page<W>, b: bool) {
+    if b {
+        number(page, 1);
+    } else {
+        number(page, 0);
+    }
 }

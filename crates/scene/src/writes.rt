@@ -2,6 +2,7 @@
 ghost use Rattle.std.specs.Prelude.{◌≤◌};
 
 use crate::call::Call;
+use crate::page::Page;
 use crate::{last, say};
 use element::channel_switch::ChannelSwitch;
 use element::power_constraint::PowerConstraint;
@@ -12,7 +13,6 @@ use measurement_element::measurement_report::{Reason, Report};
 use measurement_element::measurement_request::Request;
 use measurement_element::{Found, Span, measurement_report, measurement_request};
 use octets::Wrote;
-use std::io;
 use std::io::Write;
 
 // The fields from these places on, in the order of the element.
@@ -117,51 +117,50 @@ fn report_of(n: [u64; 16], densities: [u8; 8], buffer: &mut [u8], at: usize) -> 
 
 // An element by its ID. One that there is not must not go by unseen.
 fn written<W: Write>(
-    out: &mut W,
+    page: &mut Page<W>,
     n: [u64; 16],
     densities: [u8; 8],
     buffer: &mut [u8],
-) -> io::Result<Wrote> {
+) -> Wrote {
     let at = n[3] as usize;
     let id = last::one(n[1]);
     match id {
         power_constraint::ID => {
             let decibels = last::one(n[4]);
-            let power = PowerConstraint { decibels };
-            Ok(power_constraint::write(power, buffer, at))
+            power_constraint::write(PowerConstraint { decibels }, buffer, at)
         }
-        tpc_request::ID => Ok(tpc_request::write(buffer, at)),
-        tpc_report::ID => Ok(report(n, buffer, at)),
-        channel_switch::ID => Ok(switch(n, buffer, at)),
-        measurement_request::ID => Ok(request_of(n, buffer, at)),
-        measurement_report::ID => Ok(report_of(n, densities, buffer, at)),
-        quiet::ID => Ok(quiet_of(n, buffer, at)),
+        tpc_request::ID => tpc_request::write(buffer, at),
+        tpc_report::ID => report(n, buffer, at),
+        channel_switch::ID => switch(n, buffer, at),
+        measurement_request::ID => request_of(n, buffer, at),
+        measurement_report::ID => report_of(n, densities, buffer, at),
+        quiet::ID => quiet_of(n, buffer, at),
         _ => {
-            say::text(out, b" unknown")?;
-            Ok(Wrote::Length(0))
+            say::text(page, b" unknown");
+            Wrote::Length(0)
         }
     }
 }
 
-fn tell<W: Write>(out: &mut W, wrote: Wrote, buffer: &[u8; 32]) -> io::Result<()> {
+fn tell<W: Write>(page: &mut Page<W>, wrote: Wrote, buffer: &[u8; 32]) {
     match wrote {
-        Wrote::Refused(refusal) => say::octet(out, refusal.number())?,
+        Wrote::Refused(refusal) => say::octet(page, refusal.number()),
         Wrote::Length(count) => {
-            say::number(out, 0)?;
-            say::number(out, count as u64)?;
+            say::number(page, 0);
+            say::number(page, count as u64);
         }
     }
-    say::text(out, b" in")?;
-    say::octets(out, buffer)
+    say::text(page, b" in");
+    say::octets(page, buffer);
 }
 
 // Of the buffer's octets only as many are lent as the call says.
-pub fn show<W: Write>(out: &mut W, call: Call) -> io::Result<()> {
+pub fn show<W: Write>(page: &mut Page<W>, call: Call) {
     let n = call.numbers;
     let o = call.octets;
     let densities = [o[11], o[12], o[13], o[14], o[15], o[16], o[17], o[18]];
     let mut buffer = [170u8; 32];
     let room = (n[2] % 33) as usize;
-    let wrote = written(out, n, densities, &mut buffer[0..room])?;
-    tell(out, wrote, &buffer)
+    let wrote = written(page, n, densities, &mut buffer[0..room]);
+    tell(page, wrote, &buffer);
 }
