@@ -8,13 +8,7 @@ use Rattle.fraction.proofs.Filling.{filled_more, filled_all}
 use Rattle.fraction.proofs.Possible.{within}
 use Rattle.fraction.proofs.SumBound.{sum_of_eight}
 use Rattle.fraction.proofs.rpi_densities.Goals as goal
-use Rattle.fraction.proofs.rpi_densities.Goals.{After-loop-i, After-share, Else-not-is_possible, Start}
-
-eight_at_2 : (c : After-loop-i) → length c.args.times ≡ 8
-eight_at_2 c = search rules
-
-eight_at_1 : (c : After-share) → length c.args.times ≡ 8
-eight_at_1 c = search rules
+use Rattle.fraction.proofs.rpi_densities.Goals.{Else-not-is_possible}
 
 -- past the refusal the times are possible
 held : (c : Else-not-is_possible) → (0 < c.args.duration)
@@ -42,11 +36,12 @@ share-requires c =
 
 pub loop-i-preserved : goal.loop-i-preserved
 loop-i-preserved c =
-    let l = c.loop-i in (
+    let l = c.loop-i in
+    let eight : length c.args.times ≡ 8 = search rules in (
       omega arith,
       simp length-set l.invariant.1,
       rw c.share.ensures
-          (filled_more (fraction_of c.args.duration) c.args.times l.values l.i (omega (arith, eight_at_1 c)) (omega arith) l.invariant.2),
+          (filled_more (fraction_of c.args.duration) c.args.times l.values l.i (omega (arith, eight)) (omega arith) l.invariant.2),
     )
 
 pub returns : goal.returns
@@ -54,11 +49,12 @@ unfolding densities_of checked
 returns c =
     let l = c.loop-i in
     let h = held (goal.at.returns c).Else-not-is_possible in
+    let eight : length c.args.times ≡ 8 = search rules in
     record {
       value =
-          rw (filled_all (fraction_of c.args.duration) c.args.times l.values l.i (omega (arith, eight_at_2 c)) (omega arith) l.invariant.2)
+          rw (filled_all (fraction_of c.args.duration) c.args.times l.values l.i (omega (arith, eight)) (omega arith) l.invariant.2)
           (rw (← c.total.ensures, ← c.is_possible.ensures, c.if-not-is_possible.false-raw));
       values_bound =
-          rw (filled_all (fraction_of c.args.duration) c.args.times l.values l.i (omega (arith, eight_at_2 c)) (omega arith) l.invariant.2)
-          (sum_of_eight c.args.duration c.args.times h.0 h.1 (eight_at_2 c));
+          rw (filled_all (fraction_of c.args.duration) c.args.times l.values l.i (omega (arith, eight)) (omega arith) l.invariant.2)
+          (sum_of_eight c.args.duration c.args.times h.0 h.1 eight);
     }

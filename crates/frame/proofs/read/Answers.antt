@@ -14,32 +14,28 @@ use Rattle.frame.proofs.ReadFrames.{framed, body_framed}
 use Rattle.frame.proofs.Within.{body_short}
 use Rattle.measurement_body.specs.Bodies.{longest_body}
 use Rattle.frame.proofs.read.Goals as goal
-use Rattle.frame.proofs.read.Goals.{After-body-body, In-Is}
+use Rattle.frame.proofs.read.Goals.{After-body-body}
 
 -- the header that was read
-abbrev head : In-Is → Head
+abbrev head : After-body-body → Head
 head c = record { subtype = c.in-Is.subtype; to_all = c.in-Is.broadcast }
 
--- the header that was read
-abbrev head_at_1 : After-body-body → Head
-head_at_1 c = record { subtype = c.in-Is.subtype; to_all = c.in-Is.broadcast }
-
-header_read : (c : After-body-body) → accepted (head_at_1 c) ≡ header_means Cell.Ap c.args.own c.args.ap c.args.frame.now
+header_read : (c : After-body-body) → accepted (head c) ≡ header_means Cell.Ap c.args.own c.args.ap c.args.frame.now
 header_read c = ap header_told (sym c.in-Is.is) ∙ c.read.ensures
 
 -- what is made of the body, by the subtype that was found
-of_body : (c : After-body-body) {t : Subtype} → (head_at_1 c).subtype ≡ t
+of_body : (c : After-body-body) {t : Subtype} → (head c).subtype ≡ t
     → let a = c.args in
-    frame_laid (sent (head_at_1 c).to_all (placed_past header_length (kind_of a.interval t c.body-body.result.now))) ≡ frame_laid (frame_means a.own a.ap a.interval a.frame.now)
+    frame_laid (sent (head c).to_all (placed_past header_length (kind_of a.interval t c.body-body.result.now))) ≡ frame_laid (frame_means a.own a.ap a.interval a.frame.now)
 of_body c e =
     let a = c.args in
-    ap frame_laid (body_framed a.own a.ap a.interval a.frame.now (head_at_1 c) (header_read c) e c.body-body.ensures)
+    ap frame_laid (body_framed a.own a.ap a.interval a.frame.now (head c) (header_read c) e c.body-body.ensures)
 
 -- it is no longer than a body may be
 short : (c : After-body-body) → length c.body-body.result.now ≤ longest_body
 short c =
     let a = c.args in
-    body_short Cell.Ap a.own a.ap a.frame.now (head_at_1 c) (header_read c) c.body-body.ensures
+    body_short Cell.Ap a.own a.ap a.frame.now (head c) (header_read c) c.body-body.ensures
 
 pub read_notice-requires : goal.read_notice-requires
 read_notice-requires c = short (goal.at.read_notice-requires c).After-body-body

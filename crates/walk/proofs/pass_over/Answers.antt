@@ -45,5 +45,3 @@ loop-id-preserved c =
     let long = length-take-le (c.in-Whole.end - c.in-Whole.start) (drop c.in-Whole.start run) (simp length-drop (omega (arith, w))) in
     let past : past_element c.loop-id.at (take (c.in-Whole.end - c.in-Whole.start) (drop c.in-Whole.start run)) ≡ c.in-Whole.end = omega (arith, w, long) in
     sym (next_vendor _ _ _ _ c.in-Whole.end (stands (goal.at.loop-id-preserved c).After-element_at _ c.in-Whole.is) (eq-eqb _ _ c.if-id.false) past) ∙ c.loop-id.invariant
-
--- INLINE 2 of 14 (needs 8): (λ c. refl)

@@ -17,32 +17,28 @@ use Rattle.frame.proofs.ReadFrames.{framed, body_framed}
 use Rattle.frame.proofs.Within.{body_short, reading_within}
 use Rattle.measurement_body.specs.Bodies.{longest_body}
 use Rattle.frame.proofs.hearing.hear.Goals as goal
-use Rattle.frame.proofs.hearing.hear.Goals.{After-body-body, In-Is}
+use Rattle.frame.proofs.hearing.hear.Goals.{After-body-body}
 
 -- the header that was read
-abbrev head : In-Is → Head
+abbrev head : After-body-body → Head
 head c = record { subtype = c.in-Is.subtype; to_all = c.in-Is.to_all }
 
--- the header that was read
-abbrev head_at_1 : After-body-body → Head
-head_at_1 c = record { subtype = c.in-Is.subtype; to_all = c.in-Is.to_all }
-
-header_read : (c : After-body-body) → accepted (head_at_1 c) ≡ header_means Cell.Ap c.args.own c.args.ap c.args.frame.now
+header_read : (c : After-body-body) → accepted (head c) ≡ header_means Cell.Ap c.args.own c.args.ap c.args.frame.now
 header_read c = ap header_told (sym c.in-Is.is) ∙ c.read.ensures
 
 -- what is heard of the body, by the subtype that was found
-of_body : (c : After-body-body) {t : Subtype} → (head_at_1 c).subtype ≡ t
+of_body : (c : After-body-body) {t : Subtype} → (head c).subtype ≡ t
     → let a = c.args in
-    hearing_of (frame_laid (sent (head_at_1 c).to_all (placed_past header_length (kind_of a.interval t c.body-body.result.now)))) ≡ hearing_of (frame_laid (frame_means a.own a.ap a.interval a.frame.now))
+    hearing_of (frame_laid (sent (head c).to_all (placed_past header_length (kind_of a.interval t c.body-body.result.now)))) ≡ hearing_of (frame_laid (frame_means a.own a.ap a.interval a.frame.now))
 of_body c e =
     let a = c.args in
-    ap (λ x. hearing_of (frame_laid x)) (body_framed a.own a.ap a.interval a.frame.now (head_at_1 c) (header_read c) e c.body-body.ensures)
+    ap (λ x. hearing_of (frame_laid x)) (body_framed a.own a.ap a.interval a.frame.now (head c) (header_read c) e c.body-body.ensures)
 
 -- it is no longer than a body may be
 short : (c : After-body-body) → length c.body-body.result.now ≤ longest_body
 short c =
     let a = c.args in
-    body_short Cell.Ap a.own a.ap a.frame.now (head_at_1 c) (header_read c) c.body-body.ensures
+    body_short Cell.Ap a.own a.ap a.frame.now (head c) (header_read c) c.body-body.ensures
 
 pub hear_notice-requires : goal.hear_notice-requires
 hear_notice-requires c = short (goal.at.hear_notice-requires c).After-body-body
@@ -60,11 +56,11 @@ returns-in-Refused c =
 
 pub returns-in-Notice : goal.returns-in-Notice
 returns-in-Notice c =
-    c.hear_notice.ensures c.in-Notice.probe (head (goal.at.returns-in-Notice c).In-Is).to_all ∙ of_body (goal.at.returns-in-Notice c).After-body-body (sym c.body_kind.ensures ∙ ap kind_subtype c.in-Notice.is)
+    c.hear_notice.ensures c.in-Notice.probe c.in-Is.to_all ∙ of_body (goal.at.returns-in-Notice c).After-body-body (sym c.body_kind.ensures ∙ ap kind_subtype c.in-Notice.is)
 
 pub returns-in-Action : goal.returns-in-Action
 returns-in-Action c =
     c.heard_alone-in-Action.ensures
     ∙ ap (λ (x : Reading). hearing_of (received x false [])) c.reading_in_frame.ensures
-    ∙ action_heard (head (goal.at.returns-in-Action c).In-Is).to_all (action_means c.body-body.result.now) c.read_body.result c.read_body.ensures
+    ∙ action_heard c.in-Is.to_all (action_means c.body-body.result.now) c.read_body.result c.read_body.ensures
     ∙ of_body (goal.at.returns-in-Action c).After-body-body (sym c.body_kind.ensures ∙ ap kind_subtype c.in-Action.is)

@@ -1,5 +1,5 @@
 -- `measurement_report::read` meets its contract: each way out is a way through the list of checks.
-use Rattle.std.proofs.Common.{List, ap, false, le-ltb, length, lt-ltb, ltb, sym, ℕ, ◌∙◌, ◌≡◌}
+use Rattle.std.proofs.Common.{ap, false, le-ltb, length, lt-ltb, ltb, sym, ◌∙◌, ◌≡◌}
 use Rattle.answer.specs.Checks.{accepted}
 use Rattle.answer.proofs.Judged.{past, stop, done}
 use Rattle.octets.specs.Numbers.{octet}
@@ -16,24 +16,15 @@ single : (c : Else-flags_in-gt-MOST_FLAGS) → ltb 1 (report_flags (octet 1 c.ar
 single c = ap (ltb 1) (sym c.flags_in.ensures) ∙ le-ltb _ _ c.if-flags_in-gt-MOST_FLAGS.false
 
 -- the matter of the report that was read is the one in the contents
--- the contents, as the reader has them once it has built the report
-abbrev contents_in_at_2 : After-is_forbidden → List ℕ
-contents_in_at_2 c = c.args.contents.now
-
--- the matter of the report that was read is the one in the contents
--- the contents, as the reader has them once it has built the report
-abbrev contents_in_at_1 : After-is_misfit → List ℕ
-contents_in_at_1 c = c.args.contents.now
-
 misfits : (c : After-is_misfit)
-    → let contents = contents_in_at_1 c in
+    → let contents = c.args.contents.now in
     report_misfits (report_in contents).matter (length contents) ≡ c.is_misfit.result
 misfits c =
-    ap (λ (r : Report). report_misfits r.matter (length (contents_in_at_1 c))) (sym c.report_in-report.ensures)
+    ap (λ (r : Report). report_misfits r.matter (length c.args.contents.now)) (sym c.report_in-report.ensures)
     ∙ sym c.is_misfit.ensures
 
 forbids : (c : After-is_forbidden)
-    → report_forbids (report_in (contents_in_at_2 c)).matter ≡ c.is_forbidden.result
+    → report_forbids (report_in c.args.contents.now).matter ≡ c.is_forbidden.result
 forbids c =
     ap (λ (r : Report). report_forbids r.matter) (sym c.report_in-report.ensures) ∙ sym c.is_forbidden.ensures
 

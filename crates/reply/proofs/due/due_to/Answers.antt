@@ -1,42 +1,27 @@
 -- `due_to` meets its contract: the header, then the body by its subtype.
 use Rattle.std.proofs.Common.{List, ap, sym, ℕ, ◌∙◌, ◌≡◌}
-use Rattle.answer.specs.Checks.{accepted}
 use Rattle.frame.specs.Actions.{action_means}
-use Rattle.header.specs.Headers.{body_of, header_told, Head, header_means}
+use Rattle.header.specs.Headers.{body_of, header_told}
 use Rattle.header.specs.declared.management.Subtype.{Subtype}
 use Rattle.reply.specs.CodeTerms.Asked.{due_of}
 use Rattle.reply.specs.Due.{or_return, by_subtype, due_in}
 use Rattle.reply.proofs.Owing.{header_refused, to_all_lem, by_kind}
 use Rattle.reply.proofs.due.due_to.Goals as goal
-use Rattle.reply.proofs.due.due_to.Goals.{Else-to_all, In-Is}
-
--- the header that was read
-abbrev head : In-Is → Head
-head c = record { subtype = c.in-Is.subtype; to_all = c.in-Is.to_all }
-
--- the header that was read
-abbrev head_at_1 : Else-to_all → Head
-head_at_1 c = record { subtype = c.in-Is.subtype; to_all = c.in-Is.to_all }
-
-header_read : (c : In-Is) → accepted (head c) ≡ header_means c.args.cell c.args.own c.args.bssid c.args.frame.now
-header_read c = ap header_told (sym c.in-Is.is) ∙ c.read.ensures
-
-header_read_at_1 : (c : Else-to_all) → accepted (head_at_1 c) ≡ header_means c.args.cell c.args.own c.args.bssid c.args.frame.now
-header_read_at_1 c = ap header_told (sym c.in-Is.is) ∙ c.read.ensures
+use Rattle.reply.proofs.due.due_to.Goals.{Else-to_all}
 
 -- to the station: by the subtype that was found
-by-subtype : (c : Else-to_all) {t : Subtype} → (head_at_1 c).subtype ≡ t
+by-subtype : (c : Else-to_all) {t : Subtype} → c.in-Is.subtype ≡ t
     → let a = c.args in
     due_of a.index (by_subtype t (body_of a.frame.now)) ≡ due_of a.index (due_in a.cell a.own a.bssid a.frame.now)
 by-subtype c e =
     let a = c.args in
     ap (λ (t : Subtype). due_of a.index (by_subtype t (body_of a.frame.now))) (sym e)
-    ∙ by_kind a.index a.cell a.own a.bssid a.frame.now _ _ (header_read_at_1 c) c.if-to_all.false
+    ∙ by_kind a.index a.cell a.own a.bssid a.frame.now _ _ (ap header_told (sym c.in-Is.is) ∙ c.read.ensures) c.if-to_all.false
 
 pub returns-then-to_all : goal.returns-then-to_all
 returns-then-to_all c =
     let a = c.args in
-    to_all_lem a.index a.cell a.own a.bssid a.frame.now _ _ (header_read (goal.at.returns-then-to_all c).In-Is) c.if-to_all.true
+    to_all_lem a.index a.cell a.own a.bssid a.frame.now _ _ (ap header_told (sym c.in-Is.is) ∙ c.read.ensures) c.if-to_all.true
 
 pub returns-in-Refused : goal.returns-in-Refused
 returns-in-Refused c =

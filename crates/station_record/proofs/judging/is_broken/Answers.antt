@@ -1,14 +1,15 @@
 -- `is_broken` meets its contract: each way out is a way through the tests.
 -- Assumes nothing.
-use Rattle.std.proofs.Common.{Bool, List, ap, ap₂, eq-eqb, eqb, le-ltb, lt-ltb, ltb, ne_eqb, not, sym, ℕ, ◌||◌, ◌∙◌, ◌≡◌}
+use Rattle.std.proofs.Common.{false, length, Bool, List, ap, ap₂, eq-eqb, eqb, le-ltb, lt-ltb, ltb, ne_eqb, not, sym, ℕ, ◌||◌, ◌∙◌, ◌≡◌}
 use Rattle.answer.proofs.Booleans.{or_go, or_stop}
 use Rattle.beacon.specs.Beacons.{quiet_limit}
 use Rattle.octets.specs.Numbers.{octet, octets_from, number}
 use Rattle.pending.specs.declared.Switch.{Switch}
 use Rattle.station.specs.Starting.{start_forbids}
+use Rattle.station_record.specs.Records.{version, size}
 use Rattle.station_record.specs.Held.{switch_at, power_broken, switch_broken, no_record}
 use Rattle.station_record.proofs.judging.is_broken.Goals as goal
-use Rattle.station_record.proofs.judging.is_broken.Goals.{After-is_bad_start, After-is_switch_broken, Else-is_bad_start, Else-is_power_broken, Else-memory-lt-SIZE, Else-octet_at-ne-VERSION}
+use Rattle.station_record.proofs.judging.is_broken.Goals.{After-is_bad_start, After-is_switch_broken, Else-octet_at-ne-VERSION}
 
 -- ---- what is left to be asked, past each test
 abbrev counted : List ℕ → Bool
@@ -20,44 +21,27 @@ switched os = switch_broken (switch_at os) (octet 22 os) (number 4 4 os)
 abbrev bad_start : List ℕ → Bool
 bad_start os = start_forbids (octets_from 6 8 os) (octets_from 6 14 os) (number 2 2 os) (octet 1 os)
 
-past-size : (c : Else-memory-lt-SIZE)
-    → let os = c.args.memory.now in
-    no_record os ≡ (not (eqb (octet 0 os) 1) || (bad_start os || (power_broken os || (switched os || counted os))))
-unfolding no_record
-past-size c = or_go _ (le-ltb _ _ c.if-memory-lt-SIZE.false)
+module _ (os : List ℕ) where
+  past-size : ltb (length os) size ≡ false
+      → no_record os ≡ (not (eqb (octet 0 os) version) || (bad_start os || (power_broken os || (switched os || counted os))))
+  unfolding no_record
+  past-size long = or_go _ long
 
-past-size_at_3 : (c : Else-is_power_broken)
-    → let os = c.args.memory.now in
-    no_record os ≡ (not (eqb (octet 0 os) 1) || (bad_start os || (power_broken os || (switched os || counted os))))
-unfolding no_record
-past-size_at_3 c = or_go _ (le-ltb _ _ c.if-memory-lt-SIZE.false)
+  past-version : ltb (length os) size ≡ false → not (eqb (octet 0 os) version) ≡ false
+      → no_record os ≡ (bad_start os || (power_broken os || (switched os || counted os)))
+  past-version long known = past-size long ∙ or_go _ known
 
-past-size_at_2 : (c : Else-is_bad_start)
-    → let os = c.args.memory.now in
-    no_record os ≡ (not (eqb (octet 0 os) 1) || (bad_start os || (power_broken os || (switched os || counted os))))
-unfolding no_record
-past-size_at_2 c = or_go _ (le-ltb _ _ c.if-memory-lt-SIZE.false)
+  past-settings : ltb (length os) size ≡ false → not (eqb (octet 0 os) version) ≡ false → bad_start os ≡ false
+      → no_record os ≡ (power_broken os || (switched os || counted os))
+  past-settings long known set = past-version long known ∙ or_go _ set
 
-past-size_at_1 : (c : Else-octet_at-ne-VERSION)
-    → let os = c.args.memory.now in
-    no_record os ≡ (not (eqb (octet 0 os) 1) || (bad_start os || (power_broken os || (switched os || counted os))))
-unfolding no_record
-past-size_at_1 c = or_go _ (le-ltb _ _ c.if-memory-lt-SIZE.false)
+  past-power : ltb (length os) size ≡ false → not (eqb (octet 0 os) version) ≡ false → bad_start os ≡ false → power_broken os ≡ false
+      → no_record os ≡ (switched os || counted os)
+  past-power long known set powered = past-settings long known set ∙ or_go _ powered
 
-past-version : (c : Else-octet_at-ne-VERSION)
-    → let os = c.args.memory.now in
-    no_record os ≡ (bad_start os || (power_broken os || (switched os || counted os)))
-past-version c = past-size_at_1 c ∙ or_go _ (ap not (ap (λ (o : ℕ). eqb o 1) (sym c.octet_at.ensures) ∙ eq-eqb _ _ c.if-octet_at-ne-VERSION.false))
-
-past-version_at_2 : (c : Else-is_power_broken)
-    → let os = c.args.memory.now in
-    no_record os ≡ (bad_start os || (power_broken os || (switched os || counted os)))
-past-version_at_2 c = past-size_at_3 c ∙ or_go _ (ap not (ap (λ (o : ℕ). eqb o 1) (sym c.octet_at.ensures) ∙ eq-eqb _ _ c.if-octet_at-ne-VERSION.false))
-
-past-version_at_1 : (c : Else-is_bad_start)
-    → let os = c.args.memory.now in
-    no_record os ≡ (bad_start os || (power_broken os || (switched os || counted os)))
-past-version_at_1 c = past-size_at_2 c ∙ or_go _ (ap not (ap (λ (o : ℕ). eqb o 1) (sym c.octet_at.ensures) ∙ eq-eqb _ _ c.if-octet_at-ne-VERSION.false))
+-- the version is the one that is known
+known-version : (c : Else-octet_at-ne-VERSION) → not (eqb (octet 0 c.args.memory.now) version) ≡ false
+known-version c = ap not (ap (λ (o : ℕ). eqb o 1) (sym c.octet_at.ensures) ∙ eq-eqb _ _ c.if-octet_at-ne-VERSION.false)
 
 -- the test of the settings is that of a start
 settings : (c : After-is_bad_start) → bad_start c.args.memory.now ≡ c.is_bad_start.result
@@ -67,39 +51,6 @@ settings c =
     (c.is_bad_start.ensures
     ∙ ap₂ (λ (own ap' : List ℕ). start_forbids own ap' c.number16-interval.result c.octet_at-channel.result) c.address_at-own.ensures c.address_at-ap.ensures
     ∙ ap₂ (λ (b channel : ℕ). start_forbids (octets_from 6 8 os) (octets_from 6 14 os) b channel) c.number16-interval.ensures c.octet_at-channel.ensures)
-
--- the test of the settings_at_2 is that of a start
-settings_at_2 : (c : Else-is_power_broken) → bad_start c.args.memory.now ≡ c.is_bad_start.result
-settings_at_2 c =
-    let os = c.args.memory.now in
-    sym
-    (c.is_bad_start.ensures
-    ∙ ap₂ (λ (own ap' : List ℕ). start_forbids own ap' c.number16-interval.result c.octet_at-channel.result) c.address_at-own.ensures c.address_at-ap.ensures
-    ∙ ap₂ (λ (b channel : ℕ). start_forbids (octets_from 6 8 os) (octets_from 6 14 os) b channel) c.number16-interval.ensures c.octet_at-channel.ensures)
-
--- the test of the settings_at_1 is that of a start
-settings_at_1 : (c : Else-is_bad_start) → bad_start c.args.memory.now ≡ c.is_bad_start.result
-settings_at_1 c =
-    let os = c.args.memory.now in
-    sym
-    (c.is_bad_start.ensures
-    ∙ ap₂ (λ (own ap' : List ℕ). start_forbids own ap' c.number16-interval.result c.octet_at-channel.result) c.address_at-own.ensures c.address_at-ap.ensures
-    ∙ ap₂ (λ (b channel : ℕ). start_forbids (octets_from 6 8 os) (octets_from 6 14 os) b channel) c.number16-interval.ensures c.octet_at-channel.ensures)
-
-past-settings : (c : Else-is_bad_start)
-    → let os = c.args.memory.now in
-    no_record os ≡ (power_broken os || (switched os || counted os))
-past-settings c = past-version_at_1 c ∙ or_go _ (settings_at_1 c ∙ c.if-is_bad_start.false)
-
-past-settings_at_1 : (c : Else-is_power_broken)
-    → let os = c.args.memory.now in
-    no_record os ≡ (power_broken os || (switched os || counted os))
-past-settings_at_1 c = past-version_at_2 c ∙ or_go _ (settings_at_2 c ∙ c.if-is_bad_start.false)
-
-past-power : (c : Else-is_power_broken)
-    → let os = c.args.memory.now in
-    no_record os ≡ (switched os || counted os)
-past-power c = past-settings_at_1 c ∙ or_go _ (sym c.is_power_broken.ensures ∙ c.if-is_power_broken.false)
 
 -- the test of the switch is that of what was read
 switch : (c : After-is_switch_broken)
@@ -118,20 +69,38 @@ returns-then-memory-lt-SIZE c = sym (or_stop _ _ (lt-ltb _ _ c.if-memory-lt-SIZE
 
 pub returns-then-octet_at-ne-VERSION : goal.returns-then-octet_at-ne-VERSION
 returns-then-octet_at-ne-VERSION c =
-    sym (past-size (goal.at.returns-then-octet_at-ne-VERSION c).Else-memory-lt-SIZE ∙ or_stop _ _ (ap not (ap (λ (o : ℕ). eqb o 1) (sym c.octet_at.ensures) ∙ ne_eqb _ _ c.if-octet_at-ne-VERSION.true)))
+    sym
+    (past-size c.args.memory.now (le-ltb _ _ c.if-memory-lt-SIZE.false)
+    ∙ or_stop _ _ (ap not (ap (λ (o : ℕ). eqb o 1) (sym c.octet_at.ensures) ∙ ne_eqb _ _ c.if-octet_at-ne-VERSION.true)))
 
 pub returns-then-is_bad_start : goal.returns-then-is_bad_start
-returns-then-is_bad_start c = sym (past-version (goal.at.returns-then-is_bad_start c).Else-octet_at-ne-VERSION ∙ or_stop _ _ (settings (goal.at.returns-then-is_bad_start c).After-is_bad_start ∙ c.if-is_bad_start.true))
+returns-then-is_bad_start c =
+    let at = goal.at.returns-then-is_bad_start c in
+    sym
+    (past-version c.args.memory.now (le-ltb _ _ c.if-memory-lt-SIZE.false) (known-version at.Else-octet_at-ne-VERSION)
+    ∙ or_stop _ _ (settings at.After-is_bad_start ∙ c.if-is_bad_start.true))
 
 pub returns-then-is_power_broken : goal.returns-then-is_power_broken
-returns-then-is_power_broken c = sym (past-settings (goal.at.returns-then-is_power_broken c).Else-is_bad_start ∙ or_stop _ _ (sym c.is_power_broken.ensures ∙ c.if-is_power_broken.true))
+returns-then-is_power_broken c =
+    let at = goal.at.returns-then-is_power_broken c in
+    sym
+    (past-settings c.args.memory.now (le-ltb _ _ c.if-memory-lt-SIZE.false) (known-version at.Else-octet_at-ne-VERSION)
+    (settings at.After-is_bad_start ∙ c.if-is_bad_start.false)
+    ∙ or_stop _ _ (sym c.is_power_broken.ensures ∙ c.if-is_power_broken.true))
 
 pub returns-then-is_switch_broken : goal.returns-then-is_switch_broken
-returns-then-is_switch_broken c = sym (past-power (goal.at.returns-then-is_switch_broken c).Else-is_power_broken ∙ or_stop _ _ (switch (goal.at.returns-then-is_switch_broken c).After-is_switch_broken ∙ c.if-is_switch_broken.true))
+returns-then-is_switch_broken c =
+    let at = goal.at.returns-then-is_switch_broken c in
+    sym
+    (past-power c.args.memory.now (le-ltb _ _ c.if-memory-lt-SIZE.false) (known-version at.Else-octet_at-ne-VERSION)
+    (settings at.After-is_bad_start ∙ c.if-is_bad_start.false) (sym c.is_power_broken.ensures ∙ c.if-is_power_broken.false)
+    ∙ or_stop _ _ (switch at.After-is_switch_broken ∙ c.if-is_switch_broken.true))
 
 pub returns : goal.returns
 returns c =
+    let at = goal.at.returns c in
     sym
-    (past-power (goal.at.returns c).Else-is_power_broken
-    ∙ or_go _ (switch (goal.at.returns c).After-is_switch_broken ∙ c.if-is_switch_broken.false)
+    (past-power c.args.memory.now (le-ltb _ _ c.if-memory-lt-SIZE.false) (known-version at.Else-octet_at-ne-VERSION)
+    (settings at.After-is_bad_start ∙ c.if-is_bad_start.false) (sym c.is_power_broken.ensures ∙ c.if-is_power_broken.false)
+    ∙ or_go _ (switch at.After-is_switch_broken ∙ c.if-is_switch_broken.false)
     ∙ ap (ltb quiet_limit) (sym c.octet_at-count.ensures))

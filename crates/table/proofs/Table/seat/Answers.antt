@@ -19,16 +19,9 @@ found : (c : After-seat_among-seat) → c.seat_among-seat.result
     (place_of is_free c.args.self.rows)
 found c = c.seat_among-seat.ensures ∙ ap₂ seat_among c.place_of.ensures c.free_place.ensures
 
--- the seat that is found_at_1, by the rows
-found_at_1 : (c : In-At) → c.seat_among-seat.result
-    ≡ seat_among
-    (place_of (is_of c.args.station.own) c.args.self.rows)
-    (place_of is_free c.args.self.rows)
-found_at_1 c = c.seat_among-seat.ensures ∙ ap₂ seat_among c.place_of.ensures c.free_place.ensures
-
 fits : (c : In-At) → c.in-At.place < row_count
 fits c =
-    seat_within c.args.self c.args.station c.requires _ (sym (found_at_1 c) ∙ c.in-At.is)
+    seat_within c.args.self c.args.station c.requires _ (sym (c.seat_among-seat.ensures ∙ ap₂ seat_among c.place_of.ensures c.free_place.ensures) ∙ c.in-At.is)
 
 pub offset_bounds-rows-place : goal.offset_bounds-rows-place
 offset_bounds-rows-place c = omega (arith, fits c)
