@@ -1,7 +1,7 @@
 -- How an action body begins (01, "Order": category present (1), category (5), action present (1), action (5), token present (1),
 -- token value (9)). Action 4 has no token; token 0 is forbidden in actions 0 and 2. The place of a fault is that field's (02, One).
-use Rattle.std.specs.Prelude.{Bool, not, ◌&&◌, ◌||◌, List, [], ◌∷◌, ℕ, ltb, eqb, length}
-use Rattle.answer.specs.Checks.{refused, accepted, pick, ◌⇒◌, checked, judged}
+use Rattle.std.specs.Prelude.{Bool, not, ◌&&◌, ◌||◌, List, [], ◌∷◌, ℕ, ltb, eqb, length, Ok, Err}
+use Rattle.answer.specs.Checks.{pick, ◌⇒◌, checked, judged}
 use Rattle.answer.specs.Faults.{fault_at, fault_nowhere, Placed}
 use Rattle.answer.specs.declared.Refusal.{Refusal}
 use Rattle.octets.specs.Numbers.{octet}
@@ -32,9 +32,9 @@ pub data Opens : Type 0 where
 
 -- the outcome that each case of the answer stands for
 abbrev pub opening_told : Opening → Placed Opens
-opening_told (Opening.Refused r) = refused r
-opening_told Opening.Switch = accepted switching
-opening_told (Opening.Token a t) = accepted (with a t)
+opening_told (Opening.Refused r) = Err r
+opening_told Opening.Switch = Ok switching
+opening_told (Opening.Token a t) = Ok (with a t)
 
 -- token 0 is forbidden in actions 0 and 2
 abbrev pub forbids_token : ℕ → ℕ → Bool
@@ -48,7 +48,7 @@ opens_with body =
     ∷ ltb (length body) switch_fixed_fields ⇒ fault_nowhere Refusal.TooShort
     ∷ ltb 4 (octet action_field body) ⇒ fault_at action_field Refusal.ForeignAction
     ∷ [])
-    (pick (eqb (octet action_field body) 4) (accepted switching)
+    (pick (eqb (octet action_field body) 4) (Ok switching)
     (judged
     (ltb (length body) fixed_fields ⇒ fault_nowhere Refusal.TooShort
     ∷ forbids_token (octet action_field body) (octet token_field body) ⇒ fault_at token_field Refusal.ForbiddenValue

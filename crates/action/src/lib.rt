@@ -5,6 +5,7 @@ ghost use Rattle.std.specs.Prelude.{◌≡◌};
 ghost use Rattle.action.specs.Openings.{forbids_token, opening_told, opens_with};
 
 use answer::{Fault, Refusal};
+use pending::Switch;
 
 // Where the fields stand in a body.
 pub const CATEGORY: usize = 0;

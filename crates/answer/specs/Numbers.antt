@@ -1,8 +1,8 @@
 -- The answer numbers (01, "Answer numbers"; 02, One, for 7, 21 and 22, Five, for 23, and Six, for 24 to 26).
-use Rattle.std.specs.Prelude.{ℕ}
-use Rattle.answer.specs.declared.Answer.{Answer}
+use Rattle.std.specs.Prelude.{ℕ, Ok, Err}
 use Rattle.answer.specs.declared.Refusal.{Refusal}
-use Rattle.answer.specs.declared.Verdict.{Verdict}
+use Rattle.answer.specs.Checks.{Answer}
+use Rattle.answer.specs.Faults.{Verdict}
 
 -- each refusal's number in the table
 abbrev pub number_of : Refusal → ℕ
@@ -35,9 +35,9 @@ number_of Refusal.NotJoined = 26
 
 -- 0 is accepted
 abbrev pub answer_number : Answer → ℕ
-answer_number Answer.Accepted = 0
-answer_number (Answer.Refused r) = number_of r
+answer_number (Ok tt) = 0
+answer_number (Err r) = number_of r
 
 abbrev pub verdict_number : Verdict → ℕ
-verdict_number Verdict.Accepted = 0
-verdict_number (Verdict.Refused x) = number_of x.refusal
+verdict_number (Ok tt) = 0
+verdict_number (Err x) = number_of x.refusal

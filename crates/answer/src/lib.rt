@@ -63,13 +63,6 @@ pub enum Refusal {
     NotJoined,
 }
 
-// What a call answers where its value stands beside it.
-#[derive(Clone, Copy)]
-pub enum Answer {
-    Accepted,
-    Refused(Refusal),
-}
-
 impl Refusal {
     // The refusal's number in the table.
     pub fn number(self) -> u8
@@ -106,30 +99,22 @@ impl Refusal {
     }
 }
 
-impl Answer {
-    // 0 for accepted, and else the refusal's number.
-    pub fn number(self) -> u8
-        ensures { result ≡ answer_number self }
-    {
-        match self {
-            Answer::Accepted => 0,
-            Answer::Refused(refusal) => refusal.number(),
-        }
+// The number of what a call answers: 0 for accepted, and else the refusal's.
+pub fn number(answer: Result<(), Refusal>) -> u8
+    ensures { result ≡ answer_number answer }
+{
+    match answer {
+        Ok(()) => 0,
+        Err(refusal) => refusal.number(),
     }
 }
 
-// Where a frame broke: so many octets stand before the one at fault.
-#[derive(Clone, Copy)]
-pub enum Offset {
-    Absent,
-    At(usize),
-}
-
-// Why a frame is refused, and where it broke. No octet is at fault where it is too short, too long or not for this station (1 to 4).
+// Why a frame is refused, and where it broke: so many octets stand before the one at fault. None is at fault where the frame is too short, too long or not
+// for this station (1 to 4).
 #[derive(Clone, Copy)]
 pub struct Fault {
     pub refusal: Refusal,
-    pub offset: Offset,
+    pub offset: Option<usize>,
 }
 
 impl Fault {
@@ -139,7 +124,7 @@ impl Fault {
     {
         Fault {
             refusal,
-            offset: Offset::At(offset),
+            offset: Some(offset),
         }
     }
 
@@ -149,39 +134,27 @@ impl Fault {
     {
         Fault {
             refusal,
-            offset: Offset::Absent,
+            offset: None,
         }
     }
 }
 
-// What a call that is handed a frame answers.
-#[derive(Clone, Copy)]
-pub enum Verdict {
-    Accepted,
-    Refused(Fault),
+// The number of what a call answers that is handed a frame: 0 for accepted, and else the refusal's.
+pub fn verdict_number(verdict: Result<(), Fault>) -> u8
+    ensures { result ≡ verdict_number verdict }
+{
+    match verdict {
+        Ok(()) => 0,
+        Err(fault) => fault.refusal.number(),
+    }
 }
 
-impl Verdict {
-    // 0 for accepted, and else the refusal's number.
-    pub fn number(self) -> u8
-        ensures { result ≡ verdict_number self }
-    {
-        match self {
-            Verdict::Accepted => 0,
-            Verdict::Refused(fault) => {
-                let refusal = fault.refusal;
-                refusal.number()
-            }
-        }
-    }
-
-    // Where the frame broke.
-    pub fn offset(self) -> Offset
-        ensures { result ≡ verdict_offset self }
-    {
-        match self {
-            Verdict::Accepted => Offset::Absent,
-            Verdict::Refused(fault) => fault.offset,
-        }
+// Where the frame broke.
+pub fn verdict_offset(verdict: Result<(), Fault>) -> Option<usize>
+    ensures { result ≡ verdict_offset verdict }
+{
+    match verdict {
+        Ok(()) => None,
+        Err(fault) => fault.offset,
     }
 }

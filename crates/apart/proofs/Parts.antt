@@ -1,4 +1,5 @@
 -- The parts of a station, and what a change of a part makes of the whole. Assumes nothing.
+use Rattle.std.specs.Prelude.{Some, None, Option}
 use mathlib.Core.Bool.{true, false}
 use mathlib.Core.List.{List}
 use mathlib.Core.Logic.{⊎_elim}
@@ -10,8 +11,6 @@ use lib.Seq.{take_at}
 use Rattle.answer.proofs.Booleans.{either}
 use Rattle.answer.specs.Checks.{pick}
 use Rattle.beacon.specs.Beacons.{quiet_limit}
-use Rattle.beacon.specs.declared.MaybePower.{MaybePower}
-use Rattle.beacon.specs.declared.MaybeSwitch.{MaybeSwitch}
 use Rattle.element.specs.declared.quiet.Quiet.{Quiet}
 use Rattle.frame.specs.Frames.{frame_means}
 use Rattle.frame.specs.Hearing.{hearing_of}
@@ -29,6 +28,8 @@ use Rattle.apart.specs.Apart.{apart_of, whole_of, HoldsSchedules}
 use Rattle.apart.specs.Columns.{Columns, schedules_in}
 use Rattle.apart.specs.declared.Apart.{Apart}
 use Rattle.apart.proofs.Rows.{rows_many}
+use Rattle.element.specs.declared.power_constraint.PowerConstraint.{PowerConstraint}
+use Rattle.element.specs.declared.channel_switch.ChannelSwitch.{ChannelSwitch}
 
 abbrev pub with_parts : Apart → Rest → ℕ → Apart
 with_parts a r n = record { own = a.own; ap = a.ap; rest = r; count = n }
@@ -82,14 +83,14 @@ module _ (a : Apart) (c : Columns) where
 
 -- ---- a Power Constraint and an announcement
 
-pub told_whole : (a : Apart) (c : Columns) (p : MaybePower) (m : MaybeSwitch)
+pub told_whole : (a : Apart) (c : Columns) (p : Option PowerConstraint) (m : Option ChannelSwitch)
     → whole_of (with_parts a (rest_announced (rest_constrained a.rest p) m) (pick (at_once m) 0 a.count)) c ≡ announced_if (constrained (whole_of a c) p) m
 unfolding whole_of announced schedules_in
-told_whole a c MaybePower.Absent MaybeSwitch.Absent = refl
-told_whole a c (MaybePower.Is p) MaybeSwitch.Absent = refl
-told_whole a c MaybePower.Absent (MaybeSwitch.Is w) =
+told_whole a c None None = refl
+told_whole a c (Some p) None = refl
+told_whole a c None (Some w) =
     ⊎_elim (λ (y : eqb w.count 0 ≡ true). rw y refl) (λ (n : eqb w.count 0 ≡ false). rw n refl) (either (eqb w.count 0))
-told_whole a c (MaybePower.Is p) (MaybeSwitch.Is w) =
+told_whole a c (Some p) (Some w) =
     ⊎_elim (λ (y : eqb w.count 0 ≡ true). rw y refl) (λ (n : eqb w.count 0 ≡ false). rw n refl) (either (eqb w.count 0))
 
 -- ---- parts that make a valid station

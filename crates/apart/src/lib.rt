@@ -14,10 +14,12 @@ ghost use Rattle.station.specs.Taking.{schedules_of, outlasting, rescheduled, co
 ghost use Rattle.apart.specs.Apart.{apart_of, whole_of, HoldsSchedules, Makes, Held, HeardAs};
 ghost use Rattle.apart.specs.Columns.{Columns, columns, Roomy, rows_over};
 
-use answer::Verdict;
-use beacon::{MaybePower, MaybeSwitch, QUIETS};
+use beacon::QUIETS;
 use element::quiet::Quiet;
 use station::{Rest, Station};
+use answer::Fault;
+use element::power_constraint::PowerConstraint;
+use element::channel_switch::ChannelSwitch;
 
 // What a station keeps beside its schedules, and how many of these are in use.
 #[derive(Clone, Copy)]
@@ -31,12 +33,12 @@ pub struct Apart {
 // The verdict on a frame, and the station after it.
 #[derive(Clone, Copy)]
 pub struct Told {
-    pub verdict: Verdict,
+    pub verdict: Result<(), Fault>,
     pub apart: Apart,
 }
 
 // How many schedules are in use after an announcement, if there is one: the switch itself leaves none.
-fn left_after(switch: MaybeSwitch, count: usize) -> usize
+fn left_after(switch: Option<ChannelSwitch>, count: usize) -> usize
     ensures { result ≡ pick (at_once switch) 0 count }
 {
     if station::is_at_once(switch) {
@@ -147,14 +149,14 @@ impl Apart {
     }
 
     // A Power Constraint and an announcement, each if there is one.
-    fn told(self, power: MaybePower, switch: MaybeSwitch) -> Apart
+    fn told(self, power: Option<PowerConstraint>, switch: Option<ChannelSwitch>) -> Apart
         ensures { (c : Columns) → whole_of result c ≡ announced_if (constrained (whole_of self c) power) switch }
     {
         let rest = self.rest;
         let kept = rest.constrained(power);
         match switch {
-            MaybeSwitch::Absent => Apart { rest: kept, ..self },
-            MaybeSwitch::Is(_) => Apart {
+            None => Apart { rest: kept, ..self },
+            Some(_) => Apart {
                 rest: kept.announced(switch),
                 count: left_after(switch, self.count),
                 ..self
@@ -179,11 +181,11 @@ impl Apart {
         let hearing = frame::hear(frame, own, ap, self.rest.interval);
         let verdict = hearing.verdict;
         match verdict {
-            Verdict::Refused(_) => Told {
+            Err(_) => Told {
                 verdict,
                 apart: self,
             },
-            Verdict::Accepted => {
+            Ok(()) => {
                 let change = hearing.change;
                 let power = change.power;
                 let switch = change.switch;

@@ -1,4 +1,5 @@
 -- An accepted body says nothing that is not allowed. Assumes nothing.
+use Rattle.std.specs.Prelude.{Ok}
 use mathlib.Core.Path.{◌≡◌, refl, sym, subst}
 use mathlib.Core.Bool.{false}
 use mathlib.Core.List.{List, [], ◌∷◌, ◌++◌}
@@ -7,7 +8,6 @@ use native.Mathlib.Omega.{arith}
 use borrow.Author.Tests.{leb-false}
 use lib.Dec.{leb, eqb}
 use lib.ListN.{length, drop}
-use Rattle.answer.specs.Checks.{accepted}
 use Rattle.answer.specs.Faults.{placed_at}
 use Rattle.answer.proofs.Placing.{placed_value}
 use Rattle.answer.proofs.Yielding.{Yields, of_refusal, of_value, either_way_lem, after_check, after_all, after_value}
@@ -27,12 +27,12 @@ use Rattle.beacon.specs.declared.elements.Element.{Element}
 use Rattle.beacon.proofs.Slots.{one_more}
 
 -- the announcement of accepted contents is none that is forbidden
-pub switch_allowed : (c : List ℕ) (w : ChannelSwitch) → switch_means c ≡ accepted w → switch_forbids w ≡ false
+pub switch_allowed : (c : List ℕ) (w : ChannelSwitch) → switch_means c ≡ Ok w → switch_forbids w ≡ false
 unfolding switch_means
 switch_allowed c w e = (opened 3 switch_in switch_forbids c w e).2
 
 module _ (b : ℕ) where
-  quiet_allowed : (c : List ℕ) (q : Quiet) → quiet_means b c ≡ accepted q → quiet_forbids b q ≡ false
+  quiet_allowed : (c : List ℕ) (q : Quiet) → quiet_means b c ≡ Ok q → quiet_forbids b q ≡ false
   unfolding quiet_means
   quiet_allowed c q e = (opened 6 quiet_in (quiet_forbids b) c q e).2
 

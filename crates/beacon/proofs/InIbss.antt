@@ -1,4 +1,5 @@
 -- Bodies with element 41 read, beside the same as 01 reads them. Assumes nothing.
+use Rattle.std.specs.Prelude.{Ok, Err, Result}
 use mathlib.Core.Bool.{Bool, true, false}
 use mathlib.Core.List.{List, [], ◌∷◌}
 use mathlib.Core.Logic.{inl, inr}
@@ -9,7 +10,7 @@ use lib.Dec.{eqb}
 use lib.ListN.{drop}
 use Rattle.answer.proofs.Judged.{never, followed, passed, stands, kept}
 use Rattle.answer.proofs.Placing.{placed_value}
-use Rattle.answer.specs.Checks.{Result, Outcome, refused, accepted, Check, pick, ◌⇒◌, checked, judged, and_then}
+use Rattle.answer.specs.Checks.{Outcome, Check, pick, ◌⇒◌, checked, judged, and_then}
 use Rattle.answer.specs.Faults.{Placed, placed_at}
 use Rattle.answer.specs.declared.Refusal.{Refusal}
 use Rattle.element.specs.IbssDfs.{Dfs, dfs_means}
@@ -19,20 +20,20 @@ use Rattle.beacon.specs.CodeTerms.Naming.{takes_where}
 use Rattle.beacon.specs.IbssBeacons.{MaybeDfs, absent, is, ToldInIbss, tells_in_ibss, takes_dfs, takes_too, takes_in_ibss, ibss_beacon_means, besides, told_where, NoDfs, OneDfs, DfsSound}
 
 -- what follows a value, and checks in front of both
-checked_then : {R A B : Type 0} (cs : List (Check R)) (o : Result R A) (f : A → Result R B) → checked cs (and_then o f) ≡ and_then (checked cs o) f
+checked_then : {R A B : Type 0} (cs : List (Check R)) (o : Result A R) (f : A → Result B R) → checked cs (and_then o f) ≡ and_then (checked cs o) f
 unfolding checked
 checked_then [] o f = refl
 checked_then (c ∷ cs) o f = by c.fails (checked_then cs o f)
   where
     by : (t : Bool) → checked cs (and_then o f) ≡ and_then (checked cs o) f
-        → pick t (refused c.gives) (checked cs (and_then o f)) ≡ and_then (pick t (refused c.gives) (checked cs o)) f
+        → pick t (Err c.gives) (checked cs (and_then o f)) ≡ and_then (pick t (Err c.gives) (checked cs o)) f
     by true e = refl
     by false e = e
 
 -- what follows the same value
-then_alike : {R A B : Type 0} (o : Result R A) (f g : A → Result R B) → ((a : A) → f a ≡ g a) → and_then o f ≡ and_then o g
-then_alike (refused r) f g same = refl
-then_alike (accepted a) f g same = same a
+then_alike : {R A B : Type 0} (o : Result A R) (f g : A → Result B R) → ((a : A) → f a ≡ g a) → and_then o f ≡ and_then o g
+then_alike (Err r) f g same = refl
+then_alike (Ok a) f g same = same a
 
 -- steps that add the same say the same
 says_alike : {A : Type 0} (step other : ℕ → List ℕ → A → Outcome A) → ((id : ℕ) (c : List ℕ) (t : A) → step id c t ≡ other id c t)
@@ -54,9 +55,9 @@ module _ (b : ℕ) where
       → and_then (placed_at n (takes_too b id c (tells_in_ibss t before))) f ≡ besides after (and_then (placed_at n (takes b id c t)) g)
   too_then n id c before after f g t on = by (takes b id c t)
     where
-      by : (o : Outcome Told) → and_then (placed_at n (and_then o (λ next. accepted (tells_in_ibss next before)))) f ≡ besides after (and_then (placed_at n o) g)
-      by (refused r) = refl
-      by (accepted next) = on next
+      by : (o : Outcome Told) → and_then (placed_at n (and_then o (λ next. Ok (tells_in_ibss next before)))) f ≡ besides after (and_then (placed_at n o) g)
+      by (Err r) = refl
+      by (Ok next) = on next
 
   too : (n : ℕ) (es : Elements) (t : Told) (d : MaybeDfs) → says (takes_too b) n es (tells_in_ibss t d) ≡ besides d (says (takes b) n es t)
   unfolding says
@@ -86,12 +87,12 @@ module _ (b : ℕ) where
     dfs_taken t e = simp (eq-eqb id 41 e)
 
     -- 01 skips element 41
-    dfs_skipped : (t : Told) → id ≡ 41 → takes b id c t ≡ accepted t
+    dfs_skipped : (t : Told) → id ≡ 41 → takes b id c t ≡ Ok t
     unfolding takes element_means
     dfs_skipped t e = rw e
 
   -- the first element 41 is taken with what it says
-  first_taken : (c : List ℕ) (t : Told) (d : Dfs) → dfs_means c ≡ accepted d → takes_dfs c (tells_in_ibss t absent) ≡ accepted (tells_in_ibss t (is d))
+  first_taken : (c : List ℕ) (t : Told) (d : Dfs) → dfs_means c ≡ Ok d → takes_dfs c (tells_in_ibss t absent) ≡ Ok (tells_in_ibss t (is d))
   unfolding checked
   first_taken c t d e = simp e
 
@@ -131,19 +132,19 @@ module _ (b : ℕ) where
 
   -- ---- an accepted body's elements 41 are sound, and what it says of them is what they come to
 
-  twice : (c : List ℕ) (t : Told) (d : Dfs) {next : ToldInIbss} → takes_dfs c (tells_in_ibss t (is d)) ≡ accepted next → ⊥
+  twice : (c : List ℕ) (t : Told) (d : Dfs) {next : ToldInIbss} → takes_dfs c (tells_in_ibss t (is d)) ≡ Ok next → ⊥
   unfolding checked
   twice c t d {next} = by (dfs_means c)
     where
-      by : (o : Outcome Dfs) → and_then o (λ x. judged (true ⇒ Refusal.Repeated ∷ []) (tells_in_ibss t (is x))) ≡ accepted next → ⊥
-      by (refused r) e = never e
-      by (accepted x) e = never e
+      by : (o : Outcome Dfs) → and_then o (λ x. judged (true ⇒ Refusal.Repeated ∷ []) (tells_in_ibss t (is x))) ≡ Ok next → ⊥
+      by (Err r) e = never e
+      by (Ok x) e = never e
 
-  too_next : (id : ℕ) (c : List ℕ) (t : Told) (d : MaybeDfs) {next : ToldInIbss} → takes_too b id c (tells_in_ibss t d) ≡ accepted next → (u : Told) × (next ≡ tells_in_ibss u d)
+  too_next : (id : ℕ) (c : List ℕ) (t : Told) (d : MaybeDfs) {next : ToldInIbss} → takes_too b id c (tells_in_ibss t d) ≡ Ok next → (u : Told) × (next ≡ tells_in_ibss u d)
   too_next id c t d {next} e = let p = followed (takes b id c t) _ next e in (p.0, cc)
 
   -- after one there is no other
-  no_second : (n : ℕ) (es : Elements) (t : Told) (d : Dfs) (x : ToldInIbss) → says (takes_in_ibss b) n es (tells_in_ibss t (is d)) ≡ accepted x → NoDfs es × (is d ≡ x.dfs)
+  no_second : (n : ℕ) (es : Elements) (t : Told) (d : Dfs) (x : ToldInIbss) → says (takes_in_ibss b) n es (tells_in_ibss t (is d)) ≡ Ok x → NoDfs es × (is d ≡ x.dfs)
   unfolding says NoDfs
   no_second n end t d x e = (tt, cc)
   no_second n (cut_header o) t d x e = absurd (never e)
@@ -152,9 +153,9 @@ module _ (b : ℕ) where
       let p = followed (placed_at n (takes_in_ibss b id c (tells_in_ibss t (is d)))) (says (takes_in_ibss b) (past_element n c) es) x e in
       by (eqb id 41) refl p.0 (placed_value n (takes_in_ibss b id c (tells_in_ibss t (is d))) p.1) p.2 (λ u. no_second (past_element n c) es u d x)
     where
-      by : (k : Bool) → eqb id 41 ≡ k → (next : ToldInIbss) → takes_in_ibss b id c (tells_in_ibss t (is d)) ≡ accepted next
-          → says (takes_in_ibss b) (past_element n c) es next ≡ accepted x
-          → ((u : Told) → says (takes_in_ibss b) (past_element n c) es (tells_in_ibss u (is d)) ≡ accepted x → NoDfs es × (is d ≡ x.dfs))
+      by : (k : Bool) → eqb id 41 ≡ k → (next : ToldInIbss) → takes_in_ibss b id c (tells_in_ibss t (is d)) ≡ Ok next
+          → says (takes_in_ibss b) (past_element n c) es next ≡ Ok x
+          → ((u : Told) → says (takes_in_ibss b) (past_element n c) es (tells_in_ibss u (is d)) ≡ Ok x → NoDfs es × (is d ≡ x.dfs))
           → ((id ≡ 41 → ⊥) × NoDfs es) × (is d ≡ x.dfs)
       by true k next f g on = absurd (twice c t d (sym (dfs_taken id c (tells_in_ibss t (is d)) (eqb-true id 41 k)) ∙ f))
       by false k next f g on =
@@ -162,7 +163,7 @@ module _ (b : ℕ) where
           let r = on q.0 (ap (says (takes_in_ibss b) (past_element n c) es) (sym q.1) ∙ g) in
           ((eqb-false id 41 k, r.0), r.1)
 
-  first_next : (c : List ℕ) (t : Told) {next : ToldInIbss} → takes_dfs c (tells_in_ibss t absent) ≡ accepted next → (d : Dfs) × (dfs_means c ≡ accepted d) × (tells_in_ibss t (is d) ≡ next)
+  first_next : (c : List ℕ) (t : Told) {next : ToldInIbss} → takes_dfs c (tells_in_ibss t absent) ≡ Ok next → (d : Dfs) × (dfs_means c ≡ Ok d) × (tells_in_ibss t (is d) ≡ next)
   first_next c t {next} e = let p = followed (dfs_means c) _ next e in (p.0, p.1, kept _ (passed _ _ _ p.2).1)
 
   sound_more : (id : ℕ) (c : List ℕ) (es : Elements) (m : MaybeDfs) → (id ≡ 41 → ⊥) → DfsSound m es → DfsSound m (more id c es)
@@ -170,11 +171,11 @@ module _ (b : ℕ) where
   sound_more id c es absent h s = (h, s)
   sound_more id c es (is d) h s = inr (h, s)
 
-  sound_first : (id : ℕ) (c : List ℕ) (es : Elements) (d : Dfs) → id ≡ 41 → dfs_means c ≡ accepted d → NoDfs es → DfsSound (is d) (more id c es)
+  sound_first : (id : ℕ) (c : List ℕ) (es : Elements) (d : Dfs) → id ≡ 41 → dfs_means c ≡ Ok d → NoDfs es → DfsSound (is d) (more id c es)
   unfolding OneDfs
   sound_first id c es d h e s = inl (h, e, s)
 
-  was_sound : (n : ℕ) (es : Elements) (t : Told) (x : ToldInIbss) → says (takes_in_ibss b) n es (tells_in_ibss t absent) ≡ accepted x → DfsSound x.dfs es
+  was_sound : (n : ℕ) (es : Elements) (t : Told) (x : ToldInIbss) → says (takes_in_ibss b) n es (tells_in_ibss t absent) ≡ Ok x → DfsSound x.dfs es
   unfolding says NoDfs
   was_sound n end t x e = subst (λ (m : MaybeDfs). DfsSound m end) (let same : absent ≡ x.dfs = cc in same) tt
   was_sound n (cut_header o) t x e = absurd (never e)
@@ -183,9 +184,9 @@ module _ (b : ℕ) where
       let p = followed (placed_at n (takes_in_ibss b id c (tells_in_ibss t absent))) (says (takes_in_ibss b) (past_element n c) es) x e in
       by (eqb id 41) refl p.0 (placed_value n (takes_in_ibss b id c (tells_in_ibss t absent)) p.1) p.2 (λ u. was_sound (past_element n c) es u x)
     where
-      by : (k : Bool) → eqb id 41 ≡ k → (next : ToldInIbss) → takes_in_ibss b id c (tells_in_ibss t absent) ≡ accepted next
-          → says (takes_in_ibss b) (past_element n c) es next ≡ accepted x
-          → ((u : Told) → says (takes_in_ibss b) (past_element n c) es (tells_in_ibss u absent) ≡ accepted x → DfsSound x.dfs es)
+      by : (k : Bool) → eqb id 41 ≡ k → (next : ToldInIbss) → takes_in_ibss b id c (tells_in_ibss t absent) ≡ Ok next
+          → says (takes_in_ibss b) (past_element n c) es next ≡ Ok x
+          → ((u : Told) → says (takes_in_ibss b) (past_element n c) es (tells_in_ibss u absent) ≡ Ok x → DfsSound x.dfs es)
           → DfsSound x.dfs (more id c es)
       by true k next f g on =
           let q = first_next c t (sym (dfs_taken id c (tells_in_ibss t absent) (eqb-true id 41 k)) ∙ f) in
@@ -195,14 +196,14 @@ module _ (b : ℕ) where
           let q = too_next id c t absent (sym (other_taken id c (tells_in_ibss t absent) (eqb-false id 41 k)) ∙ f) in
           sound_more id c es x.dfs (eqb-false id 41 k) (on q.0 (ap (says (takes_in_ibss b) (past_element n c) es) (sym q.1) ∙ g))
 
-  pub accepted_sound : (body : List ℕ) (x : ToldInIbss) → ibss_beacon_means b body ≡ accepted x → DfsSound x.dfs (elements_in (drop fixed_length body))
+  pub accepted_sound : (body : List ℕ) (x : ToldInIbss) → ibss_beacon_means b body ≡ Ok x → DfsSound x.dfs (elements_in (drop fixed_length body))
   unfolding ibss_beacon_means
   accepted_sound body x e = was_sound fixed_length (elements_in (drop fixed_length body)) (opening body) x (stands _ (passed _ _ _ (passed _ _ _ e).1).1)
 
   -- and 01 accepts it as what it says beside them
-  pub accepted_in_01 : (body : List ℕ) (x : ToldInIbss) → ibss_beacon_means b body ≡ accepted x → beacon_means b body ≡ accepted x.told
+  pub accepted_in_01 : (body : List ℕ) (x : ToldInIbss) → ibss_beacon_means b body ≡ Ok x → beacon_means b body ≡ Ok x.told
   accepted_in_01 body x e = by (beacon_means b body) (sym (sound_read body x.dfs (accepted_sound body x e)) ∙ e)
     where
-      by : (o : Placed Told) → besides x.dfs o ≡ accepted x → o ≡ accepted x.told
-      by (refused r) f = absurd (never f)
-      by (accepted t) f = ap accepted (let same : t ≡ x.told = cc in same)
+      by : (o : Placed Told) → besides x.dfs o ≡ Ok x → o ≡ Ok x.told
+      by (Err r) f = absurd (never f)
+      by (Ok t) f = ap Ok (let same : t ≡ x.told = cc in same)

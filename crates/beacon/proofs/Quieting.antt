@@ -1,4 +1,5 @@
 -- Laws of a Quiet element that is looked for at a place: where it stands, where none does, and what it adds. Assumes nothing.
+use Rattle.std.specs.Prelude.{Ok, Err}
 use mathlib.Core.Path.{◌≡◌, refl, sym, ap, ◌∙◌}
 use mathlib.Core.Bool.{Bool, true, false}
 use mathlib.Core.List.{List, [], ◌∷◌, ◌++◌}
@@ -8,7 +9,7 @@ use borrow.Author.Tests.{eqb-true, lt-leb}
 use lib.Dec.{eqb}
 use lib.ListN.{length, take, drop, length-drop}
 use lib.Seq.{length-take-le}
-use Rattle.answer.specs.Checks.{Outcome, refused, accepted, pick, and_then}
+use Rattle.answer.specs.Checks.{Outcome, pick, and_then}
 use Rattle.answer.specs.declared.Refusal.{Refusal}
 use Rattle.answer.proofs.Judged.{never, past, done}
 use Rattle.answer.proofs.Yielding.{Yields, of_value, either_way_lem, after_value}
@@ -34,7 +35,7 @@ use Rattle.beacon.proofs.Saying.{is_quiet}
 -- ---- at a place
 
 -- accepted contents have one length
-quiet_size : (b : ℕ) (c : List ℕ) (q : Quiet) → quiet_means b c ≡ accepted q → length c ≡ 6
+quiet_size : (b : ℕ) (c : List ℕ) (q : Quiet) → quiet_means b c ≡ Ok q → length c ≡ 6
 unfolding quiet_means
 quiet_size b c q e = (opened 6 quiet_in (quiet_forbids b) c q e).0
 
@@ -49,7 +50,7 @@ module _ (run : List ℕ) (at b : ℕ) where
     header : number 2 at run ≡ 1576
     same : six_past ≡ c
 
-  seen : (c : List ℕ) (es : Elements) (q : Quiet) → elements_in (drop at run) ≡ more 40 c es → quiet_means b c ≡ accepted q → Seen c
+  seen : (c : List ℕ) (es : Elements) (q : Quiet) → elements_in (drop at run) ≡ more 40 c es → quiet_means b c ≡ Ok q → Seen c
   seen c es q e m =
       let size = quiet_size b c q m in
       let s = split (drop at run) 40 c es e in
@@ -66,18 +67,18 @@ module _ (run : List ℕ) (at b : ℕ) where
       }
 
   -- so none is taken where the run is too short, the header is another, or the contents are refused
-  module _ {A : Type 0} (c : List ℕ) (es : Elements) (q : Quiet) (e : elements_in (drop at run) ≡ more 40 c es) (m : quiet_means b c ≡ accepted q) where
+  module _ {A : Type 0} (c : List ℕ) (es : Elements) (q : Quiet) (e : elements_in (drop at run) ≡ more 40 c es) (m : quiet_means b c ≡ Ok q) where
     pub too_short : length run - at < 8 → A
     too_short h = absurd (omega (arith, (seen c es q e m).long))
 
     pub other_header : (n : ℕ) → n ≡ number 2 at run → (n ≡ 1576 → ⊥) → A
     other_header n r h = absurd (h (r ∙ (seen c es q e m).header))
 
-    pub bad_contents : (r : Refusal) → refused r ≡ quiet_means b six_past → A
+    pub bad_contents : (r : Refusal) → Err r ≡ quiet_means b six_past → A
     bad_contents r f = absurd (never (f ∙ ap (quiet_means b) (seen c es q e m).same ∙ m))
 
   -- and one is where none of these holds: the header's number has one split into octets
-  pub stands : Octets run → (n : ℕ) → n ≡ number 2 at run → n ≡ 1576 → 8 ≤ length run - at → (q : Quiet) → accepted q ≡ quiet_means b six_past → QuietHere run at b q
+  pub stands : Octets run → (n : ℕ) → n ≡ number 2 at run → n ≡ 1576 → 8 ≤ length run - at → (q : Quiet) → Ok q ≡ quiet_means b six_past → QuietHere run at b q
   stands o n r f h q m =
       let id : octet at run ≡ 40 = omega (arith, o at, o (at + 1), r, f) in
       let size : 6 ≡ octet (at + 1) run = omega (arith, o at, o (at + 1), r, f) in
@@ -102,13 +103,13 @@ not_dfs false = refl
 
 module _ (b : ℕ) (c : List ℕ) where
   -- where there is a slot it is said after those before it
-  pub quiet_taken : (n : Notice) (qs : List Quiet) (q : Quiet) → quiet_means b c ≡ accepted q → length qs < quiet_limit
-      → accepted (tells n (qs ++ (q ∷ []))) ≡ takes b 40 c (tells n qs)
+  pub quiet_taken : (n : Notice) (qs : List Quiet) (q : Quiet) → quiet_means b c ≡ Ok q → length qs < quiet_limit
+      → Ok (tells n (qs ++ (q ∷ []))) ≡ takes b 40 c (tells n qs)
   unfolding takes
   quiet_taken n qs q m room =
       past _ _ _ (lt-leb quiet_limit (length qs) room) (done _)
       ∙ ap (λ (o : Outcome Element). and_then o (adds (tells n qs)))
-      (sym (ap (λ (o : Outcome Quiet). and_then o (λ x. accepted (Element.Quiet x))) m) ∙ is_quiet b 40 c refl)
+      (sym (ap (λ (o : Outcome Quiet). and_then o (λ x. Ok (Element.Quiet x))) m) ∙ is_quiet b 40 c refl)
 
   -- ---- none finds a slot
 

@@ -1,10 +1,11 @@
 -- Laws of what a body says: an element by its ID, and the elements after the fixed fields. Assumes nothing.
+use Rattle.std.specs.Prelude.{Ok, Err}
 use mathlib.Core.Path.{◌≡◌, sym, ap, ◌∙◌}
 use mathlib.Core.List.{List}
 use Prim.Native.Nat.{ℕ, ◌≤◌, ◌<◌}
 use borrow.Author.Tests.{eq-eqb, ne_eqb, lt-ltb, le-ltb}
 use lib.ListN.{length, drop}
-use Rattle.answer.specs.Checks.{Outcome, refused, accepted, and_then}
+use Rattle.answer.specs.Checks.{Outcome, and_then}
 use Rattle.answer.specs.Faults.{fault_at, fault_nowhere, placed_at}
 use Rattle.answer.specs.declared.Refusal.{Refusal}
 use Rattle.answer.proofs.Judged.{past, stop, through}
@@ -25,23 +26,23 @@ pub arm : {R A B : Type 0} (told : R → Outcome A) (f : A → Outcome B) {means
 arm {A = A} told f h means is = ap (λ (o : Outcome A). and_then o f) (ap told (sym is) ∙ means) ∙ h
 
 module _ (b id : ℕ) (c : List ℕ) where
-  pub is_power : id ≡ 32 → and_then (power_means c) (λ p. accepted (Element.Power p)) ≡ element_means b id c
+  pub is_power : id ≡ 32 → and_then (power_means c) (λ p. Ok (Element.Power p)) ≡ element_means b id c
   unfolding element_means
   is_power e = rw e
 
-  pub is_report : id ≡ 35 → and_then (tpc_report_means c) (λ t. accepted (Element.Report (without_margin t))) ≡ element_means b id c
+  pub is_report : id ≡ 35 → and_then (tpc_report_means c) (λ t. Ok (Element.Report (without_margin t))) ≡ element_means b id c
   unfolding element_means
   is_report e = rw e
 
-  pub is_switch : id ≡ 37 → and_then (switch_means c) (λ s. accepted (Element.Switch s)) ≡ element_means b id c
+  pub is_switch : id ≡ 37 → and_then (switch_means c) (λ s. Ok (Element.Switch s)) ≡ element_means b id c
   unfolding element_means
   is_switch e = rw e
 
-  pub is_quiet : id ≡ 40 → and_then (quiet_means b c) (λ q. accepted (Element.Quiet q)) ≡ element_means b id c
+  pub is_quiet : id ≡ 40 → and_then (quiet_means b c) (λ q. Ok (Element.Quiet q)) ≡ element_means b id c
   unfolding element_means
   is_quiet e = rw e
 
-  pub is_other : (id ≡ 32 → ⊥) → (id ≡ 35 → ⊥) → (id ≡ 37 → ⊥) → (id ≡ 40 → ⊥) → accepted Element.Other ≡ element_means b id c
+  pub is_other : (id ≡ 32 → ⊥) → (id ≡ 35 → ⊥) → (id ≡ 37 → ⊥) → (id ≡ 40 → ⊥) → Ok Element.Other ≡ element_means b id c
   unfolding element_means
   is_other p r s q = simp (ne_eqb id 32 p, ne_eqb id 35 r, ne_eqb id 37 s, ne_eqb id 40 q)
 
@@ -57,12 +58,12 @@ module _ {A : Type 0} (step : ℕ → List ℕ → A → Outcome A) where
   -- ---- a body
 
   module _ (before : A) (b : ℕ) (body : List ℕ) where
-    pub short_body : length body < fixed_length → refused (fault_nowhere Refusal.TooShort) ≡ body_means step before b body
+    pub short_body : length body < fixed_length → Err (fault_nowhere Refusal.TooShort) ≡ body_means step before b body
     short_body h = stop _ _ _ (lt-ltb _ _ h)
 
     -- `n` is the interval as it was read
     module _ (n : ℕ) (h : fixed_length ≤ length body) (r : n ≡ number 2 interval_field body) where
-      pub other_interval : (n ≡ b → ⊥) → refused (fault_at interval_field Refusal.OtherInterval) ≡ body_means step before b body
+      pub other_interval : (n ≡ b → ⊥) → Err (fault_at interval_field Refusal.OtherInterval) ≡ body_means step before b body
       other_interval d = past _ _ _ (le-ltb _ _ h) (stop _ _ _ (rw (ne_eqb (number 2 interval_field body) b (λ e. d (r ∙ e)))))
 
       pub body_says : n ≡ b → {t : A} → t ≡ before → says step fixed_length (elements_in (drop fixed_length body)) t ≡ body_means step before b body

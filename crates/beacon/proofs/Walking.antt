@@ -1,15 +1,14 @@
 -- The walk over a body's elements: what was said up to a place, and its ways on. Assumes nothing.
+use Rattle.std.specs.Prelude.{Ok, Err, Some, None}
 use mathlib.Core.Path.{◌≡◌, refl, sym, ap, ◌∙◌}
 use mathlib.Core.Bool.{Bool, true, false}
 use mathlib.Core.List.{List}
 use Prim.Native.Nat.{ℕ, ◌+◌, ◌<◌}
 use native.Mathlib.Omega.{arith}
 use lib.ListN.{length, drop, set}
-use Rattle.answer.specs.Checks.{Outcome, refused, accepted, and_then}
+use Rattle.answer.specs.Checks.{Outcome, and_then}
 use Rattle.answer.specs.Faults.{fault_at, Placed}
-use Rattle.answer.specs.declared.Answer.{Answer}
 use Rattle.answer.specs.declared.Refusal.{Refusal}
-use Rattle.answer.specs.declared.Verdict.{Verdict}
 use Rattle.element.specs.IbssDfs.{Dfs}
 use Rattle.element.specs.declared.quiet.Quiet.{Quiet}
 use Rattle.walk.specs.Elements.{Elements, end, cut_header, cut_contents, more, elements_in, past_element}
@@ -23,9 +22,7 @@ use Rattle.beacon.specs.Laid.{no_quiet, slots, dfs_heard, laid}
 use Rattle.beacon.specs.declared.Heard.{Heard}
 use Rattle.beacon.specs.declared.HeardDfs.{HeardDfs}
 use Rattle.beacon.specs.declared.Notice.{Notice}
-use Rattle.beacon.specs.declared.adding.Added.{Added}
 use Rattle.beacon.specs.declared.naming.Naming.{Naming}
-use Rattle.beacon.specs.declared.quiets.MaybeQuiet.{MaybeQuiet}
 use Rattle.beacon.proofs.Allowing.{allowed_takes}
 use Rattle.beacon.proofs.NamedDfs.{named_with, naming_refused, naming_accepted}
 use Rattle.beacon.proofs.Quieting.{not_dfs, quiet_taken}
@@ -34,7 +31,7 @@ use Rattle.beacon.proofs.Slots.{one_more, next_slot}
 
 -- what is handed out for an accepted body
 abbrev pub heard_in : Notice → List Quiet → ℕ → HeardDfs → Heard
-heard_in notice slots count dfs = record { verdict = Verdict.Accepted; notice = notice; quiets = slots; count = count; dfs = dfs }
+heard_in notice slots count dfs = record { verdict = Ok tt; notice = notice; quiets = slots; count = count; dfs = dfs }
 
 module _ (ibss : Bool) (b index : ℕ) (body : List ℕ) where
   -- what was said before a place, all of it allowed; what the elements from there on add to it is what the body says
@@ -61,21 +58,21 @@ module _ (ibss : Bool) (b index : ℕ) (body : List ℕ) where
     unfolding says
     at_end e = rw (w.kept_quiets, w.kept_count, w.kept_dfs) (ap (laid index) (from_here e refl))
 
-    pub at_cut_header : (o : ℕ) → elements_in (drop at body) ≡ cut_header o → refused (fault_at at Refusal.ElementCut) ≡ told_where ibss b body
+    pub at_cut_header : (o : ℕ) → elements_in (drop at body) ≡ cut_header o → Err (fault_at at Refusal.ElementCut) ≡ told_where ibss b body
     unfolding says
     at_cut_header o e = from_here e refl
 
-    pub at_cut_contents : (id : ℕ) → elements_in (drop at body) ≡ cut_contents id → refused (fault_at at Refusal.ElementCut) ≡ told_where ibss b body
+    pub at_cut_contents : (id : ℕ) → elements_in (drop at body) ≡ cut_contents id → Err (fault_at at Refusal.ElementCut) ≡ told_where ibss b body
     unfolding says
     at_cut_contents id e = from_here e refl
 
     -- ---- a whole element, by what it comes to
 
     module _ (id : ℕ) (c : List ℕ) (stop : ℕ) (e : elements_in (drop at body) ≡ more id c (elements_in (drop stop body))) (p : past_element at c ≡ stop) where
-      stops : (r : Refusal) → takes_where ibss b id c before ≡ refused r → refused (fault_at at r) ≡ told_where ibss b body
+      stops : (r : Refusal) → takes_where ibss b id c before ≡ Err r → Err (fault_at at r) ≡ told_where ibss b body
       stops r t = from_here e (says_more (takes_where ibss b) at id c (elements_in (drop stop body)) before t)
 
-      goes_on : (n : Notice) (qs : List Quiet) (d : MaybeDfs) → takes_where ibss b id c before ≡ accepted (tells_in_ibss (tells n qs) d) → Allowed b (tells n qs)
+      goes_on : (n : Notice) (qs : List Quiet) (d : MaybeDfs) → takes_where ibss b id c before ≡ Ok (tells_in_ibss (tells n qs) d) → Allowed b (tells n qs)
           → {slots' : List Quiet} {count' : ℕ} {dfs' : HeardDfs} → slots' ≡ slots qs → count' ≡ length qs → dfs' ≡ dfs_heard index d → Walked stop n slots' count' dfs'
       goes_on n qs d t a eq en ed =
           record {
@@ -96,45 +93,45 @@ module _ (ibss : Bool) (b index : ℕ) (body : List ℕ) where
         first : v ≡ naming_laid index (first_dfs (has_dfs w.named) c)
         first = l ∙ ap (λ (d : HeardDfs). naming_laid index (first_dfs d.names c)) w.kept_dfs
 
-        named_as : {o : Outcome Dfs} → first_dfs (has_dfs w.named) c ≡ o → takes_where ibss b id c before ≡ and_then o (λ d. accepted (tells_in_ibss told (is d)))
+        named_as : {o : Outcome Dfs} → first_dfs (has_dfs w.named) c ≡ o → takes_where ibss b id c before ≡ and_then o (λ d. Ok (tells_in_ibss told (is d)))
         unfolding takes_where
-        named_as f = rw reads (named_with c told w.named) ∙ ap (λ (o : Outcome Dfs). and_then o (λ d. accepted (tells_in_ibss told (is d)))) f
+        named_as f = rw reads (named_with c told w.named) ∙ ap (λ (o : Outcome Dfs). and_then o (λ d. Ok (tells_in_ibss told (is d)))) f
 
-        pub at_bad_dfs : (r : Refusal) → v.answer ≡ Answer.Refused r → refused (fault_at at r) ≡ told_where ibss b body
+        pub at_bad_dfs : (r : Refusal) → v.answer ≡ Err r → Err (fault_at at r) ≡ told_where ibss b body
         at_bad_dfs r a = stops r (named_as (naming_refused index _ v first r a))
 
-        pub at_dfs : v.answer ≡ Answer.Accepted → Walked stop notice filled count v.dfs
+        pub at_dfs : v.answer ≡ Ok tt → Walked stop notice filled count v.dfs
         at_dfs a =
             let q = naming_accepted index _ v first a in
             goes_on notice w.quiets (is q.0) (named_as q.1) w.allowed w.kept_quiets w.kept_count q.2
 
       -- ---- any other, by what was added
 
-      abbrev pub Comes : Added → Type 0
+      abbrev pub Comes : Outcome Notice → Type 0
       Comes added = added_told w.quiets added ≡ takes b id c told
 
       -- where no Quiet element was found that finds a slot, this is none either
-      pub no_slot : QuietAt body at count b MaybeQuiet.Absent → SlotlessIn w.quiets b id c
+      pub no_slot : QuietAt body at count b None → SlotlessIn w.quiets b id c
       no_slot none q i m = rw (← w.kept_count) (none c (elements_in (drop stop body)) q (e ∙ ap (λ (k : ℕ). more k c (elements_in (drop stop body))) i) m)
 
       module _ (skips : reads_dfs ibss id ≡ false) where
-        taken_as_lem : {o : Outcome Told} → o ≡ takes b id c told → takes_where ibss b id c before ≡ and_then o (λ next. accepted (tells_in_ibss next w.named))
+        taken_as_lem : {o : Outcome Told} → o ≡ takes b id c told → takes_where ibss b id c before ≡ and_then o (λ next. Ok (tells_in_ibss next w.named))
         unfolding takes_where
-        taken_as_lem t = rw skips (ap (λ (o : Outcome Told). and_then o (λ next. accepted (tells_in_ibss next w.named))) (sym t))
+        taken_as_lem t = rw skips (ap (λ (o : Outcome Told). and_then o (λ next. Ok (tells_in_ibss next w.named))) (sym t))
 
-        pub at_refused : (r : Refusal) → Comes (Added.Refused r) → refused (fault_at at r) ≡ told_where ibss b body
+        pub at_refused : (r : Refusal) → Comes (Err r) → Err (fault_at at r) ≡ told_where ibss b body
         at_refused r t = stops r (taken_as_lem t)
 
-        keeps_dfs : (n : Notice) (qs : List Quiet) → accepted (tells n qs) ≡ takes b id c told → {slots' : List Quiet} {count' : ℕ}
+        keeps_dfs : (n : Notice) (qs : List Quiet) → Ok (tells n qs) ≡ takes b id c told → {slots' : List Quiet} {count' : ℕ}
             → slots' ≡ slots qs → count' ≡ length qs → Walked stop n slots' count' dfs
         keeps_dfs n qs t eq en = goes_on n qs w.named (taken_as_lem t) (allowed_takes b id c told w.allowed (tells n qs) (sym t)) eq en w.kept_dfs
 
-        pub at_notice : (n : Notice) → Comes (Added.Notice n) → Walked stop n filled count dfs
+        pub at_notice : (n : Notice) → Comes (Ok n) → Walked stop n filled count dfs
         at_notice n t = keeps_dfs n w.quiets t w.kept_quiets w.kept_count
 
     -- ---- a Quiet element that finds a slot
 
-    module _ (q : Quiet) (h : QuietAt body at count b (MaybeQuiet.Is q)) where
+    module _ (q : Quiet) (h : QuietAt body at count b (Some q)) where
       free : length w.quiets < quiet_limit
       free = omega (arith, h.1, w.kept_count)
 

@@ -1,11 +1,12 @@
 -- What the definitions say of single bodies. Assumes nothing.
+use Rattle.std.specs.Prelude.{Ok, Err}
 use mathlib.Core.Path.{◌≡◌, refl, ap}
 use mathlib.Core.Bool.{false}
 use mathlib.Core.List.{List, [], ◌∷◌, ◌++◌}
 use Prim.Native.Nat.{ℕ, zero, suc}
 use native.Mathlib.Omega.{arith}
 use lib.ListN.{replicate}
-use Rattle.answer.specs.Checks.{refused, accepted, checked}
+use Rattle.answer.specs.Checks.{checked}
 use Rattle.answer.specs.Faults.{fault_at, fault_nowhere, Placed}
 use Rattle.answer.specs.declared.Refusal.{Refusal}
 use Rattle.octets.specs.Elements.{fixed}
@@ -39,22 +40,22 @@ octets_of [] = []
 octets_of (q ∷ qs) = quiet_octets q ++ octets_of qs
 
 -- 12 octets and no element: accepted, and nothing is said
-pub bare : beacon_means 100 (body 1 []) ≡ accepted (quietly [])
+pub bare : beacon_means 100 (body 1 []) ≡ Ok (quietly [])
 unfolding beacon_means checked says elements_in elements_after
 bare = refl
 
 -- 11 octets: too short
-pub short : beacon_means 100 (replicate 11 0) ≡ refused (fault_nowhere Refusal.TooShort)
+pub short : beacon_means 100 (replicate 11 0) ≡ Err (fault_nowhere Refusal.TooShort)
 unfolding beacon_means checked
 short = refl
 
 -- another interval
-pub other : beacon_means 101 (body 1 []) ≡ refused (fault_at 8 Refusal.OtherInterval)
+pub other : beacon_means 101 (body 1 []) ≡ Err (fault_at 8 Refusal.OtherInterval)
 unfolding beacon_means checked
 other = refl
 
 -- two different Quiet elements: both are kept, in their order
-pub two_quiets : beacon_means 100 (body 1 (octets_of (quiet_in 3 ∷ quiet_in 5 ∷ []))) ≡ accepted (quietly (quiet_in 3 ∷ quiet_in 5 ∷ []))
+pub two_quiets : beacon_means 100 (body 1 (octets_of (quiet_in 3 ∷ quiet_in 5 ∷ []))) ≡ Ok (quietly (quiet_in 3 ∷ quiet_in 5 ∷ []))
 unfolding beacon_means checked says takes element_means elements_in elements_after quiet_means fixed quiet_octets
 two_quiets = refl
 
@@ -63,12 +64,12 @@ pub two_slots : (laid 0 (told_where false 100 (body 1 (octets_of (quiet_in 3 ∷
 two_slots = ap (λ (o : Placed Told). (laid 0 (besides absent o)).quiets) two_quiets
 
 -- eight are kept
-pub eight_quiets : beacon_means 100 (body 1 (octets_of (several 8))) ≡ accepted (quietly (several 8))
+pub eight_quiets : beacon_means 100 (body 1 (octets_of (several 8))) ≡ Ok (quietly (several 8))
 unfolding beacon_means checked says takes element_means elements_in elements_after quiet_means fixed quiet_octets
 eight_quiets = refl
 
 -- a ninth is refused, at its ID octet: 12 octets and eight elements of 8 stand before it
-pub nine_quiets : beacon_means 100 (body 1 (octets_of (several 9))) ≡ refused (fault_at 76 Refusal.TooManyQuiets)
+pub nine_quiets : beacon_means 100 (body 1 (octets_of (several 9))) ≡ Err (fault_at 76 Refusal.TooManyQuiets)
 unfolding beacon_means checked says takes element_means elements_in elements_after quiet_means fixed quiet_octets
 nine_quiets = refl
 
@@ -88,27 +89,27 @@ naming recovery = 41 ∷ 9 ∷ 2 ∷ 0 ∷ 0 ∷ 0 ∷ 0 ∷ 1 ∷ recovery ∷ 
 abbrev dfs : Dfs
 dfs = record { owner = 2 ∷ 0 ∷ 0 ∷ 0 ∷ 0 ∷ 1 ∷ []; recovery = 3; pairs = 36 ∷ 5 ∷ [] }
 
-pub an_owner : ibss_beacon_means 100 (body 1 (naming 3 ++ quiet_octets (quiet_in 3))) ≡ accepted (tells_in_ibss (quietly (quiet_in 3 ∷ [])) (is dfs))
+pub an_owner : ibss_beacon_means 100 (body 1 (naming 3 ++ quiet_octets (quiet_in 3))) ≡ Ok (tells_in_ibss (quietly (quiet_in 3 ∷ [])) (is dfs))
 unfolding ibss_beacon_means checked says takes_in_ibss takes element_means elements_in elements_after dfs_means quiet_means fixed quiet_octets
 an_owner = refl
 
-pub its_pair : pair_in 0 (is dfs) ≡ accepted (record { channel = 36; map = 5 })
+pub its_pair : pair_in 0 (is dfs) ≡ Ok (record { channel = 36; map = 5 })
 unfolding checked
 its_pair = refl
 
-pub no_pair_more : pair_in 1 (is dfs) ≡ refused Refusal.Impossible
+pub no_pair_more : pair_in 1 (is dfs) ≡ Err Refusal.Impossible
 unfolding checked
 no_pair_more = refl
 
 -- a second element 41 is refused at its ID octet, and interval 0 before it is a second; 01 skips both
-pub two_owners : ibss_beacon_means 100 (body 1 (naming 3 ++ naming 3)) ≡ refused (fault_at 23 Refusal.Repeated)
+pub two_owners : ibss_beacon_means 100 (body 1 (naming 3 ++ naming 3)) ≡ Err (fault_at 23 Refusal.Repeated)
 unfolding ibss_beacon_means checked says takes_in_ibss elements_in elements_after dfs_means
 two_owners = refl
 
-pub no_interval : ibss_beacon_means 100 (body 1 (naming 3 ++ naming 0)) ≡ refused (fault_at 23 Refusal.ForbiddenValue)
+pub no_interval : ibss_beacon_means 100 (body 1 (naming 3 ++ naming 0)) ≡ Err (fault_at 23 Refusal.ForbiddenValue)
 unfolding ibss_beacon_means checked says takes_in_ibss elements_in elements_after dfs_means
 no_interval = refl
 
-pub owners_skipped : beacon_means 100 (body 1 (naming 3 ++ naming 0)) ≡ accepted (quietly [])
+pub owners_skipped : beacon_means 100 (body 1 (naming 3 ++ naming 0)) ≡ Ok (quietly [])
 unfolding beacon_means checked says takes element_means elements_in elements_after
 owners_skipped = refl

@@ -1,8 +1,8 @@
 -- Beacon and Probe Response bodies (01, "Order": timestamp 8, interval 2, capability 2, any missing 1, interval not B 12,
 -- elements). Whole elements but 32, 35, 37 and 40 are skipped; a second 32, 35 or 37 is 10, and a ninth Quiet element 11. The place of
 -- an element's fault is its ID octet, and that of another interval its field (02, One).
-use Rattle.std.specs.Prelude.{not, List, [], ◌∷◌, ◌++◌, ℕ, ltb, leb, eqb, pos, length, drop}
-use Rattle.answer.specs.Checks.{Outcome, refused, accepted, pick, ◌⇒◌, checked, judged, and_then}
+use Rattle.std.specs.Prelude.{not, List, [], ◌∷◌, ◌++◌, ℕ, ltb, leb, eqb, pos, length, drop, Ok, Err}
+use Rattle.answer.specs.Checks.{Outcome, pick, ◌⇒◌, checked, judged, and_then}
 use Rattle.answer.specs.Faults.{fault_at, fault_nowhere, Placed, placed_at}
 use Rattle.answer.specs.declared.Refusal.{Refusal}
 use Rattle.element.specs.ChannelSwitch.{switch_means}
@@ -43,11 +43,11 @@ without_margin t = record { power = t.power; margin = pos 0 }
 -- a whole element by its ID: length (8), value (9)
 unfoldable pub element_means : ℕ → ℕ → List ℕ → Outcome Element
 element_means b id c =
-    pick (eqb id 32) (and_then (power_means c) (λ p. accepted (Element.Power p)))
-    (pick (eqb id 35) (and_then (tpc_report_means c) (λ t. accepted (Element.Report (without_margin t))))
-    (pick (eqb id 37) (and_then (switch_means c) (λ s. accepted (Element.Switch s)))
-    (pick (eqb id 40) (and_then (quiet_means b c) (λ q. accepted (Element.Quiet q)))
-    (accepted Element.Other))))
+    pick (eqb id 32) (and_then (power_means c) (λ p. Ok (Element.Power p)))
+    (pick (eqb id 35) (and_then (tpc_report_means c) (λ t. Ok (Element.Report (without_margin t))))
+    (pick (eqb id 37) (and_then (switch_means c) (λ s. Ok (Element.Switch s)))
+    (pick (eqb id 40) (and_then (quiet_means b c) (λ q. Ok (Element.Quiet q)))
+    (Ok Element.Other))))
 
 -- what was said, and one element more: a repeat (10 or 11), or what is said with it
 abbrev pub adds : Told → Element → Outcome Told
@@ -55,16 +55,16 @@ adds t (Element.Power p) = judged (has_power t.notice.power ⇒ Refusal.Repeated
 adds t (Element.Report r) = judged (has_report t.notice.report ⇒ Refusal.Repeated ∷ []) (tells (with_report t.notice r) t.quiets)
 adds t (Element.Switch s) = judged (has_switch t.notice.switch ⇒ Refusal.Repeated ∷ []) (tells (with_switch t.notice s) t.quiets)
 adds t (Element.Quiet q) = judged (leb quiet_limit (length t.quiets) ⇒ Refusal.TooManyQuiets ∷ []) (tells t.notice (t.quiets ++ (q ∷ [])))
-adds t Element.Other = accepted t
+adds t Element.Other = Ok t
 
 unfoldable pub takes : ℕ → ℕ → List ℕ → Told → Outcome Told
 takes b id c t = and_then (element_means b id c) (adds t)
 
 -- all elements, in their order, each added by `step` to what was said before it; n octets stand before them
 unfoldable pub says : {A : Type 0} → (ℕ → List ℕ → A → Outcome A) → ℕ → Elements → A → Placed A
-says step n end t = accepted t
-says step n (cut_header o) t = refused (fault_at n Refusal.ElementCut)
-says step n (cut_contents id) t = refused (fault_at n Refusal.ElementCut)
+says step n end t = Ok t
+says step n (cut_header o) t = Err (fault_at n Refusal.ElementCut)
+says step n (cut_contents id) t = Err (fault_at n Refusal.ElementCut)
 says step n (more id c es) t = and_then (placed_at n (step id c t)) (says step (past_element n c) es)
 
 -- a body: its fixed fields (1, 12), then the elements, where `before` is said before any of them

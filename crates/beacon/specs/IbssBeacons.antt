@@ -1,7 +1,7 @@
 -- Beacon bodies as a station of an IBSS reads them (02, Five): as in 01, and element 41 beside it. "Refusals: 9 for interval 0 or an owner with its group bit
 -- set; 10 for a second 41".
-use Rattle.std.specs.Prelude.{Bool, true, false, not, List, [], ◌∷◌, ◌⊎◌, ◌≡◌, ℕ, ◌+◌, ◌*◌, ◌/◌, ltb, eqb, length}
-use Rattle.answer.specs.Checks.{Outcome, refused, accepted, pick, ◌⇒◌, judged, and_then}
+use Rattle.std.specs.Prelude.{Bool, true, false, not, List, [], ◌∷◌, ◌⊎◌, ◌≡◌, ℕ, ◌+◌, ◌*◌, ◌/◌, ltb, eqb, length, Ok, Err}
+use Rattle.answer.specs.Checks.{Outcome, pick, ◌⇒◌, judged, and_then}
 use Rattle.answer.specs.Faults.{Placed}
 use Rattle.answer.specs.declared.Refusal.{Refusal}
 use Rattle.element.specs.IbssDfs.{Dfs, dfs_means}
@@ -34,7 +34,7 @@ takes_dfs c t = and_then (dfs_means c) (λ d. judged (has_dfs t.dfs ⇒ Refusal.
 
 -- one as in 01
 abbrev pub takes_too : ℕ → ℕ → List ℕ → ToldInIbss → Outcome ToldInIbss
-takes_too b id c t = and_then (takes b id c t.told) (λ next. accepted (tells_in_ibss next t.dfs))
+takes_too b id c t = and_then (takes b id c t.told) (λ next. Ok (tells_in_ibss next t.dfs))
 
 unfoldable pub takes_in_ibss : ℕ → ℕ → List ℕ → ToldInIbss → Outcome ToldInIbss
 takes_in_ibss b id c t = pick (eqb id 41) (takes_dfs c t) (takes_too b id c t)
@@ -46,7 +46,7 @@ ibss_beacon_means b body = body_means (takes_in_ibss b) (tells_in_ibss (opening 
 
 -- what 01 reads, with this beside it
 abbrev pub besides : MaybeDfs → Placed Told → Placed ToldInIbss
-besides d o = and_then o (λ t. accepted (tells_in_ibss t d))
+besides d o = and_then o (λ t. Ok (tells_in_ibss t d))
 
 -- in an IBSS, or where element 41 is skipped as any other
 abbrev pub told_where : Bool → ℕ → List ℕ → Placed ToldInIbss
@@ -56,7 +56,7 @@ told_where false b body = besides absent (beacon_means b body)
 -- ---- the pairs of element 41 by their index from 0; 16 past the last, and where there is no element 41
 
 abbrev pub pair_in : ℕ → MaybeDfs → Outcome ChannelMap
-pair_in i absent = refused Refusal.Impossible
+pair_in i absent = Err Refusal.Impossible
 pair_in i (is d) =
     judged (not (ltb i (length d.pairs / 2)) ⇒ Refusal.Impossible ∷ []) (record { channel = octet (2 * i) d.pairs; map = octet (2 * i + 1) d.pairs })
 
@@ -74,7 +74,7 @@ unfoldable pub OneDfs : Dfs → Elements → Type 0
 OneDfs d end = ⊥
 OneDfs d (cut_header o) = ⊥
 OneDfs d (cut_contents id) = ⊥
-OneDfs d (more id c es) = ((id ≡ 41) × (dfs_means c ≡ accepted d) × NoDfs es) ⊎ ((id ≡ 41 → ⊥) × OneDfs d es)
+OneDfs d (more id c es) = ((id ≡ 41) × (dfs_means c ≡ Ok d) × NoDfs es) ⊎ ((id ≡ 41 → ⊥) × OneDfs d es)
 
 -- none that is refused, and not two: they come to this
 abbrev pub DfsSound : MaybeDfs → Elements → Type 0

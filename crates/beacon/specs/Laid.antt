@@ -1,12 +1,10 @@
 -- What a body says, as the code hands it out: Quiet elements in slots, the rest of which are blank, and element 41 with one pair of it. A refusal leaves all
 -- blank.
-use Rattle.std.specs.Prelude.{List, [], ◌++◌, ℕ, ◌-◌, ◌/◌, length, replicate}
-use Rattle.answer.specs.Checks.{Outcome, refused, accepted}
-use Rattle.answer.specs.Faults.{Placed}
-use Rattle.answer.specs.declared.Verdict.{Verdict}
+use Rattle.std.specs.Prelude.{List, [], ◌++◌, ℕ, ◌-◌, ◌/◌, length, replicate, Ok, Err}
+use Rattle.answer.specs.Checks.{Outcome}
+use Rattle.answer.specs.Faults.{Placed, Verdict}
 use Rattle.element.specs.declared.ibss_dfs.ChannelMap.{ChannelMap}
 use Rattle.element.specs.declared.ibss_dfs.IbssDfs.{IbssDfs}
-use Rattle.element.specs.declared.ibss_dfs.Pair.{Pair}
 use Rattle.element.specs.declared.quiet.Quiet.{Quiet}
 use Rattle.beacon.specs.Beacons.{tells, quiet_limit}
 use Rattle.beacon.specs.IbssBeacons.{MaybeDfs, absent, is, has_dfs, ToldInIbss, tells_in_ibss, pair_in}
@@ -25,13 +23,9 @@ abbrev pub dfs_fields : MaybeDfs → IbssDfs
 dfs_fields absent = record { owner = replicate 6 0; recovery = 0; pairs = 0 }
 dfs_fields (is d) = record { owner = d.owner; recovery = d.recovery; pairs = length d.pairs / 2 }
 
-abbrev pub pair_laid : Outcome ChannelMap → Pair
-pair_laid (refused r) = Pair.Refused r
-pair_laid (accepted p) = Pair.Is p
-
 -- with the pair at an index
 abbrev pub dfs_heard : ℕ → MaybeDfs → HeardDfs
-dfs_heard i d = record { names = has_dfs d; dfs = dfs_fields d; pair = pair_laid (pair_in i d) }
+dfs_heard i d = record { names = has_dfs d; dfs = dfs_fields d; pair = (pair_in i d) }
 
 abbrev pub heard_with : Verdict → ℕ → ToldInIbss → Heard
 heard_with verdict i t =
@@ -44,5 +38,5 @@ heard_with verdict i t =
     }
 
 abbrev pub laid : ℕ → Placed ToldInIbss → Heard
-laid i (refused x) = heard_with (Verdict.Refused x) i (tells_in_ibss (tells nothing []) absent)
-laid i (accepted t) = heard_with Verdict.Accepted i t
+laid i (Err x) = heard_with (Err x) i (tells_in_ibss (tells nothing []) absent)
+laid i (Ok t) = heard_with (Ok tt) i t

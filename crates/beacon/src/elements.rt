@@ -1,7 +1,6 @@
 // A whole element of a beacon or a probe response, by its ID (document 01, "Octets").
 ghost use Rattle.std.specs.Prelude.{◌≡◌};
 ghost use Rattle.beacon.specs.Beacons.{without_margin, element_means};
-ghost use Rattle.beacon.specs.CodeTerms.Adding.{element_told};
 
 use answer::Refusal;
 use element::channel_switch::ChannelSwitch;
@@ -9,6 +8,7 @@ use element::power_constraint::PowerConstraint;
 use element::quiet::Quiet;
 use element::tpc_report::TpcReport;
 use element::{channel_switch, power_constraint, quiet, tpc_report};
+use pending::Switch;
 
 #[derive(Clone, Copy)]
 pub enum Element {
@@ -18,12 +18,6 @@ pub enum Element {
     Quiet(Quiet),
     // Any other is skipped.
     Other,
-}
-
-#[derive(Clone, Copy)]
-pub enum Reading {
-    Refused(Refusal),
-    Is(Element),
 }
 
 // A TPC Report as a beacon or a probe response says it: the margin is set to 0 there, and is ignored (7.3.2.18).
@@ -36,26 +30,26 @@ fn without_margin(report: TpcReport) -> TpcReport
     }
 }
 
-pub fn element_of(id: u8, contents: &[u8], interval: u16) -> Reading
-    ensures { element_told result ≡ element_means interval id contents.now }
+pub fn element_of(id: u8, contents: &[u8], interval: u16) -> Result<Element, Refusal>
+    ensures { result ≡ element_means interval id contents.now }
 {
     match id {
         power_constraint::ID => match power_constraint::read(contents) {
-            power_constraint::Reading::Refused(refusal) => Reading::Refused(refusal),
-            power_constraint::Reading::Is(power) => Reading::Is(Element::Power(power)),
+            Err(refusal) => Err(refusal),
+            Ok(power) => Ok(Element::Power(power)),
         },
         tpc_report::ID => match tpc_report::read(contents) {
-            tpc_report::Reading::Refused(refusal) => Reading::Refused(refusal),
-            tpc_report::Reading::Is(report) => Reading::Is(Element::Report(without_margin(report))),
+            Err(refusal) => Err(refusal),
+            Ok(report) => Ok(Element::Report(without_margin(report))),
         },
         channel_switch::ID => match channel_switch::read(contents) {
-            channel_switch::Reading::Refused(refusal) => Reading::Refused(refusal),
-            channel_switch::Reading::Is(switch) => Reading::Is(Element::Switch(switch)),
+            Err(refusal) => Err(refusal),
+            Ok(switch) => Ok(Element::Switch(switch)),
         },
         quiet::ID => match quiet::read(contents, interval) {
-            quiet::Reading::Refused(refusal) => Reading::Refused(refusal),
-            quiet::Reading::Is(quiet) => Reading::Is(Element::Quiet(quiet)),
+            Err(refusal) => Err(refusal),
+            Ok(quiet) => Ok(Element::Quiet(quiet)),
         },
-        _ => Reading::Is(Element::Other),
+        _ => Ok(Element::Other),
     }
 }

@@ -2,15 +2,16 @@
 ghost use Rattle.std.specs.Prelude.{◌≡◌};
 ghost use Rattle.beacon.specs.Notices.{held_power};
 
-use crate::MaybePower;
+use element::power_constraint::PowerConstraint;
 
-impl MaybePower {
+
+impl Option<PowerConstraint> {
     pub fn to_octets(self) -> [u8; 2]
         ensures { result ≡ held_power self }
     {
         match self {
-            MaybePower::Absent => [0, 0],
-            MaybePower::Is(constraint) => [1, constraint.decibels],
+            None => [0, 0],
+            Some(constraint) => [1, constraint.decibels],
         }
     }
 }

@@ -7,22 +7,20 @@ mod held;
 mod naming;
 mod quiets;
 
-ghost use Rattle.std.specs.Prelude.{◌≡◌};
-ghost use Rattle.answer.specs.Checks.{refused};
+ghost use Rattle.std.specs.Prelude.{◌≡◌, Err};
 ghost use Rattle.answer.specs.Faults.{fault_at};
 ghost use Rattle.beacon.specs.IbssBeacons.{told_where};
 ghost use Rattle.beacon.specs.Laid.{laid};
 
-use crate::adding::Added;
-use crate::quiets::MaybeQuiet;
-use answer::{Answer, Fault, Refusal, Verdict};
+use answer::{Fault, Refusal};
 use element::channel_switch::ChannelSwitch;
 use element::ibss_dfs;
-use element::ibss_dfs::{IbssDfs, Pair};
+use element::ibss_dfs::IbssDfs;
 use element::power_constraint::PowerConstraint;
 use element::quiet::Quiet;
 use element::tpc_report::TpcReport;
 use walk::Found;
+use element::ibss_dfs::ChannelMap;
 
 // How many Quiet elements a frame may have.
 pub const QUIETS: usize = 8;
@@ -32,32 +30,14 @@ const FIXED_LENGTH: usize = 12;
 
 const INTERVAL: usize = 8;
 
-#[derive(Clone, Copy)]
-pub enum MaybePower {
-    Absent,
-    Is(PowerConstraint),
-}
-
-#[derive(Clone, Copy)]
-pub enum MaybeReport {
-    Absent,
-    Is(TpcReport),
-}
-
-#[derive(Clone, Copy)]
-pub enum MaybeSwitch {
-    Absent,
-    Is(ChannelSwitch),
-}
-
 // What a beacon or a probe response says, but for its Quiet elements.
 #[derive(Clone, Copy)]
 pub struct Notice {
     pub timestamp: u64,
     pub capability: u16,
-    pub power: MaybePower,
-    pub report: MaybeReport,
-    pub switch: MaybeSwitch,
+    pub power: Option<PowerConstraint>,
+    pub report: Option<TpcReport>,
+    pub switch: Option<ChannelSwitch>,
 }
 
 impl Notice {
@@ -65,9 +45,9 @@ impl Notice {
     pub const NOTHING: Notice = Notice {
         timestamp: 0,
         capability: 0,
-        power: MaybePower::Absent,
-        report: MaybeReport::Absent,
-        switch: MaybeSwitch::Absent,
+        power: None,
+        report: None,
+        switch: None,
     };
 }
 
@@ -76,7 +56,7 @@ impl Notice {
 pub struct HeardDfs {
     pub names: bool,
     pub dfs: IbssDfs,
-    pub pair: Pair,
+    pub pair: Result<ChannelMap, Refusal>,
 }
 
 impl HeardDfs {
@@ -84,7 +64,7 @@ impl HeardDfs {
     pub const NONE: HeardDfs = HeardDfs {
         names: false,
         dfs: ibss_dfs::NONE,
-        pair: Pair::Refused(Refusal::Impossible),
+        pair: Err(Refusal::Impossible),
     };
 }
 
@@ -92,7 +72,7 @@ impl HeardDfs {
 // Element 41 is read where it is asked for, and else skipped. A refusal leaves everything blank.
 #[derive(Clone, Copy)]
 pub struct Heard {
-    pub verdict: Verdict,
+    pub verdict: Result<(), Fault>,
     pub notice: Notice,
     pub quiets: [Quiet; QUIETS],
     pub count: usize,
@@ -108,9 +88,9 @@ pub const NO_QUIET: Quiet = Quiet {
 };
 
 fn refused(fault: Fault) -> Heard
-    ensures { result ≡ laid 0 (refused fault) }
+    ensures { result ≡ laid 0 (Err fault) }
 {
-    let verdict = Verdict::Refused(fault);
+    let verdict = Err(fault);
     let notice = Notice::NOTHING;
     let quiets = [NO_QUIET; QUIETS];
     let dfs = HeardDfs::NONE;
@@ -125,7 +105,7 @@ fn refused(fault: Fault) -> Heard
 
 // The same at an octet of the body, which has so many before it.
 fn refused_at(refusal: Refusal, at: usize) -> Heard
-    ensures { result ≡ laid 0 (refused (fault_at at refusal)) }
+    ensures { result ≡ laid 0 (Err (fault_at at refusal)) }
 {
     refused(Fault::at(refusal, at))
 }
@@ -152,15 +132,15 @@ pub fn read(body: &[u8], interval: u16, ibss: bool, index: usize) -> Heard
     let mut at = FIXED_LENGTH;
     loop {
         match quiets::quiet_at(body, at, count, interval) {
-            MaybeQuiet::Is(quiet) => {
+            Some(quiet) => {
                 quiets[count] = quiet;
                 count += 1;
                 at += quiets::LENGTH;
             }
-            MaybeQuiet::Absent => match walk::element_at(body, at) {
+            None => match walk::element_at(body, at) {
                 Found::End => {
                     return Heard {
-                        verdict: Verdict::Accepted,
+                        verdict: Ok(()),
                         notice,
                         quiets,
                         count,
@@ -178,20 +158,20 @@ pub fn read(body: &[u8], interval: u16, ibss: bool, index: usize) -> Heard
                         let naming = naming::read_dfs(&body[start..end], dfs.names, index);
                         let answer = naming.answer;
                         match answer {
-                            Answer::Refused(reason) => {
+                            Err(reason) => {
                                 return refused_at(reason, at);
                             }
-                            Answer::Accepted => {
+                            Ok(()) => {
                                 let next = naming.dfs;
                                 dfs = next;
                             }
                         }
                     } else {
                         match adding::add_element(notice, id, &body[start..end], interval) {
-                            Added::Refused(refusal) => {
+                            Err(refusal) => {
                                 return refused_at(refusal, at);
                             }
-                            Added::Notice(next) => {
+                            Ok(next) => {
                                 notice = next;
                             }
                         }

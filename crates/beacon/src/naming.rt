@@ -1,16 +1,15 @@
 // Element 41 in a beacon of an IBSS, which names the DFS owner (document 02, Five).
-ghost use Rattle.std.specs.Prelude.{◌≡◌};
-ghost use Rattle.answer.specs.Checks.{refused};
+ghost use Rattle.std.specs.Prelude.{◌≡◌, Err};
 ghost use Rattle.beacon.specs.CodeTerms.Naming.{reads_dfs, first_dfs, naming_laid};
 
 use crate::HeardDfs;
-use answer::{Answer, Refusal};
+use answer::Refusal;
 use element::ibss_dfs;
 
 // The answer, and what was read: beside a refusal nothing was.
 #[derive(Clone, Copy)]
 pub struct Naming {
-    pub answer: Answer,
+    pub answer: Result<(), Refusal>,
     pub dfs: HeardDfs,
 }
 
@@ -25,10 +24,10 @@ pub fn reads_dfs(ibss: bool, id: u8) -> bool
 }
 
 fn refused(refusal: Refusal) -> Naming
-    ensures { result ≡ naming_laid 0 (refused refusal) }
+    ensures { result ≡ naming_laid 0 (Err refusal) }
 {
     Naming {
-        answer: Answer::Refused(refusal),
+        answer: Err(refusal),
         dfs: HeardDfs::NONE,
     }
 }
@@ -41,14 +40,14 @@ pub fn read_dfs(contents: &[u8], names: bool, index: usize) -> Naming
     let answer = reading.answer;
     let dfs = reading.dfs;
     match answer {
-        Answer::Refused(refusal) => refused(refusal),
-        Answer::Accepted => {
+        Err(refusal) => refused(refusal),
+        Ok(()) => {
             if names {
                 return refused(Refusal::Repeated);
             }
             let pair = ibss_dfs::pair_at(contents, index);
             Naming {
-                answer: Answer::Accepted,
+                answer: Ok(()),
                 dfs: HeardDfs {
                     names: true,
                     dfs,

@@ -12,32 +12,26 @@ pub const LENGTH: usize = 8;
 // Its ID and its length as one number, of which the ID is the low octet: 40 + 256 * 6.
 const HEADER: u16 = 1576;
 
-#[derive(Clone, Copy)]
-pub enum MaybeQuiet {
-    Absent,
-    Is(Quiet),
-}
-
 // The Quiet element at a place, where so many slots are in use: one that is whole, says what it may say and finds a slot.
-pub fn quiet_at(body: &[u8], at: usize, count: usize, interval: u16) -> MaybeQuiet
+pub fn quiet_at(body: &[u8], at: usize, count: usize, interval: u16) -> Option<Quiet>
     ensures { QuietAt body.now at count interval result }
 {
     if QUIETS <= count {
-        return MaybeQuiet::Absent;
+        return None;
     }
     if body.len() < LENGTH {
-        return MaybeQuiet::Absent;
+        return None;
     }
     if body.len() - LENGTH < at {
-        return MaybeQuiet::Absent;
+        return None;
     }
     if octets::number16(body, at) != HEADER {
-        return MaybeQuiet::Absent;
+        return None;
     }
     let start = at + 2;
     let end = at + LENGTH;
     match quiet::read(&body[start..end], interval) {
-        quiet::Reading::Refused(_) => MaybeQuiet::Absent,
-        quiet::Reading::Is(quiet) => MaybeQuiet::Is(quiet),
+        Err(_) => None,
+        Ok(quiet) => Some(quiet),
     }
 }

@@ -1,4 +1,5 @@
 -- How many octets the fields of a frame have. Assumes nothing.
+use Rattle.std.specs.Prelude.{Ok, Err, Some, None, Option}
 use mathlib.Core.Bool.{Bool}
 use mathlib.Core.List.{List, ◌∷◌}
 use mathlib.Core.Path.{◌≡◌, refl, sym, ap, ◌∙◌}
@@ -6,37 +7,37 @@ use Prim.Native.Nat.{ℕ}
 use native.Mathlib.Omega.{arith}
 use lib.ListN.{length, length-append}
 use Rattle.answer.proofs.Judged.{never}
-use Rattle.answer.specs.Checks.{accepted}
 use Rattle.beacon.proofs.HeldLengths.{power_length}
-use Rattle.beacon.specs.declared.MaybeReport.{MaybeReport}
-use Rattle.beacon.specs.declared.MaybeSwitch.{MaybeSwitch}
 use Rattle.element.specs.declared.ibss_dfs.IbssDfs.{IbssDfs}
-use Rattle.frame.specs.declared.Reading.{Reading}
 use Rattle.frame.specs.declared.Received.{Received}
 use Rattle.octets.specs.Numbers.{split}
 use Rattle.boundary.specs.FrameFields.{held_report, held_switch, fields_of, field_octets, reading_fields, frame_fields}
 use Rattle.boundary.specs.IbssFields.{held_dfs}
 use Rattle.boundary.specs.declared.frame_fields.Fields.{Fields}
+use Rattle.element.specs.declared.tpc_report.TpcReport.{TpcReport}
+use Rattle.element.specs.declared.channel_switch.ChannelSwitch.{ChannelSwitch}
+use Rattle.answer.specs.Faults.{Placed}
+use Rattle.frame.specs.declared.Frame.{Frame}
 
-pub report_length : (r : MaybeReport) → length (held_report r) ≡ 3
-report_length MaybeReport.Absent = refl
-report_length (MaybeReport.Is t) = refl
+pub report_length : (r : Option TpcReport) → length (held_report r) ≡ 3
+report_length None = refl
+report_length (Some t) = refl
 
-pub switch_length : (s : MaybeSwitch) → length (held_switch s) ≡ 4
-switch_length MaybeSwitch.Absent = refl
-switch_length (MaybeSwitch.Is s) = refl
+pub switch_length : (s : Option ChannelSwitch) → length (held_switch s) ≡ 4
+switch_length None = refl
+switch_length (Some s) = refl
 
 pub fields_length : (f : Fields) (to_all : Bool) (quiets : ℕ) → length (field_octets f to_all quiets) ≡ 38
 fields_length f to_all quiets = simp (length-append, power_length, report_length, switch_length)
 
 -- of whatever was received
-pub frame_length : (v : Received) (os : List ℕ) → frame_fields v ≡ accepted os → length os ≡ 38
+pub frame_length : (v : Received) (os : List ℕ) → frame_fields v ≡ Ok os → length os ≡ 38
 unfolding frame_fields
 frame_length v os e = by v.reading e
   where
-    by : (r : Reading) → reading_fields r v.broadcast v.count ≡ accepted os → length os ≡ 38
-    by (Reading.Refused x) g = absurd (never g)
-    by (Reading.Is f) g =
+    by : (r : Placed Frame) → reading_fields r v.broadcast v.count ≡ Ok os → length os ≡ 38
+    by (Err x) g = absurd (never g)
+    by (Ok f) g =
         let same : field_octets (fields_of f) v.broadcast v.count ≡ os = cc in
         sym (ap length same) ∙ fields_length (fields_of f) v.broadcast v.count
 

@@ -1,4 +1,5 @@
 -- Each number that a call of the boundary gives back stands for one outcome, and one under 0 leaves every octet of the lent buffer. Assumes nothing.
+use Rattle.std.specs.Prelude.{Ok, Err, Some, None, Option}
 use mathlib.Core.Bool.{Bool, true}
 use mathlib.Core.List.{List, []}
 use mathlib.Core.Path.{◌≡◌, refl, sym, ap, ◌∙◌}
@@ -8,10 +9,9 @@ use borrow.Author.Tests.{ltb-false}
 use lib.ListN.{length}
 use Rattle.answer.proofs.Judged.{never, passed, kept}
 use Rattle.answer.proofs.RefusalNumbers.{numbered, same_refusal}
-use Rattle.answer.specs.Checks.{Outcome, refused, accepted, and_then}
+use Rattle.answer.specs.Checks.{Outcome, and_then}
 use Rattle.answer.specs.Faults.{Placed}
 use Rattle.answer.specs.declared.Fault.{Fault}
-use Rattle.answer.specs.declared.Offset.{Offset}
 use Rattle.answer.specs.declared.Refusal.{Refusal}
 use Rattle.channel.specs.Centres.{highest, centre_of}
 use Rattle.fraction.proofs.Possible.{within}
@@ -71,19 +71,19 @@ use Rattle.boundary.proofs.lists.oneiralth_list as List
 -- ---- no two outcomes share a number
 
 pub number_tells : (o p : Outcome ℕ) → InRange o → InRange p → code_of o ≡ code_of p → o ≡ p
-number_tells (refused r) (refused q) h k e = ap refused (same_refusal r q (omega (arith, (numbered r).1, (numbered q).1)))
-number_tells (refused r) (accepted n) h k e = absurd (omega (arith, (numbered r).1))
-number_tells (accepted m) (refused q) h k e = absurd (omega (arith, (numbered q).1))
-number_tells (accepted m) (accepted n) h k e = ap accepted e
+number_tells (Err r) (Err q) h k e = ap Err (same_refusal r q (omega (arith, (numbered r).1, (numbered q).1)))
+number_tells (Err r) (Ok n) h k e = absurd (omega (arith, (numbered r).1))
+number_tells (Ok m) (Err q) h k e = absurd (omega (arith, (numbered q).1))
+number_tells (Ok m) (Ok n) h k e = ap Ok e
 
 -- an outcome in range, of which a refusal leaves what was lent
-answers : (o : Outcome ℕ) (code : ℕ) (lent exit : List ℕ) → InRange o → code ≡ code_of o → ((r : Refusal) → o ≡ refused r → exit ≡ lent) → Answers code lent exit
+answers : (o : Outcome ℕ) (code : ℕ) (lent exit : List ℕ) → InRange o → code ≡ code_of o → ((r : Refusal) → o ≡ Err r → exit ≡ lent) → Answers code lent exit
 answers o code lent exit h e keeps =
     record { outcome = o; in_range = h; number = e; only = λ p k f. number_tells p o k h (sym f ∙ e); keeps = by o h e keeps }
   where
-    by : (p : Outcome ℕ) → InRange p → code ≡ code_of p → ((r : Refusal) → p ≡ refused r → exit ≡ lent) → IsNegative code → exit ≡ lent
-    by (refused r) k f keep negative = keep r refl
-    by (accepted n) k f keep negative = absurd (omega arith)
+    by : (p : Outcome ℕ) → InRange p → code ≡ code_of p → ((r : Refusal) → p ≡ Err r → exit ≡ lent) → IsNegative code → exit ≡ lent
+    by (Err r) k f keep negative = keep r refl
+    by (Ok n) k f keep negative = absurd (omega arith)
 
 -- ---- whatever `Put` and `Given` promise: what is written fits the buffer, so its length is in range
 
@@ -93,8 +93,8 @@ module _ (buffer : List ℕ) (fewer : length buffer < 2 ^ 63) where
   wrote_in_range may os at = by (wrote may os at buffer) refl
     where
       by : (o : Outcome ℕ) → wrote may os at buffer ≡ o → InRange o
-      by (refused r) e = tt
-      by (accepted n) e =
+      by (Err r) e = tt
+      by (Ok n) e =
           let p = passed _ _ _ (passed _ _ _ e).1 in
           omega (arith, ltb-false (length buffer) (at + length os) p.0, kept (length os) p.1)
 
@@ -108,17 +108,17 @@ module _ (buffer : List ℕ) (fewer : length buffer < 2 ^ 63) where
   given_answers {o} {code} {exit} w = by o w.answers w.leaves
     where
       by : (p : Outcome (List ℕ)) → code ≡ code_of (and_then p (λ os. wrote true os 0 buffer)) → exit ≡ left_by p buffer → Answers code buffer exit
-      by (refused r) e f = answers (refused r) code buffer exit tt e (λ q g. f)
-      by (accepted os) e f = put_answers (record { answers = e; leaves = f })
+      by (Err r) e f = answers (Err r) code buffer exit tt e (λ q g. f)
+      by (Ok os) e f = put_answers (record { answers = e; leaves = f })
 
 -- ---- whatever `OnStation` promises, and the answer to a question
 
 on_station_answers : {o : Outcome Station} {memory : List ℕ} {code : ℕ} {exit : List ℕ} → OnStation o memory code exit → Answers code memory exit
 on_station_answers {o} {memory} {code} {exit} w = by o w.answers w.leaves
   where
-    by : (p : Outcome Station) → code ≡ code_of (and_then p (λ _. accepted 0)) → exit ≡ relaid memory p → Answers code memory exit
-    by (refused r) e f = answers (refused r) code memory exit tt e (λ q g. f)
-    by (accepted s) e f = answers (accepted 0) code memory exit (omega arith) e (λ q g. absurd (never (sym g)))
+    by : (p : Outcome Station) → code ≡ code_of (and_then p (λ _. Ok 0)) → exit ≡ relaid memory p → Answers code memory exit
+    by (Err r) e f = answers (Err r) code memory exit tt e (λ q g. f)
+    by (Ok s) e f = answers (Ok 0) code memory exit (omega arith) e (λ q g. absurd (never (sym g)))
 
 permission_in_range : (p : Permission) → permission_number p < 2 ^ 63
 permission_in_range Permission.Granted = omega arith
@@ -128,9 +128,9 @@ permission_in_range Permission.QuietLater = omega arith
 permission_in_range Permission.SwitchBefore = omega arith
 permission_in_range Permission.WrongLength = omega arith
 
-asked_in_range : (o : Outcome Permission) → InRange (and_then o (λ p. accepted (permission_number p)))
-asked_in_range (refused r) = tt
-asked_in_range (accepted p) = permission_in_range p
+asked_in_range : (o : Outcome Permission) → InRange (and_then o (λ p. Ok (permission_number p)))
+asked_in_range (Err r) = tt
+asked_in_range (Ok p) = permission_in_range p
 
 -- ---- a centre and a busy fraction are in range
 
@@ -139,29 +139,29 @@ unfolding centre_of
 centre_in_range channel = by (centre_of channel) refl
   where
     by : (o : Outcome ℕ) → centre_of channel ≡ o → InRange o
-    by (refused r) e = tt
-    by (accepted n) e = let p = passed _ _ _ e in omega (arith, ltb-false highest channel p.0, kept (5000 + 5 * channel) p.1)
+    by (Err r) e = tt
+    by (Ok n) e = let p = passed _ _ _ e in omega (arith, ltb-false highest channel p.0, kept (5000 + 5 * channel) p.1)
 
 busy_in_range : (duration time : ℕ) → InRange (busy_of duration time)
 unfolding busy_of
 busy_in_range duration time = by (busy_of duration time) refl
   where
     by : (o : Outcome ℕ) → busy_of duration time ≡ o → InRange o
-    by (refused r) e = tt
-    by (accepted n) e =
+    by (Err r) e = tt
+    by (Ok n) e =
         let p = passed _ _ _ e in
         let bounds = within duration time (possible duration time) refl p.0 in
         omega (arith, fraction_bound duration time bounds.0 bounds.1, kept (fraction_of duration time) p.1)
 
 -- ---- an offset is no further than the frame's end
 
-offset_in_range : (n : ℕ) → n < 2 ^ 63 → (r : Refusal) (o : Offset) → OffsetWithin n o → InRange (offset_or r o)
-offset_in_range n h r Offset.Absent k = tt
-offset_in_range n h r (Offset.At at) k = omega arith
+offset_in_range : (n : ℕ) → n < 2 ^ 63 → (r : Refusal) (o : Option ℕ) → OffsetWithin n o → InRange (offset_or r o)
+offset_in_range n h r None k = tt
+offset_in_range n h r (Some at) k = omega arith
 
-fault_in_range : {A : Type 0} (n : ℕ) → n < 2 ^ 63 → (o : Placed A) → ((x : Fault) → o ≡ refused x → OffsetWithin n x.offset) → InRange (fault_offset o)
-fault_in_range n h (refused x) k = offset_in_range n h x.refusal x.offset (k x refl)
-fault_in_range n h (accepted a) k = tt
+fault_in_range : {A : Type 0} (n : ℕ) → n < 2 ^ 63 → (o : Placed A) → ((x : Fault) → o ≡ Err x → OffsetWithin n x.offset) → InRange (fault_offset o)
+fault_in_range n h (Err x) k = offset_in_range n h x.refusal x.offset (k x refl)
+fault_in_range n h (Ok a) k = tt
 
 -- a slice of octets has fewer than 2 ^ 63 of them
 fewer : {n : ℕ} → (n < 2 ^ 64) × (n * 1 < 2 ^ 63) → n < 2 ^ 63
@@ -239,11 +239,11 @@ every_call =
       append_report = λ κs a e x g p. put_answers _ (fewer g.0) p;
       reply_to_tpc_request = λ κs a e x g p. given_answers _ (fewer g.1.1.1.1.1.0) p;
       reply_to_measurement_request = λ κs a e x g p. given_answers _ (fewer g.1.1.1.1.1.1.1.1.1.1.1.1.1.1.1.0) p;
-      station_size = λ κs a e x g p. answers (accepted size) x [] [] (omega arith) p (λ r f. refl);
+      station_size = λ κs a e x g p. answers (Ok size) x [] [] (omega arith) p (λ r f. refl);
       station_start = λ κs a e x g p. on_station_answers p;
       station_take_lem = λ κs a e x g p. on_station_answers p;
       station_advance = λ κs a e x g p. on_station_answers p;
-      station_ask = λ κs a e x g p. answers (and_then (asked_in a.1.0 a.0.now) (λ q. accepted (permission_number q))) x [] [] (asked_in_range (asked_in a.1.0 a.0.now)) p (λ r f. refl);
+      station_ask = λ κs a e x g p. answers (and_then (asked_in a.1.0 a.0.now) (λ q. Ok (permission_number q))) x [] [] (asked_in_range (asked_in a.1.0 a.0.now)) p (λ r f. refl);
       station_reply_to_tpc_request = λ κs a e x g p. given_answers _ (fewer g.1.1.1.1.0) p;
       station_reply_to_measurement_request = λ κs a e x g p. given_answers _ (fewer g.1.1.1.1.1.1.1.1.1.1.1.1.1.0) p;
       busy_fraction = λ κs a e x g p. answers (busy_of a.1.0 a.0) x [] [] (busy_in_range a.1.0 a.0) p (λ r f. refl);

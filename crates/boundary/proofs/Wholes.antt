@@ -1,4 +1,5 @@
 -- The list of a whole capture in a buffer, or nothing. Assumes nothing.
+use Rattle.std.specs.Prelude.{Ok, Err}
 use mathlib.Core.Bool.{true, false}
 use mathlib.Core.List.{List, ◌++◌}
 use mathlib.Core.Path.{◌≡◌, refl, sym, ap, subst, ◌∙◌}
@@ -7,7 +8,6 @@ use native.Mathlib.Omega.{arith}
 use lib.ListN.{length, length-append}
 use Rattle.answer.specs.declared.Refusal.{Refusal}
 use Rattle.octets.specs.Writing.{left, Written}
-use Rattle.octets.specs.declared.writing.Wrote.{Wrote}
 use Rattle.octets.proofs.Overwriting.{written_as}
 use Rattle.octets.proofs.Storing.{left_not, short_written, parts_written}
 use Rattle.capture.specs.Lists.{closing_for, file_told, list_of}
@@ -27,14 +27,14 @@ module _ (file out passed : List ℕ) (first : passed ≡ left false (lines_in f
   same_out = first ∙ left_not (lines_in file) 0 out
 
   -- the lines alone do not fit, or the closing line does not
-  pub too_short : length out < length (list_of file) → Written true (list_of file) 0 out (Wrote.Refused Refusal.BufferShort) passed
-  too_short h = subst (Written true (list_of file) 0 out (Wrote.Refused Refusal.BufferShort)) (sym same_out) (short_written (list_of file) 0 out (omega (arith, h)))
+  pub too_short : length out < length (list_of file) → Written true (list_of file) 0 out (Err Refusal.BufferShort) passed
+  too_short h = subst (Written true (list_of file) 0 out (Err Refusal.BufferShort)) (sym same_out) (short_written (list_of file) 0 out (omega (arith, h)))
 
   -- the second pass stores the lines, and the closing line is put after them
   module _ (lines exit : List ℕ) (l : Lister) (count n : ℕ) (second : lines ≡ left true (lines_in file) 0 passed) (last : exit ≡ left true (closing_for l) count lines) where
-    pub whole : l ≡ (file_told file).lister → count ≡ length (lines_in file) → n ≡ count + length (closing_for l) → n ≤ length out → Written true (list_of file) 0 out (Wrote.Length n) exit
+    pub whole : l ≡ (file_told file).lister → count ≡ length (lines_in file) → n ≡ count + length (closing_for l) → n ≤ length out → Written true (list_of file) 0 out (Ok n) exit
     unfolding list_of
     whole same many total fits =
-        subst (λ (k : ℕ). Written true (list_of file) 0 out (Wrote.Length k) exit) (sym total)
+        subst (λ (k : ℕ). Written true (list_of file) 0 out (Ok k) exit) (sym total)
         (written_as refl (ap (λ (x : Lister). lines_in file ++ closing_for x) same)
         (parts_written (lines_in file) (closing_for l) out count many (omega (arith, total, fits)) lines exit (second ∙ ap (left true (lines_in file) 0) same_out) last))

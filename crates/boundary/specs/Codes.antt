@@ -1,6 +1,6 @@
 -- What a call gives back, and what it leaves in the lent buffer.
-use Rattle.std.specs.Prelude.{Bool, true, List, ◌≡◌, ℕ, ◌-◌}
-use Rattle.answer.specs.Checks.{Outcome, refused, accepted, and_then}
+use Rattle.std.specs.Prelude.{Bool, true, List, ◌≡◌, ℕ, ◌-◌, Ok, Err}
+use Rattle.answer.specs.Checks.{Outcome, and_then}
 use Rattle.answer.specs.Numbers.{number_of}
 use Rattle.answer.specs.declared.Refusal.{Refusal}
 use Rattle.octets.specs.Numbers.{split}
@@ -12,8 +12,8 @@ abbrev pub refusal_code : Refusal → ℕ
 refusal_code r = 18446744073709551616 - number_of r
 
 abbrev pub code_of : Outcome ℕ → ℕ
-code_of (refused r) = refusal_code r
-code_of (accepted n) = n
+code_of (Err r) = refusal_code r
+code_of (Ok n) = n
 
 -- the six octets of an address, the first of them the least significant
 abbrev pub address_of : ℕ → List ℕ

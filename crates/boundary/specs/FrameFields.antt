@@ -1,17 +1,17 @@
 -- A frame as its fields, one after the other at fixed places (docs/BOUNDARY.md). What a kind has not got is 0.
-use Rattle.std.specs.Prelude.{Bool, List, [], ◌∷◌, ◌++◌, ℕ}
-use Rattle.answer.specs.Checks.{Outcome, refused, accepted, pick}
+use Rattle.std.specs.Prelude.{Bool, List, [], ◌∷◌, ◌++◌, ℕ, Ok, Err, Some, None, Option}
+use Rattle.answer.specs.Checks.{Outcome, pick}
 use Rattle.beacon.specs.Notices.{elementless, with_report, with_switch, held_power}
-use Rattle.beacon.specs.declared.MaybeReport.{MaybeReport}
-use Rattle.beacon.specs.declared.MaybeSwitch.{MaybeSwitch}
 use Rattle.beacon.specs.declared.Notice.{Notice}
 use Rattle.element.specs.ChannelSwitch.{switch_contents}
 use Rattle.element.specs.TpcReport.{tpc_report_contents}
 use Rattle.frame.specs.declared.Frame.{Frame}
-use Rattle.frame.specs.declared.Reading.{Reading}
 use Rattle.frame.specs.declared.Received.{Received}
 use Rattle.octets.specs.Numbers.{split}
 use Rattle.boundary.specs.declared.frame_fields.Fields.{Fields}
+use Rattle.element.specs.declared.tpc_report.TpcReport.{TpcReport}
+use Rattle.element.specs.declared.channel_switch.ChannelSwitch.{ChannelSwitch}
+use Rattle.answer.specs.Faults.{Placed}
 
 -- 1 for yes
 abbrev pub flag : Bool → ℕ
@@ -35,13 +35,13 @@ fields_of (Frame.TpcReport token t) = fields 5 token 0 (with_report no_notice t)
 fields_of (Frame.ChannelSwitch s) = fields 6 0 0 (with_switch no_notice s)
 
 -- what may be absent: 1 and its contents where it is there, and zeros where it is not, as `held_power`
-abbrev pub held_report : MaybeReport → List ℕ
-held_report MaybeReport.Absent = 0 ∷ 0 ∷ 0 ∷ []
-held_report (MaybeReport.Is t) = 1 ∷ tpc_report_contents t
+abbrev pub held_report : Option TpcReport → List ℕ
+held_report None = 0 ∷ 0 ∷ 0 ∷ []
+held_report (Some t) = 1 ∷ tpc_report_contents t
 
-abbrev pub held_switch : MaybeSwitch → List ℕ
-held_switch MaybeSwitch.Absent = 0 ∷ 0 ∷ 0 ∷ 0 ∷ []
-held_switch (MaybeSwitch.Is s) = 1 ∷ switch_contents s
+abbrev pub held_switch : Option ChannelSwitch → List ℕ
+held_switch None = 0 ∷ 0 ∷ 0 ∷ 0 ∷ []
+held_switch (Some s) = 1 ∷ switch_contents s
 
 -- kind, to all ones, token; measurement elements (8), Quiet elements (8), timestamp (8), capability (2); constraint (2), TPC Report (3),
 -- announcement (4)
@@ -52,9 +52,9 @@ field_octets f to_all quiets =
     ++ held_power f.notice.power ++ held_report f.notice.report ++ held_switch f.notice.switch
 
 -- of what was received, or its refusal
-abbrev pub reading_fields : Reading → Bool → ℕ → Outcome (List ℕ)
-reading_fields (Reading.Refused x) to_all quiets = refused x.refusal
-reading_fields (Reading.Is f) to_all quiets = accepted (field_octets (fields_of f) to_all quiets)
+abbrev pub reading_fields : Placed Frame → Bool → ℕ → Outcome (List ℕ)
+reading_fields (Err x) to_all quiets = Err x.refusal
+reading_fields (Ok f) to_all quiets = Ok (field_octets (fields_of f) to_all quiets)
 
 unfoldable pub frame_fields : Received → Outcome (List ℕ)
 frame_fields r = reading_fields r.reading r.broadcast r.count

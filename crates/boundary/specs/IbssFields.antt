@@ -1,6 +1,6 @@
 -- A frame as a station of an IBSS reads it (02, Five), as its fields at fixed places (docs/BOUNDARY.md): 01's, and the sender and element 41 after them.
-use Rattle.std.specs.Prelude.{Bool, List, ◌∷◌, ◌++◌, ℕ}
-use Rattle.answer.specs.Checks.{Outcome, accepted, and_then}
+use Rattle.std.specs.Prelude.{Bool, List, ◌∷◌, ◌++◌, ℕ, Ok}
+use Rattle.answer.specs.Checks.{Outcome, and_then}
 use Rattle.answer.specs.Faults.{Placed}
 use Rattle.element.specs.declared.ibss_dfs.IbssDfs.{IbssDfs}
 use Rattle.element.specs.declared.quiet.Quiet.{Quiet}
@@ -21,12 +21,12 @@ with_sender h os = os ++ h.sender ++ held_dfs h.names h.dfs
 
 -- of what was received, or its refusal
 unfoldable pub ibss_fields : ReceivedInIbss → Outcome (List ℕ)
-ibss_fields h = and_then (frame_fields h.received) (λ os. accepted (with_sender h os))
+ibss_fields h = and_then (frame_fields h.received) (λ os. Ok (with_sender h os))
 
 -- ---- a Quiet element by its index, of what 01 reads of the frame
 
 abbrev pub sent_in : Placed SentInIbss → Placed Sent
-sent_in o = and_then o (λ s. accepted s.sent)
+sent_in o = and_then o (λ s. Ok s.sent)
 
 abbrev pub quiet_in_ibss : ℕ → Placed SentInIbss → Outcome Quiet
 quiet_in_ibss i o = quiet_of i (sent_in o)

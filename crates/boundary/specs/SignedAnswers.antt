@@ -1,10 +1,10 @@
 -- What a call gives back as its caller reads it, a signed number of 64 bits (docs/BOUNDARY.md): 0 or more, or minus a refusal's number.
-use Rattle.std.specs.Prelude.{List, ◌≡◌, ℕ, ◌<◌, ◌≤◌, ◌^◌}
+use Rattle.std.specs.Prelude.{List, ◌≡◌, ℕ, ◌<◌, ◌≤◌, ◌^◌, Ok, Err}
 use borrow.Fn.Kinds.{ParamKind, Dens, GoodsP, ended_of, Out, r_num}
 use contract.Lifetimes.{Lfts}
 use denote.Triple.Clauses.{AtExit}
 use Rattle.std.specs.Int.{w64}
-use Rattle.answer.specs.Checks.{Outcome, refused, accepted}
+use Rattle.answer.specs.Checks.{Outcome}
 use Rattle.boundary.specs.Codes.{code_of}
 
 abbrev pub IsNegative : ℕ → Type 0
@@ -12,8 +12,8 @@ IsNegative code = 2 ^ 63 ≤ code
 
 -- an accepted number is 0 or more: one of 2 ^ 63 or more would be read as a refusal's
 abbrev pub InRange : Outcome ℕ → Type 0
-InRange (refused r) = Unit {0}
-InRange (accepted n) = n < 2 ^ 63
+InRange (Err r) = Unit {0}
+InRange (Ok n) = n < 2 ^ 63
 
 -- the number stands for one outcome, and one under 0 leaves every lent octet as it was
 pub record Answers (code : ℕ) (lent left : List ℕ) : Type 0 where

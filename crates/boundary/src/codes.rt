@@ -1,11 +1,10 @@
 // What a call gives back: a number of 0 or more, or a refusal as minus its number, in the 64 bits of a signed number.
 ghost use Rattle.std.specs.Prelude.{◌≡◌};
-ghost use Rattle.octets.specs.Writing.{wrote_told};
 ghost use Rattle.boundary.specs.Codes.{code_of, refusal_code, address_of};
 ghost use Rattle.boundary.specs.Stations.{answer_told, verdict_told};
 
-use answer::{Answer, Refusal, Verdict};
-use octets::Wrote;
+use answer::Refusal;
+use answer::Fault;
 
 pub fn refused(refusal: Refusal) -> u64
     ensures { result ≡ refusal_code refusal }
@@ -13,33 +12,33 @@ pub fn refused(refusal: Refusal) -> u64
     18446744073709551615 - ((refusal.number() - 1) as u64)
 }
 
-pub fn wrote(answer: Wrote) -> u64
-    ensures { result ≡ code_of (wrote_told answer) }
+pub fn wrote(answer: Result<usize, Refusal>) -> u64
+    ensures { result ≡ code_of (answer) }
 {
     match answer {
-        Wrote::Refused(refusal) => refused(refusal),
-        Wrote::Length(count) => count as u64,
+        Err(refusal) => refused(refusal),
+        Ok(count) => count as u64,
     }
 }
 
-pub fn answered(answer: Answer) -> u64
+pub fn answered(answer: Result<(), Refusal>) -> u64
     ensures { result ≡ code_of (answer_told answer) }
 {
     match answer {
-        Answer::Refused(refusal) => refused(refusal),
-        Answer::Accepted => 0,
+        Err(refusal) => refused(refusal),
+        Ok(()) => 0,
     }
 }
 
-pub fn judged(verdict: Verdict) -> u64
+pub fn judged(verdict: Result<(), Fault>) -> u64
     ensures { result ≡ code_of (verdict_told verdict) }
 {
     match verdict {
-        Verdict::Refused(fault) => {
+        Err(fault) => {
             let refusal = fault.refusal;
             refused(refusal)
         }
-        Verdict::Accepted => 0,
+        Ok(()) => 0,
     }
 }
 

@@ -11,7 +11,6 @@ use element::quiet::Quiet;
 use measurement_element::measurement_report::{Reason, Report};
 use measurement_element::measurement_request::Request;
 use measurement_element::{Found, Span, measurement_report, measurement_request};
-use octets::Wrote;
 
 // Where the span of a request stands, and that of a report with its densities, and how many octets the fields of each are.
 const REQUEST_SPAN: usize = 5;
@@ -25,7 +24,7 @@ const DENSITIES: usize = 15;
 const REPORT: usize = 23;
 
 // A Quiet element as in its contents: count, period, duration, offset.
-pub fn put_quiet(quiet: Quiet, out: &mut [u8]) -> Wrote
+pub fn put_quiet(quiet: Quiet, out: &mut [u8]) -> Result<usize, Refusal>
     ensures { Written true (quiet_contents quiet) 0 out.old result out.new }
 {
     let duration = octets::octets16(quiet.duration);
@@ -42,7 +41,7 @@ pub fn put_quiet(quiet: Quiet, out: &mut [u8]) -> Wrote
 }
 
 // A pair of element 41.
-pub fn put_pair(pair: ChannelMap, out: &mut [u8]) -> Wrote
+pub fn put_pair(pair: ChannelMap, out: &mut [u8]) -> Result<usize, Refusal>
     ensures { Written true (pair_fields pair) 0 out.old result out.new }
 {
     let fields = [pair.channel, pair.map];
@@ -84,11 +83,11 @@ fn asked_by(matter: measurement_request::Matter) -> Asked
 }
 
 // Refuses a buffer that is too short before anything is put.
-pub fn put_request(request: Request, out: &mut [u8]) -> Wrote
+pub fn put_request(request: Request, out: &mut [u8]) -> Result<usize, Refusal>
     ensures { Written true (request_fields request) 0 out.old result out.new }
 {
     if out.len() < REQUEST {
-        return Wrote::Refused(Refusal::BufferShort);
+        return Err(Refusal::BufferShort);
     }
     let matter = request.matter;
     let asked = asked_by(matter);
@@ -102,7 +101,7 @@ pub fn put_request(request: Request, out: &mut [u8]) -> Wrote
     octets::put(true, &front, out, 0);
     let span = asked.span.to_octets();
     octets::put(true, &span, out, REQUEST_SPAN);
-    Wrote::Length(REQUEST)
+    Ok(REQUEST)
 }
 
 // What is said, by the numbers that a writer takes; the value is the map or the busy fraction.
@@ -166,11 +165,11 @@ fn said_by(matter: measurement_report::Matter) -> Said
 }
 
 // Refuses a buffer that is too short before anything is put.
-pub fn put_report(report: Report, out: &mut [u8]) -> Wrote
+pub fn put_report(report: Report, out: &mut [u8]) -> Result<usize, Refusal>
     ensures { Written true (report_fields report) 0 out.old result out.new }
 {
     if out.len() < REPORT {
-        return Wrote::Refused(Refusal::BufferShort);
+        return Err(Refusal::BufferShort);
     }
     let matter = report.matter;
     let said = said_by(matter);
@@ -180,5 +179,5 @@ pub fn put_report(report: Report, out: &mut [u8]) -> Wrote
     octets::put(true, &span, out, REPORT_SPAN);
     let densities = report.densities;
     octets::put(true, &densities, out, DENSITIES);
-    Wrote::Length(REPORT)
+    Ok(REPORT)
 }

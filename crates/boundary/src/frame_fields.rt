@@ -4,9 +4,10 @@ ghost use Rattle.octets.specs.Writing.{Written};
 ghost use Rattle.boundary.specs.FrameFields.{flag, fields, fields_of, held_report, held_switch, field_octets};
 
 use answer::Refusal;
-use beacon::{MaybeReport, MaybeSwitch, Notice};
+use beacon::Notice;
 use frame::Frame;
-use octets::Wrote;
+use element::tpc_report::TpcReport;
+use element::channel_switch::ChannelSwitch;
 
 // Where each field stands, and how many octets they are. The kind is followed by whether the frame went to all ones and by the dialog token.
 const KIND: usize = 0;
@@ -61,7 +62,7 @@ pub fn of_frame(frame: Frame) -> Fields
         }
         Frame::TpcRequest { token } => common(4, token, 0, Notice::NOTHING),
         Frame::TpcReport { token, report } => {
-            let report = MaybeReport::Is(report);
+            let report = Some(report);
             let notice = Notice {
                 report,
                 ..Notice::NOTHING
@@ -69,7 +70,7 @@ pub fn of_frame(frame: Frame) -> Fields
             common(5, token, 0, notice)
         }
         Frame::ChannelSwitch(switch) => {
-            let switch = MaybeSwitch::Is(switch);
+            let switch = Some(switch);
             let notice = Notice {
                 switch,
                 ..Notice::NOTHING
@@ -80,12 +81,12 @@ pub fn of_frame(frame: Frame) -> Fields
 }
 
 // What may be absent: 1 and its contents where it is there, and zeros where it is not, as a Power Constraint (`MaybePower::to_octets`).
-fn held_report(report: MaybeReport) -> [u8; 3]
+fn held_report(report: Option<TpcReport>) -> [u8; 3]
     ensures { result ≡ held_report report }
 {
     match report {
-        MaybeReport::Absent => [0, 0, 0],
-        MaybeReport::Is(told) => {
+        None => [0, 0, 0],
+        Some(told) => {
             let power = told.power;
             let margin = told.margin;
             [1, octets::from_signed(power), octets::from_signed(margin)]
@@ -93,12 +94,12 @@ fn held_report(report: MaybeReport) -> [u8; 3]
     }
 }
 
-fn held_switch(switch: MaybeSwitch) -> [u8; 4]
+fn held_switch(switch: Option<ChannelSwitch>) -> [u8; 4]
     ensures { result ≡ held_switch switch }
 {
     match switch {
-        MaybeSwitch::Absent => [0, 0, 0, 0],
-        MaybeSwitch::Is(announcement) => [
+        None => [0, 0, 0, 0],
+        Some(announcement) => [
             1,
             announcement.mode,
             announcement.channel,
@@ -115,11 +116,11 @@ pub fn flag(answer: bool) -> u8
 }
 
 // Refuses a buffer that is too short before anything is put.
-pub fn put(fields: Fields, broadcast: bool, quiets: u64, out: &mut [u8]) -> Wrote
+pub fn put(fields: Fields, broadcast: bool, quiets: u64, out: &mut [u8]) -> Result<usize, Refusal>
     ensures { Written true (field_octets fields broadcast quiets) 0 out.old result out.new }
 {
     if out.len() < LENGTH {
-        return Wrote::Refused(Refusal::BufferShort);
+        return Err(Refusal::BufferShort);
     }
     let notice = fields.notice;
     let power = notice.power;
@@ -141,5 +142,5 @@ pub fn put(fields: Fields, broadcast: bool, quiets: u64, out: &mut [u8]) -> Wrot
     octets::put(true, &report, out, REPORT);
     let switch = held_switch(switch);
     octets::put(true, &switch, out, SWITCH);
-    Wrote::Length(LENGTH)
+    Ok(LENGTH)
 }

@@ -1,6 +1,6 @@
 // Frames as a station of an IBSS reads them (document 02, Five), put as fields at fixed places (docs/BOUNDARY.md), from the front of the buffer on.
-ghost use Rattle.std.specs.Prelude.{◌≡◌};
-ghost use Rattle.answer.specs.Checks.{and_then, accepted};
+ghost use Rattle.std.specs.Prelude.{◌≡◌, Ok};
+ghost use Rattle.answer.specs.Checks.{and_then};
 ghost use Rattle.element.specs.Quiet.{quiet_contents};
 ghost use Rattle.frame.specs.IbssFrames.{ibss_frame_means, pair_of};
 ghost use Rattle.frame.specs.IbssLaid.{ibss_laid};
@@ -10,7 +10,6 @@ ghost use Rattle.boundary.specs.FaultOffsets.{fault_offset};
 ghost use Rattle.boundary.specs.IbssFields.{ibss_fields, quiet_in_ibss};
 
 use crate::{codes, element_fields, ibss_fields, received};
-use element::ibss_dfs::Pair;
 
 #[unsafe(no_mangle)]
 pub extern "C" fn oneiralth_read_ibss_frame(
@@ -56,7 +55,7 @@ pub extern "C" fn oneiralth_read_ibss_quiet(
     index: usize,
     out: &mut [u8],
 ) -> u64
-    ensures { Given (and_then (quiet_in_ibss index (ibss_frame_means (address_of own) (address_of bssid) interval frame.now)) (λ q. accepted (quiet_contents q))) out.old result out.new }
+    ensures { Given (and_then (quiet_in_ibss index (ibss_frame_means (address_of own) (address_of bssid) interval frame.now)) (λ q. Ok (quiet_contents q))) out.old result out.new }
 {
     let own = codes::address(own);
     let bssid = codes::address(bssid);
@@ -75,12 +74,12 @@ pub extern "C" fn oneiralth_read_dfs_pair(
     index: usize,
     out: &mut [u8],
 ) -> u64
-    ensures { Given (and_then (pair_of index (ibss_frame_means (address_of own) (address_of bssid) interval frame.now)) (λ p. accepted (pair_fields p))) out.old result out.new }
+    ensures { Given (and_then (pair_of index (ibss_frame_means (address_of own) (address_of bssid) interval frame.now)) (λ p. Ok (pair_fields p))) out.old result out.new }
 {
     let own = codes::address(own);
     let bssid = codes::address(bssid);
     match frame::dfs_pair_at(frame, own, bssid, interval, index) {
-        Pair::Refused(refusal) => codes::refused(refusal),
-        Pair::Is(pair) => codes::wrote(element_fields::put_pair(pair, out)),
+        Err(refusal) => codes::refused(refusal),
+        Ok(pair) => codes::wrote(element_fields::put_pair(pair, out)),
     }
 }

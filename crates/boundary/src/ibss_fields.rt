@@ -6,7 +6,7 @@ ghost use Rattle.boundary.specs.IbssFields.{held_dfs, ibss_fields};
 use crate::{frame_fields, received};
 use element::ibss_dfs::IbssDfs;
 use frame::ReceivedInIbss;
-use octets::Wrote;
+use answer::Refusal;
 
 // Where the sender and element 41 stand, after document 01's fields, and how many octets they all are.
 const SENDER: usize = 38;
@@ -42,7 +42,7 @@ fn held_dfs(names: bool, dfs: IbssDfs) -> [u8; 16]
 }
 
 // They are put together first, since the frame's refusal comes before that of a short buffer.
-pub fn put(heard: ReceivedInIbss, out: &mut [u8]) -> Wrote
+pub fn put(heard: ReceivedInIbss, out: &mut [u8]) -> Result<usize, Refusal>
     ensures { Replied (ibss_fields heard) out.old result out.new }
 {
     let known = heard.received;
@@ -51,8 +51,8 @@ pub fn put(heard: ReceivedInIbss, out: &mut [u8]) -> Wrote
     let dfs = held_dfs(heard.names, named);
     let mut fields = [0u8; LENGTH];
     match received::put_frame(known, &mut fields) {
-        Wrote::Refused(refusal) => Wrote::Refused(refusal),
-        Wrote::Length(_) => {
+        Err(refusal) => Err(refusal),
+        Ok(_) => {
             octets::put(true, &sender, &mut fields, SENDER);
             octets::put(true, &dfs, &mut fields, DFS);
             octets::put(true, &fields, out, 0)

@@ -5,17 +5,14 @@ ghost use Rattle.fraction.specs.Fractions.{busy_of, densities_of};
 ghost use Rattle.boundary.specs.Codes.{code_of, Given};
 
 use crate::codes;
-use answer::Answer;
-use channel::Frequency;
-use fraction::Fraction;
 
 #[unsafe(no_mangle)]
 pub extern "C" fn oneiralth_centre(channel: u8) -> u64
     ensures { result ≡ code_of (centre_of channel) }
 {
     match channel::centre(channel) {
-        Frequency::Refused(refusal) => codes::refused(refusal),
-        Frequency::Megahertz(megahertz) => megahertz as u64,
+        Err(refusal) => codes::refused(refusal),
+        Ok(megahertz) => megahertz as u64,
     }
 }
 
@@ -24,8 +21,8 @@ pub extern "C" fn oneiralth_busy_fraction(busy: u32, duration: u16) -> u64
     ensures { result ≡ code_of (busy_of duration busy) }
 {
     match fraction::busy_fraction(busy, duration) {
-        Fraction::Refused(refusal) => codes::refused(refusal),
-        Fraction::Is(fraction) => fraction as u64,
+        Err(refusal) => codes::refused(refusal),
+        Ok(fraction) => fraction as u64,
     }
 }
 
@@ -49,7 +46,7 @@ pub extern "C" fn oneiralth_rpi_densities(
     let answer = densities.answer;
     let values = densities.values;
     match answer {
-        Answer::Refused(refusal) => codes::refused(refusal),
-        Answer::Accepted => codes::wrote(octets::put(true, &values, out, 0)),
+        Err(refusal) => codes::refused(refusal),
+        Ok(()) => codes::wrote(octets::put(true, &values, out, 0)),
     }
 }

@@ -1,6 +1,6 @@
 // Frames and measurement elements, put as fields at fixed places (docs/BOUNDARY.md), from the front of the buffer on.
-ghost use Rattle.std.specs.Prelude.{◌≡◌};
-ghost use Rattle.answer.specs.Checks.{and_then, accepted};
+ghost use Rattle.std.specs.Prelude.{◌≡◌, Ok};
+ghost use Rattle.answer.specs.Checks.{and_then};
 ghost use Rattle.element.specs.Quiet.{quiet_contents};
 ghost use Rattle.frame.specs.Frames.{frame_means, element_of, request_in, report_in};
 ghost use Rattle.frame.specs.Laid.{frame_laid};
@@ -10,7 +10,6 @@ ghost use Rattle.boundary.specs.FaultOffsets.{fault_offset};
 ghost use Rattle.boundary.specs.FrameFields.{frame_fields};
 
 use crate::{codes, element_fields, received};
-use answer::Answer;
 use measurement_element::measurement_request;
 
 #[unsafe(no_mangle)]
@@ -51,7 +50,7 @@ pub extern "C" fn oneiralth_read_quiet(
     index: usize,
     out: &mut [u8],
 ) -> u64
-    ensures { Given (and_then (quiet_of index (frame_means (address_of own) (address_of ap) interval frame.now)) (λ q. accepted (quiet_contents q))) out.old result out.new }
+    ensures { Given (and_then (quiet_of index (frame_means (address_of own) (address_of ap) interval frame.now)) (λ q. Ok (quiet_contents q))) out.old result out.new }
 {
     let own = codes::address(own);
     let ap = codes::address(ap);
@@ -68,13 +67,13 @@ pub extern "C" fn oneiralth_read_request(
     index: usize,
     out: &mut [u8],
 ) -> u64
-    ensures { Given (and_then (element_of request_in index (frame_means (address_of own) (address_of ap) interval frame.now)) (λ q. accepted (request_fields q))) out.old result out.new }
+    ensures { Given (and_then (element_of request_in index (frame_means (address_of own) (address_of ap) interval frame.now)) (λ q. Ok (request_fields q))) out.old result out.new }
 {
     let own = codes::address(own);
     let ap = codes::address(ap);
     match frame::request_at(frame, own, ap, interval, index) {
-        measurement_request::Reading::Refused(refusal) => codes::refused(refusal),
-        measurement_request::Reading::Is(request) => {
+        Err(refusal) => codes::refused(refusal),
+        Ok(request) => {
             codes::wrote(element_fields::put_request(request, out))
         }
     }
@@ -89,7 +88,7 @@ pub extern "C" fn oneiralth_read_report(
     index: usize,
     out: &mut [u8],
 ) -> u64
-    ensures { Given (and_then (element_of report_in index (frame_means (address_of own) (address_of ap) interval frame.now)) (λ q. accepted (report_fields q))) out.old result out.new }
+    ensures { Given (and_then (element_of report_in index (frame_means (address_of own) (address_of ap) interval frame.now)) (λ q. Ok (report_fields q))) out.old result out.new }
 {
     let own = codes::address(own);
     let ap = codes::address(ap);
@@ -97,7 +96,7 @@ pub extern "C" fn oneiralth_read_report(
     let answer = reading.answer;
     let report = reading.report;
     match answer {
-        Answer::Refused(refusal) => codes::refused(refusal),
-        Answer::Accepted => { codes::wrote(element_fields::put_report(report, out)) }
+        Err(refusal) => codes::refused(refusal),
+        Ok(()) => { codes::wrote(element_fields::put_report(report, out)) }
     }
 }

@@ -1,6 +1,6 @@
 // A station in the caller's own memory (document 02, Eight), thin over `station_record`. A range that holds no station is refused with 16.
-ghost use Rattle.std.specs.Prelude.{◌∷◌, [], ◌≡◌};
-ghost use Rattle.answer.specs.Checks.{accepted, and_then};
+ghost use Rattle.std.specs.Prelude.{◌∷◌, [], ◌≡◌, Ok};
+ghost use Rattle.answer.specs.Checks.{and_then};
 ghost use Rattle.answer.specs.Faults.{without_place};
 ghost use Rattle.reply.specs.Replies.{tpc_reply, measurement_reply};
 ghost use Rattle.station.specs.Asking.{permission_number};
@@ -13,7 +13,6 @@ ghost use Rattle.boundary.specs.Given.{tpc_given};
 ghost use Rattle.boundary.specs.Stations.{OnStation};
 
 use crate::{codes, given, replies};
-use answer::Answer;
 use measured_report::Readings;
 use station_record::Asked;
 
@@ -58,11 +57,11 @@ pub extern "C" fn oneiralth_station_advance(station: &mut [u8], units: u32) -> u
 // The number of the answer.
 #[unsafe(no_mangle)]
 pub extern "C" fn oneiralth_station_ask(station: &[u8], units: u32) -> u64
-    ensures { result ≡ code_of (and_then (asked_in units station.now) (λ p. accepted (permission_number p))) }
+    ensures { result ≡ code_of (and_then (asked_in units station.now) (λ p. Ok (permission_number p))) }
 {
     match station_record::ask(station, units) {
-        Asked::Refused(refusal) => codes::refused(refusal),
-        Asked::Is(permission) => permission.number() as u64,
+        Err(refusal) => codes::refused(refusal),
+        Ok(permission) => permission.number() as u64,
     }
 }
 
@@ -80,8 +79,8 @@ pub extern "C" fn oneiralth_station_reply_to_tpc_request(
     let answer = held.answer;
     let keeps = held.station;
     match answer {
-        Answer::Refused(refusal) => codes::refused(refusal),
-        Answer::Accepted => {
+        Err(refusal) => codes::refused(refusal),
+        Ok(()) => {
             let report = given::tpc(power, margin);
             let own = keeps.own;
             let ap = keeps.ap;
@@ -113,8 +112,8 @@ pub extern "C" fn oneiralth_station_reply_to_measurement_request(
     let answer = held.answer;
     let keeps = held.station;
     match answer {
-        Answer::Refused(refusal) => codes::refused(refusal),
-        Answer::Accepted => {
+        Err(refusal) => codes::refused(refusal),
+        Ok(()) => {
             let finding = replies::finding(found, value);
             let readings = Readings {
                 finding,

@@ -8,7 +8,6 @@ ghost use Rattle.boundary.specs.CodeTerms.Passing.{Passed};
 
 use answer::Refusal;
 use capture::Lister;
-use octets::Wrote;
 
 // Where a pass over the blocks stands: whether their lines fit the buffer so far, how many octets they are, and the lister.
 #[derive(Clone, Copy)]
@@ -58,8 +57,8 @@ fn pass_block(
     let wrote = listing.wrote;
     let next = listing.lister;
     match wrote {
-        Wrote::Length(many) => put_lines(next, &room[..many], store, out, count),
-        Wrote::Refused(_) => Progress {
+        Ok(many) => put_lines(next, &room[..many], store, out, count),
+        Err(_) => Progress {
             fits: false,
             count,
             lister,
@@ -94,12 +93,12 @@ fn pass_all(file: &[u8], store: bool, out: &mut [u8]) -> Progress
 
 // The list of a capture, from the front of the buffer on, or nothing where the buffer is too short. The blocks are passed twice: once to see
 // whether their lines fit, and once to store them.
-pub fn list(file: &[u8], out: &mut [u8]) -> Wrote
+pub fn list(file: &[u8], out: &mut [u8]) -> Result<usize, Refusal>
     ensures { Written true (list_of file.now) 0 out.old result out.new }
 {
     let lines = pass_all(file, false, out);
     if !lines.fits {
-        return Wrote::Refused(Refusal::BufferShort);
+        return Err(Refusal::BufferShort);
     }
     let lister = lines.lister;
     let closing = lister.closing();
@@ -107,10 +106,10 @@ pub fn list(file: &[u8], out: &mut [u8]) -> Wrote
     let last = closing.count;
     let count = lines.count;
     if out.len() - count < last {
-        return Wrote::Refused(Refusal::BufferShort);
+        return Err(Refusal::BufferShort);
     }
     let total = count + last;
     pass_all(file, true, out);
     octets::put(true, &bytes[..last], out, count);
-    Wrote::Length(total)
+    Ok(total)
 }

@@ -1,8 +1,8 @@
 -- What the list says of an advance, by its clock. Assumes nothing.
+use Rattle.std.specs.Prelude.{Ok}
 use mathlib.Core.Bool.{Bool, true}
 use mathlib.Core.Path.{◌≡◌, ap, ◌∙◌}
 use Prim.Native.Nat.{ℕ}
-use Rattle.answer.specs.declared.Answer.{Answer}
 use Rattle.capture_record.specs.Entries.{advancing}
 use Rattle.pen.specs.declared.words.Word.{Word}
 use Rattle.station.proofs.StaysValid.{advanced}
@@ -24,7 +24,7 @@ module _ (l : Lister) (e : l.active ≡ true) (v : Valid l.station) (n : ℕ) wh
   as_followed s = ap (λ (b : Bool). with_station l b s) e
 
   module _ (t : ℕ) (k : clock_advance l.station.clock l.station.pending n ≡ Advanced.Goes t) where
-    pub clock_line : line (clocked_at l t) Word.Advance (Response.Call Answer.Accepted) ≡ noted l (advancing n)
+    pub clock_line : line (clocked_at l t) Word.Advance (Response.Call (Ok tt)) ≡ noted l (advancing n)
     clock_line =
-        ap (λ (x : Lister). line x Word.Advance (Response.Call Answer.Accepted)) (as_followed (with_clock l.station t))
+        ap (λ (x : Lister). line x Word.Advance (Response.Call (Ok tt))) (as_followed (with_clock l.station t))
         ∙ ap (stepped l) (advanced l.station n (Advanced.Goes t) k v).0 ∙ an_advance l e n

@@ -1,4 +1,5 @@
 -- A file's blocks one after the other, and how many there were. Assumes nothing.
+use Rattle.std.specs.Prelude.{Ok, Err}
 use mathlib.Core.Bool.{Bool, true, false}
 use mathlib.Core.List.{List, [], ◌∷◌, ◌++◌}
 use mathlib.Core.Path.{◌≡◌, refl, sym, ap, ap₂, ◌∙◌}
@@ -8,7 +9,7 @@ use borrow.Author.Tests.{leb-false}
 use lib.Dec.{leb}
 use lib.ListN.{length, take, drop, length-drop, drop_of_length-le}
 use lib.Seq.{take_all, drop-drop, take-append-le, drop-append-le}
-use Rattle.answer.specs.Checks.{Outcome, refused, accepted, pick}
+use Rattle.answer.specs.Checks.{Outcome, pick}
 use Rattle.block.specs.Blocks.{block_size, end_after, used_part, block_means}
 use Rattle.block.specs.declared.Block.{Block}
 use Rattle.capture_record.specs.Entries.{Noted, malformed, starting, advancing, hearing, asking, entry_means}
@@ -70,8 +71,8 @@ cut_at_block os rest = by (length os) os (omega arith)
 -- ---- a block counts as one
 
 started_blocks : (l : Lister) (o : Outcome Station) → (started l o).lister.blocks ≡ l.blocks
-started_blocks l (refused r) = refl
-started_blocks l (accepted s) = refl
+started_blocks l (Err r) = refl
+started_blocks l (Ok s) = refl
 
 either_blocks : (l : Lister) (test : Bool) (t u : Told) → t.lister.blocks ≡ l.blocks → u.lister.blocks ≡ l.blocks → (pick test t u).lister.blocks ≡ l.blocks
 either_blocks l true t u e f = e

@@ -1,4 +1,5 @@
 -- The lines of plain records, one after the other. Assumes nothing.
+use Rattle.std.specs.Prelude.{Ok, Some, None, Option}
 use mathlib.Core.Bool.{Bool, true, false, not, ◌||◌, ◌&&◌}
 use mathlib.Core.List.{List, [], ◌++◌, append-nil}
 use mathlib.Core.Path.{◌≡◌, refl, sym, ap, ap₂, ◌∙◌, subst}
@@ -9,7 +10,6 @@ use lib.Dec.{ltb, leb, eqb}
 use lib.ListN.{length, take, drop, length-append, take-append-drop}
 use Rattle.answer.proofs.Booleans.{clash}
 use Rattle.answer.specs.Checks.{pick}
-use Rattle.answer.specs.declared.Answer.{Answer}
 use Rattle.capture_record.specs.Entries.{Noted, advancing, asking}
 use Rattle.capture_record.specs.Records.{Records, records_in}
 use Rattle.octets.proofs.Storing.{over_length}
@@ -21,7 +21,6 @@ use Rattle.pen.specs.Penning.{Ready, Penned}
 use Rattle.pen.specs.Rooms.{line_room}
 use Rattle.pen.specs.declared.Pen.{Pen}
 use Rattle.pen.specs.declared.words.Word.{Word}
-use Rattle.pending.specs.declared.Pending.{Pending}
 use Rattle.station.proofs.Clearing.{later_clear, clear_granted}
 use Rattle.station.proofs.StaysValid.{advanced}
 use Rattle.station.specs.Asking.{permission_of}
@@ -38,6 +37,7 @@ use Rattle.capture.specs.declared.response.Response.{Response}
 use Rattle.capture.proofs.Advancing.{clock_line}
 use Rattle.capture.proofs.Answering.{an_ask}
 use Rattle.capture.proofs.Recording.{before_before}
+use Rattle.pending.specs.declared.Switch.{Switch}
 
 -- ---- a line more
 
@@ -55,7 +55,7 @@ over_none n out =
 pub clocked_there : (l : Lister) (t : ℕ) → l.station.clock ≡ t → clocked_at l t ≡ l
 clocked_there l t e = ap (clocked_at l) (sym e)
 
-module _ (used : List ℕ) (start : ℕ) (active : Bool) (t : ℕ) (p : Pending) (c : ℕ) (begun : Pen) (out digits : List ℕ) where
+module _ (used : List ℕ) (start : ℕ) (active : Bool) (t : ℕ) (p : Option Switch) (c : ℕ) (begun : Pen) (out digits : List ℕ) where
   pub ran_none : Spells begun.lines digits begun.from → start ≤ length used
       → RanFrom used start active t p c begun out (record { at = start; clock = t; pen = begun }) digits out
   ran_none s h =
@@ -88,7 +88,7 @@ known_granted_lem t c n e = by (eqb n 0) refl e
         some (suc m) g = omega arith
 
 -- an advance does not go back
-no_earlier : (t : ℕ) (p : Pending) (n later : ℕ) → clock_advance t p n ≡ Advanced.Goes later → t ≤ later
+no_earlier : (t : ℕ) (p : Option Switch) (n later : ℕ) → clock_advance t p n ≡ Advanced.Goes later → t ≤ later
 unfolding clock_advance
 no_earlier t p n later e = by_test_lem (ltb unit_limit n || ltb clock_limit (t + n)) e
   where
@@ -97,9 +97,9 @@ no_earlier t p n later e = by_test_lem (ltb unit_limit n || ltb clock_limit (t +
     goes Advanced.Refused = 0
     goes (Advanced.Switches u channel) = 0
 
-    by_pending : (q : Pending) → reached (t + n) q ≡ Advanced.Goes later → t ≤ later
-    by_pending Pending.Nothing f = omega (arith, ap goes f)
-    by_pending (Pending.Switch x) f = by_switch (ltb (t + n) x.at) f
+    by_pending : (q : Option Switch) → reached (t + n) q ≡ Advanced.Goes later → t ≤ later
+    by_pending None f = omega (arith, ap goes f)
+    by_pending (Some x) f = by_switch (ltb (t + n) x.at) f
       where
         by_switch : (b : Bool) → pick b (Advanced.Goes (t + n)) (Advanced.Switches (t + n) x.channel) ≡ Advanced.Goes later → t ≤ later
         by_switch true g = omega (arith, ap goes g)
@@ -121,10 +121,10 @@ then_more used at end x l n good =
     ∙ ap (λ (b : Bool). pick b (bad_record l) (before (noted l x).text (recorded (records_in (drop end used)) (noted l x).lister))) good
 
 -- the same station with a count of lines
-renumbered : {l : Lister} {active : Bool} {t : ℕ} {p : Pending} {c : ℕ} (n : ℕ) → Watched l active t p c → Watched (with_lines l n) active t p c
+renumbered : {l : Lister} {active : Bool} {t : ℕ} {p : Option Switch} {c : ℕ} (n : ℕ) → Watched l active t p c → Watched (with_lines l n) active t p c
 renumbered n w = record { same = w.same; clock = w.clock; pending = w.pending; valid = w.valid; clear = w.clear }
 
-module _ {used : List ℕ} {start t : ℕ} {p : Pending} {c : ℕ} {begun : Pen} {out : List ℕ} {r : Ran} {digits exit : List ℕ}
+module _ {used : List ℕ} {start t : ℕ} {p : Option Switch} {c : ℕ} {begun : Pen} {out : List ℕ} {r : Ran} {digits exit : List ℕ}
     (big : begun.count + line_room * lines_left (length used - start) ≤ length out) (i : RanFrom used start true t p c begun out r digits exit) where
   -- the buffer keeps its length
   pub ran_size : length exit ≡ length out
@@ -178,18 +178,18 @@ module _ {used : List ℕ} {start t : ℕ} {p : Pending} {c : ℕ} {begun : Pen}
 
 -- ---- an advance, and a question
 
-module _ {used : List ℕ} {start t : ℕ} {p : Pending} {c : ℕ} {begun : Pen} {out : List ℕ} {r : Ran} {digits exit : List ℕ}
+module _ {used : List ℕ} {start t : ℕ} {p : Option Switch} {c : ℕ} {begun : Pen} {out : List ℕ} {r : Ran} {digits exit : List ℕ}
     (big : begun.count + line_room * lines_left (length used - start) ≤ length out) (i : RanFrom used start true t p c begun out r digits exit)
     (n end : ℕ) (pen : Pen) (digits' exit' : List ℕ) where
   -- the clock at `later`
   module _ (later : ℕ) (e : clock_advance r.clock p n ≡ Advanced.Goes later) where
     goes : (l : Lister) → Watched l true r.clock p c → clock_advance l.station.clock l.station.pending n ≡ Advanced.Goes later
-    goes l w = ap₂ (λ (u : ℕ) (q : Pending). clock_advance u q n) w.clock w.pending ∙ e
+    goes l w = ap₂ (λ (u : ℕ) (q : Option Switch). clock_advance u q n) w.clock w.pending ∙ e
 
-    pub ran_advance : Notes used r.at end (advancing n) → Penned (answer_line (r.pen.lines + 1) Word.Advance (Response.Call Answer.Accepted)) r.pen exit pen digits' exit'
+    pub ran_advance : Notes used r.at end (advancing n) → Penned (answer_line (r.pen.lines + 1) Word.Advance (Response.Call (Ok tt))) r.pen exit pen digits' exit'
         → RanFrom used start true t p c begun out (record { at = end; clock = later; pen = pen }) digits' exit'
     ran_advance m =
-        ran_on big i (advancing n) Word.Advance (Response.Call Answer.Accepted) later end m refl
+        ran_on big i (advancing n) Word.Advance (Response.Call (Ok tt)) later end m refl
         (λ l w. clock_line l w.same (w.valid refl) n later (goes l w))
         (λ l w.
         record {

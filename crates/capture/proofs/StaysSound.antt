@@ -1,11 +1,11 @@
 -- What a record leaves of the lister. Assumes nothing.
+use Rattle.std.specs.Prelude.{Ok, Err}
 use mathlib.Core.Bool.{false}
 use mathlib.Core.Path.{◌≡◌, refl, sym, ap, ◌∙◌}
 use Prim.Native.Nat.{ℕ}
 use native.Mathlib.Omega.{arith}
 use Rattle.answer.proofs.Booleans.{clash}
-use Rattle.answer.specs.Checks.{Outcome, refused, accepted}
-use Rattle.answer.specs.declared.Answer.{Answer}
+use Rattle.answer.specs.Checks.{Outcome}
 use Rattle.answer.specs.declared.Refusal.{Refusal}
 use Rattle.pen.specs.declared.words.Word.{Word}
 use Rattle.station.specs.Validity.{Valid}
@@ -29,16 +29,16 @@ sound_following l s v = record { sound = record { followed = λ e. v; idle = λ 
 
 -- the answer of a start, and the station after it
 module _ (l : Lister) (o : Outcome Station) (x : Started) (e : x ≡ Starting.started o) where
-  pub start_accepted : x.answer ≡ Answer.Accepted → line (following l x.station) Word.Start (Response.Call x.answer) ≡ started l o
+  pub start_accepted : x.answer ≡ Ok tt → line (following l x.station) Word.Start (Response.Call x.answer) ≡ started l o
   start_accepted f = by_outcome o e
     where
       by_outcome : (p : Outcome Station) → x ≡ Starting.started p → line (following l x.station) Word.Start (Response.Call x.answer) ≡ started l p
-      by_outcome (refused r) g = absurd (let h : Answer.Refused r ≡ Answer.Accepted = sym (ap (λ (y : Started). y.answer) g) ∙ f in let z : ◌≡◌ {A = ℕ} 0 1 = cc in omega arith)
-      by_outcome (accepted s) g = ap (λ (y : Started). line (following l y.station) Word.Start (Response.Call y.answer)) g
+      by_outcome (Err r) g = absurd (let h : Err r ≡ Ok tt = sym (ap (λ (y : Started). y.answer) g) ∙ f in let z : ◌≡◌ {A = ℕ} 0 1 = cc in omega arith)
+      by_outcome (Ok s) g = ap (λ (y : Started). line (following l y.station) Word.Start (Response.Call y.answer)) g
 
-  pub start_refused : (r : Refusal) → x.answer ≡ Answer.Refused r → line (without l) Word.Start (Response.Call x.answer) ≡ started l o
+  pub start_refused : (r : Refusal) → x.answer ≡ Err r → line (without l) Word.Start (Response.Call x.answer) ≡ started l o
   start_refused r f = by_outcome o e
     where
       by_outcome : (p : Outcome Station) → x ≡ Starting.started p → line (without l) Word.Start (Response.Call x.answer) ≡ started l p
-      by_outcome (refused q) g = ap (λ (y : Started). line (without l) Word.Start (Response.Call y.answer)) g
-      by_outcome (accepted s) g = absurd (let h : Answer.Accepted ≡ Answer.Refused r = sym (ap (λ (y : Started). y.answer) g) ∙ f in let z : ◌≡◌ {A = ℕ} 0 1 = cc in omega arith)
+      by_outcome (Err q) g = ap (λ (y : Started). line (without l) Word.Start (Response.Call y.answer)) g
+      by_outcome (Ok s) g = absurd (let h : Ok tt ≡ Err r = sym (ap (λ (y : Started). y.answer) g) ∙ f in let z : ◌≡◌ {A = ℕ} 0 1 = cc in omega arith)

@@ -6,7 +6,6 @@ use mathlib.Core.Path.{◌≡◌, refl, sym, ap, ap₂, ◌∙◌, subst}
 use Prim.Native.Nat.{ℕ, ◌≤◌}
 use lib.Dec.{lit≤}
 use Rattle.answer.proofs.Booleans.{clash, either}
-use Rattle.answer.specs.declared.Verdict.{Verdict}
 use Rattle.apart.proofs.Parts.{put_back, put_back_valid, few_rows}
 use Rattle.apart.specs.Apart.{apart_of, whole_of, HoldsSchedules, Makes, HeardAs}
 use Rattle.apart.specs.Columns.{Columns}
@@ -32,6 +31,7 @@ use Rattle.capture.specs.declared.parts.Parts.{Parts}
 use Rattle.capture.specs.declared.response.Response.{Response}
 use Rattle.capture.proofs.Answering.{a_frame}
 use Rattle.capture.proofs.StaysSound.{sound_following}
+use Rattle.answer.specs.Faults.{Verdict}
 
 -- where there is no station, no schedule is in use
 module _ (s : Station) (none : s ≡ blank) where

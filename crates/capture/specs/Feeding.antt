@@ -1,10 +1,9 @@
 -- Feeding blocks (01, "Capture blocks and the evening list"): their lines in front of the buffer, or a refusal in 01's order ("Write: 16, 13"), which leaves lister and
 -- buffer as they are.
-use Rattle.std.specs.Prelude.{List, [], ◌∷◌, ◌≡◌, ℕ, ◌+◌, ◌*◌, ltb, length}
-use Rattle.answer.specs.Checks.{Outcome, refused, accepted, ◌⇒◌, judged}
+use Rattle.std.specs.Prelude.{List, [], ◌∷◌, ◌≡◌, ℕ, ◌+◌, ◌*◌, ltb, length, Ok, Err}
+use Rattle.answer.specs.Checks.{Outcome, ◌⇒◌, judged}
 use Rattle.answer.specs.declared.Refusal.{Refusal}
 use Rattle.octets.specs.Writing.{filled}
-use Rattle.octets.specs.declared.writing.Wrote.{Wrote}
 use Rattle.pen.specs.Rooms.{line_room}
 use Rattle.capture.specs.Listers.{block_limit, most_lines}
 use Rattle.capture.specs.Lists.{Told}
@@ -25,12 +24,12 @@ feed_means l many t size =
 
 -- how many octets the lines are, and the lister after them
 abbrev pub listing_of : Lister → Outcome Told → Listing
-listing_of l (refused r) = record { wrote = Wrote.Refused r; lister = l }
-listing_of l (accepted t) = record { wrote = Wrote.Length (length t.text); lister = t.lister }
+listing_of l (Err r) = record { wrote = Err r; lister = l }
+listing_of l (Ok t) = record { wrote = Ok (length t.text); lister = t.lister }
 
 abbrev pub filled_by : Outcome Told → List ℕ → List ℕ
-filled_by (refused r) out = out
-filled_by (accepted t) out = filled t.text out
+filled_by (Err r) out = out
+filled_by (Ok t) out = filled t.text out
 
 -- what is promised of feeding: the listing, and the buffer as it is left
 pub record FedWith (o : Outcome Told) (l : Lister) (out : List ℕ) (listing : Listing) (exit : List ℕ) : Type 0 where

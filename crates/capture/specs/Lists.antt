@@ -1,10 +1,8 @@
 -- The evening list of a file (01, "Capture blocks and the evening list").
-use Rattle.std.specs.Prelude.{Bool, true, false, List, [], ◌∷◌, ◌++◌, ℕ, zero, suc, ◌+◌, ◌-◌, take}
-use Rattle.answer.specs.Checks.{Outcome, refused, accepted, pick}
+use Rattle.std.specs.Prelude.{Bool, true, false, List, [], ◌∷◌, ◌++◌, ℕ, zero, suc, ◌+◌, ◌-◌, take, Ok, Err, None, Option}
+use Rattle.answer.specs.Checks.{Outcome, pick}
 use Rattle.answer.specs.Faults.{verdict_offset}
 use Rattle.answer.specs.Numbers.{answer_number, verdict_number}
-use Rattle.answer.specs.declared.Answer.{Answer}
-use Rattle.answer.specs.declared.Offset.{Offset}
 use Rattle.answer.specs.declared.Refusal.{Refusal}
 use Rattle.block.specs.Blocks.{block_size, used_part, block_means}
 use Rattle.block.specs.declared.Block.{Block}
@@ -37,13 +35,13 @@ response_number (Response.Call a) = answer_number a
 response_number (Response.Frame v) = verdict_number v
 response_number (Response.Question p) = permission_number p
 
-abbrev pub response_offset : Response → Offset
-response_offset (Response.Call a) = Offset.Absent
+abbrev pub response_offset : Response → Option ℕ
+response_offset (Response.Call a) = None
 response_offset (Response.Frame v) = verdict_offset v
-response_offset (Response.Question p) = Offset.Absent
+response_offset (Response.Question p) = None
 
 abbrev pub refusal : Refusal → Response
-refusal r = Response.Call (Answer.Refused r)
+refusal r = Response.Call (Err r)
 
 -- "number from 1 over the file, word, answer number", and after it the offset
 abbrev pub answer_line : ℕ → Word → Response → List ℕ
@@ -58,8 +56,8 @@ before text t = record { lister = t.lister; text = text ++ t.text }
 -- ---- a record
 
 abbrev pub started : Lister → Outcome Station → Told
-started l (refused r) = line (without l) Word.Start (refusal r)
-started l (accepted s) = line (following l s) Word.Start (Response.Call Answer.Accepted)
+started l (Err r) = line (without l) Word.Start (refusal r)
+started l (Ok s) = line (following l s) Word.Start (Response.Call (Ok tt))
 
 abbrev pub stepped : Lister → Stepped → Told
 stepped l x = line (following l x.station) Word.Advance (Response.Call x.answer)

@@ -9,13 +9,12 @@ ghost use Rattle.capture.specs.Lists.{block_told, blocks_in, blocks_told};
 
 use crate::listing::Put;
 use crate::{Lister, listing};
-use answer::{Answer, Refusal};
-use octets::Wrote;
+use answer::Refusal;
 
 // How many octets of the buffer are lines, or why there are none, and the lister after them: the same as before where there are none.
 #[derive(Clone, Copy)]
 pub struct Listing {
-    pub wrote: Wrote,
+    pub wrote: Result<usize, Refusal>,
     pub lister: Lister,
 }
 
@@ -33,24 +32,24 @@ fn put_block(lister: Lister, block: &[u8], out: &mut [u8]) -> Put
 }
 
 // Whether so many blocks more may be listed into a buffer of so many octets. What the limit and the buffer leave is compared, since a sum or a product could wrap.
-fn room_for(blocks: u64, many: usize, size: usize) -> Answer
+fn room_for(blocks: u64, many: usize, size: usize) -> Result<(), Refusal>
     requires { blocks ≤ block_limit }
     ensures { answer_told result ≡ room_for blocks many size }
 {
     if Lister::BLOCK_LIMIT - blocks < many as u64 {
-        return Answer::Refused(Refusal::Impossible);
+        return Err(Refusal::Impossible);
     }
     if size / Lister::ROOM < many {
-        return Answer::Refused(Refusal::BufferShort);
+        return Err(Refusal::BufferShort);
     }
-    Answer::Accepted
+    Ok(())
 }
 
 fn listed(put: Put) -> Listing
     ensures { result ≡ listed_as put }
 {
     let lister = put.lister;
-    let wrote = Wrote::Length(put.count);
+    let wrote = Ok(put.count);
     Listing { wrote, lister }
 }
 
@@ -62,14 +61,14 @@ impl Lister {
         ensures fits { Fits result.lister }
     {
         match room_for(self.blocks, 1, out.len()) {
-            Answer::Refused(refusal) => {
-                let wrote = Wrote::Refused(refusal);
+            Err(refusal) => {
+                let wrote = Err(refusal);
                 Listing {
                     wrote,
                     lister: self,
                 }
             }
-            Answer::Accepted => listed(put_block(self, block, out)),
+            Ok(()) => listed(put_block(self, block, out)),
         }
     }
 
@@ -80,14 +79,14 @@ impl Lister {
         ensures fits { Fits result.lister }
     {
         match room_for(self.blocks, block::count_in(blocks.len()), out.len()) {
-            Answer::Refused(refusal) => {
-                let wrote = Wrote::Refused(refusal);
+            Err(refusal) => {
+                let wrote = Err(refusal);
                 Listing {
                     wrote,
                     lister: self,
                 }
             }
-            Answer::Accepted => listed(listing::put_blocks(self, blocks, out)),
+            Ok(()) => listed(listing::put_blocks(self, blocks, out)),
         }
     }
 }

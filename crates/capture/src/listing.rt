@@ -10,7 +10,7 @@ ghost use Rattle.capture.specs.Lists.{blocks_in, blocks_told};
 
 use crate::parts::Parts;
 use crate::{Lister, plain};
-use answer::{Offset, Refusal, Verdict};
+use answer::Refusal;
 use beacon::QUIETS;
 use block::Block;
 use capture_record::{Entry, Found};
@@ -121,7 +121,7 @@ pub fn put_blocks(lister: Lister, blocks: &[u8], out: &mut [u8]) -> Put
                 }
                 BlockAt::Damaged { end } => {
                     let number = Refusal::BlockDamaged.number();
-                    pen = pen::put_told(pen, &mut digits, Word::Block, number, Offset::Absent, out);
+                    pen = pen::put_told(pen, &mut digits, Word::Block, number, None, out);
                     parts = parts.without();
                     parts.blocks += 1;
                     parts.damaged += 1;
@@ -138,7 +138,7 @@ pub fn put_blocks(lister: Lister, blocks: &[u8], out: &mut [u8]) -> Put
             },
             Found::Cut => {
                 let number = Refusal::RecordMalformed.number();
-                pen = pen::put_told(pen, &mut digits, Word::Record, number, Offset::Absent, out);
+                pen = pen::put_told(pen, &mut digits, Word::Record, number, None, out);
                 parts = parts.without();
                 at = stop;
             }
@@ -152,10 +152,10 @@ pub fn put_blocks(lister: Lister, blocks: &[u8], out: &mut [u8]) -> Put
                     let next = told.apart;
                     parts.apart = next;
                     match verdict {
-                        Verdict::Accepted => {
+                        Ok(()) => {
                             pen = pen::put_accepted(pen, &mut digits, Word::Frame, out);
                         }
-                        Verdict::Refused(_) => {
+                        Err(_) => {
                             let number = verdict.number();
                             pen = pen::put_told(
                                 pen,

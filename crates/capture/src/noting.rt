@@ -9,7 +9,7 @@ ghost use Rattle.capture.specs.Lists.{bad_record, no_station, noted};
 
 use crate::response::Response;
 use crate::{Lister, lister};
-use answer::{Answer, Refusal};
+use answer::Refusal;
 use capture_record::Entry;
 use pen::Word;
 use station::Station;
@@ -30,7 +30,7 @@ pub fn malformed(lister: Lister) -> Answered
     Answered {
         lister: lister::without(lister),
         word: Word::Record,
-        answer: Response::Call(Answer::Refused(Refusal::RecordMalformed)),
+        answer: Response::Call(Err(Refusal::RecordMalformed)),
     }
 }
 
@@ -46,12 +46,12 @@ fn start(lister: Lister, contents: &[u8]) -> Answered
     let answer = started.answer;
     let station = started.station;
     match answer {
-        Answer::Accepted => Answered {
+        Ok(()) => Answered {
             lister: lister::following(lister, station),
             word: Word::Start,
             answer: Response::Call(answer),
         },
-        Answer::Refused(_) => Answered {
+        Err(_) => Answered {
             lister: lister::without(lister),
             word: Word::Start,
             answer: Response::Call(answer),
@@ -102,7 +102,7 @@ fn unstarted(lister: Lister, word: Word) -> Answered
     Answered {
         lister,
         word,
-        answer: Response::Call(Answer::Refused(Refusal::NoStation)),
+        answer: Response::Call(Err(Refusal::NoStation)),
     }
 }
 

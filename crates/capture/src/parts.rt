@@ -8,7 +8,6 @@ ghost use Rattle.capture.specs.CodeTerms.Parts.{lister_of, PartsOf, NotedAs};
 ghost use Rattle.capture.specs.Listers.{without, Sound};
 
 use crate::{Lister, noting};
-use answer::Offset;
 use apart::Apart;
 use capture_record::Entry;
 use pen::Word;
@@ -27,7 +26,7 @@ pub struct Parts {
 pub struct Noted {
     pub word: Word,
     pub number: u8,
-    pub offset: Offset,
+    pub offset: Option<usize>,
     pub parts: Parts,
     pub clear: u64,
 }

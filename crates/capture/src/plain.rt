@@ -9,8 +9,8 @@ ghost use Rattle.capture.specs.Listers.{line_limit};
 
 use capture_record::{Entry, Found};
 use pen::{Pen, Word};
-use pending::Pending;
 use station::Advanced;
+use pending::Switch;
 
 // What stands at a place of the used part: an advance to a moment, a question that is granted, each with the place where it ends, or another record
 // or none.
@@ -32,7 +32,7 @@ fn is_known_granted(clock: u32, clear: u64, units: u16) -> bool
 }
 
 // An advance that ends at a place.
-fn advance(clock: u32, pending: Pending, units: u16, end: usize) -> Plain
+fn advance(clock: u32, pending: Option<Switch>, units: u16, end: usize) -> Plain
     ensures { result ≡ goes_to (clock_advance clock pending units) end }
 {
     match station::advance_clock(clock, pending, units as u32) {
@@ -46,7 +46,7 @@ fn advance(clock: u32, pending: Pending, units: u16, end: usize) -> Plain
 }
 
 // The record at a place, with the clock at a moment and everything clear up to another.
-fn plain_at(used: &[u8], at: usize, clock: u32, pending: Pending, clear: u64) -> Plain
+fn plain_at(used: &[u8], at: usize, clock: u32, pending: Option<Switch>, clear: u64) -> Plain
     ensures { PlainAt used.now at clock pending clear result }
 {
     match capture_record::record_at(used, at) {
@@ -84,7 +84,7 @@ pub fn run(
     start: usize,
     active: bool,
     moment: u32,
-    pending: Pending,
+    pending: Option<Switch>,
     clear: u64,
     begun: Pen,
     digits: &mut [u8],

@@ -2,15 +2,17 @@
 ghost use Rattle.std.specs.Prelude.{◌≡◌};
 ghost use Rattle.capture.specs.Lists.{response_number, response_offset};
 
-use answer::{Answer, Offset, Verdict};
 use station::Permission;
+use answer::Refusal;
+use answer::Fault;
+use frame::Frame;
 
 #[derive(Clone, Copy)]
 pub enum Response {
     // A refusal, or an accepted call.
-    Call(Answer),
+    Call(Result<(), Refusal>),
     // The verdict on a frame.
-    Frame(Verdict),
+    Frame(Result<(), Fault>),
     // What a question got.
     Question(Permission),
 }
@@ -28,13 +30,13 @@ impl Response {
     }
 
     // Where a frame broke.
-    pub fn offset(self) -> Offset
+    pub fn offset(self) -> Option<usize>
         ensures { result ≡ response_offset self }
     {
         match self {
-            Response::Call(_) => Offset::Absent,
+            Response::Call(_) => None,
             Response::Frame(verdict) => verdict.offset(),
-            Response::Question(_) => Offset::Absent,
+            Response::Question(_) => None,
         }
     }
 }

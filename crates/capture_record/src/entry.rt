@@ -2,6 +2,8 @@
 ghost use Rattle.std.specs.Prelude.{◌≡◌};
 ghost use Rattle.capture_record.specs.Entries.{settings_of, entry_told, entry_means};
 
+use frame::Frame;
+
 // A frame's octets and a start's settings stay in the contents.
 #[derive(Clone, Copy)]
 pub enum Entry {

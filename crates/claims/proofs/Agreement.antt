@@ -1,4 +1,5 @@
 -- The record agrees with the history, field by field, whatever the calls (00, demand 3). Assumes nothing.
+use Rattle.std.specs.Prelude.{Some, None, Option}
 use mathlib.Core.Bool.{true, false}
 use mathlib.Core.List.{List, [], ◌∷◌}
 use mathlib.Core.Logic.{inl, ⊎_elim}
@@ -11,15 +12,12 @@ use lib.Seq.{take_at}
 use Rattle.answer.proofs.Booleans.{either, neither}
 use Rattle.beacon.specs.Allowed.{QuietsAllowed}
 use Rattle.beacon.specs.Beacons.{Told}
-use Rattle.beacon.specs.declared.MaybePower.{MaybePower}
-use Rattle.beacon.specs.declared.MaybeSwitch.{MaybeSwitch}
 use Rattle.element.specs.declared.channel_switch.ChannelSwitch.{ChannelSwitch}
 use Rattle.element.specs.declared.quiet.Quiet.{Quiet}
 use Rattle.frame.specs.Announcements.{announcement_in}
 use Rattle.frame.specs.Actions.{Body, requests, reports, tpc_request, tpc_report, switch}
 use Rattle.frame.specs.Allowed.{KindAllowed}
 use Rattle.frame.specs.Frames.{Kind, beacon, probe_response, action}
-use Rattle.pending.specs.declared.Pending.{Pending}
 use Rattle.station.specs.Clock.{stepped, switched, reached, clock_advance, advanced_to, advance_means, advance_of}
 use Rattle.station.specs.Stations.{in_use, fresh, with_clock, with_until}
 use Rattle.station.specs.Taking.{schedules_of, latest_end, outlasting, rescheduled, constrained, announced, announced_if, informed, heard}
@@ -36,6 +34,8 @@ use Rattle.claims.proofs.OneSaying.{no_switch_said}
 use Rattle.claims.proofs.Others.{channel_changes, power_gone, schedules_gone, channel_stays, power_stays, schedules_stay, power_kept, no_constraint, schedules_replaced}
 use Rattle.claims.proofs.Pendings.{no_switch, pending_stays, pending_gone, pending_new, no_switch_yet, still_nothing, nothing_reached, still_awaited, not_reached, no_longer}
 use Rattle.claims.proofs.StationFollows.{follows, kept}
+use Rattle.element.specs.declared.power_constraint.PowerConstraint.{PowerConstraint}
+use Rattle.pending.specs.declared.Switch.{Switch}
 
 module _ (l : Listener) (sound : Sound l) (pos : 1 ≤ l.interval) where
   -- ---- at the beginning
@@ -100,7 +100,7 @@ module _ (l : Listener) (sound : Sound l) (pos : 1 ≤ l.interval) where
         (channel : ChannelIs l h x.channel) (pending : PendingIs l h x.pending)
         (power : NoSwitch l c h → PowerIs l (c ∷ h) x.power) (schedules : NoSwitch l c h → SchedulesAre l (c ∷ h) (in_use x))
         (until : NoSwitch l c h → UntilIs l (c ∷ h) x.until) where
-      silent_frame : announcement_in k ≡ MaybeSwitch.Absent → Agreeing l (c ∷ h) x
+      silent_frame : announcement_in k ≡ None → Agreeing l (c ∷ h) x
       silent_frame e =
           let none : NoAnnouncement l c h = λ w y. no_switch_said (sym e ∙ ap announcement_in (sound.one_kind c h k y.0 hears y.1) ∙ y.2) in
           let calm = no_switch l sound pos c h still none in
@@ -114,7 +114,7 @@ module _ (l : Listener) (sound : Sound l) (pos : 1 ≤ l.interval) where
             until_told = until calm;
           }
 
-      module _ (w : ChannelSwitch) (e : announcement_in k ≡ MaybeSwitch.Is w) where
+      module _ (w : ChannelSwitch) (e : announcement_in k ≡ Some w) where
         says : Announces l c h w
         says = (k, hears, e)
 
@@ -154,9 +154,9 @@ module _ (l : Listener) (sound : Sound l) (pos : 1 ≤ l.interval) where
             (λ (n : eqb w.count 0 ≡ false). announces_later n)
             (either (eqb w.count 0))
 
-      announces_if : (m : MaybeSwitch) → announcement_in k ≡ m → Agreeing l (c ∷ h) (announced_if x m)
-      announces_if MaybeSwitch.Absent e = silent_frame e
-      announces_if (MaybeSwitch.Is w) e = announces w e
+      announces_if : (m : Option ChannelSwitch) → announcement_in k ≡ m → Agreeing l (c ∷ h) (announced_if x m)
+      announces_if None e = silent_frame e
+      announces_if (Some w) e = announces w e
 
     -- ---- a beacon or a probe response
 
@@ -179,14 +179,14 @@ module _ (l : Listener) (sound : Sound l) (pos : 1 ≤ l.interval) where
           subst (λ (t : ℕ). UntilIs l (c ∷ h) (latest_end t r.until (in_use r))) (sym a.same_clock)
           (until_replaced l c h calm r.until a.until_told sound pos said tells (in_use r) a.schedules_told)
 
-      notices : (m : MaybePower) → said.notice.power ≡ m → Agreeing l (c ∷ h) (announced_if (constrained replaced m) (announcement_in k))
-      notices MaybePower.Absent e =
+      notices : (m : Option PowerConstraint) → said.notice.power ≡ m → Agreeing l (c ∷ h) (announced_if (constrained replaced m) (announcement_in k))
+      notices None e =
           announces_if c k replaced still hears a.same_interval a.same_clock
           a.channel_told a.pending_told
           (λ calm. power_stays l c h calm (no_constraint l c h calm said tells sound e) r.power a.power_told_lem)
           new_schedules runs_on (announcement_in k) refl
-      notices (MaybePower.Is p) e =
-          announces_if c k (constrained replaced (MaybePower.Is p)) still hears a.same_interval
+      notices (Some p) e =
+          announces_if c k (constrained replaced (Some p)) still hears a.same_interval
           a.same_clock a.channel_told a.pending_told
           (λ calm. power_kept l c h calm said tells p e)
           new_schedules runs_on (announcement_in k) refl
@@ -199,7 +199,7 @@ module _ (l : Listener) (sound : Sound l) (pos : 1 ≤ l.interval) where
       still_frame = refl
 
       -- an action frame but the announcement
-      changes_nothing : (body : Body) → l.hears (frame f) h (action body) → announcement_in (action body) ≡ MaybeSwitch.Absent → Agreeing l (frame f ∷ h) r
+      changes_nothing : (body : Body) → l.hears (frame f) h (action body) → announcement_in (action body) ≡ None → Agreeing l (frame f ∷ h) r
       changes_nothing body hears e =
           idle (frame f) still_frame
           (λ w y. no_switch_said (sym e ∙ ap announcement_in (sound.one_kind (frame f) h (action body) y.0 hears y.1) ∙ y.2))
@@ -220,7 +220,7 @@ module _ (l : Listener) (sound : Sound l) (pos : 1 ≤ l.interval) where
           (λ calm. power_stays l (frame f) h calm (λ p x. silent x.0 x.1) r.power a.power_told_lem)
           (λ calm. schedules_stay l (frame f) h calm silent (in_use r) a.schedules_told)
           (λ calm. until_stays l (frame f) h calm r.until a.until_told silent)
-          (MaybeSwitch.Is w) refl
+          (Some w) refl
         where
           silent : (said : Told) → Tells l (frame f) h said → ⊥
           silent said y = subst (λ (z : Kind). Says z said) (sound.one_kind (frame f) h y.0 (action (switch w)) y.1 hears) y.2
@@ -250,7 +250,7 @@ module _ (l : Listener) (sound : Sound l) (pos : 1 ≤ l.interval) where
             until_told = until_stays l (advance n) h calm r.until a.until_told silence;
           }
 
-      meets : (w : ChannelSwitch) → Switches l (advance n) h w → PendingIs l (advance n ∷ h) Pending.Nothing
+      meets : (w : ChannelSwitch) → Switches l (advance n) h w → PendingIs l (advance n ∷ h) None
           → Agreeing l (advance n ∷ h) (switched (with_clock r t) w.channel)
       meets w x pending =
           record {
@@ -266,13 +266,13 @@ module _ (l : Listener) (sound : Sound l) (pos : 1 ≤ l.interval) where
       reaches : Agreeing l (advance n ∷ h) (stepped r (advanced_to r (reached t r.pending))).station
       reaches = by_pending r.pending refl
         where
-          by_pending : (p : Pending) → r.pending ≡ p → Agreeing l (advance n ∷ h) (stepped r (advanced_to r (reached t p))).station
-          by_pending Pending.Nothing e =
+          by_pending : (p : Option Switch) → r.pending ≡ p → Agreeing l (advance n ∷ h) (stepped r (advanced_to r (reached t p))).station
+          by_pending None e =
               let before = subst (PendingIs l h) e a.pending_told in
               goes_on (nothing_reached l sound pos (advance n) h onward nobody before)
               (subst (PendingIs l (advance n ∷ h)) (sym e) (still_nothing l sound pos (advance n) h onward nobody before))
-          by_pending (Pending.Switch q) e =
-              let before : PendingIs l h (Pending.Switch q) = subst (PendingIs l h) e a.pending_told in
+          by_pending (Some q) e =
+              let before : PendingIs l h (Some q) = subst (PendingIs l h) e a.pending_told in
               let w = before.0 in
               ⊎_elim
               (λ (y : ltb t q.at ≡ true).

@@ -1,16 +1,16 @@
 -- An announcement that a station of an IBSS obeys comes from the address that the latest accepted beacon with element 41 names, that of its own frame first (02, Five). Assumes
 -- nothing.
+use Rattle.std.specs.Prelude.{Ok, Some}
 use mathlib.Core.Bool.{Bool, true, false, not, ◌&&◌}
 use mathlib.Core.List.{List, ◌∷◌}
 use mathlib.Core.Path.{◌≡◌, refl, sym, ap, ◌∙◌, subst}
 use Prim.Native.Nat.{ℕ}
 use native.Mathlib.Omega.{arith}
 use borrow.Author.Tests.{not-false}
-use Rattle.answer.specs.Checks.{accepted, pick}
+use Rattle.answer.specs.Checks.{pick}
 use Rattle.beacon.specs.Beacons.{Told}
 use Rattle.beacon.specs.IbssBeacons.{MaybeDfs}
 use Rattle.beacon.specs.Notices.{has_switch}
-use Rattle.beacon.specs.declared.MaybeSwitch.{MaybeSwitch}
 use Rattle.capture_record.specs.declared.entry.Settings.{Settings}
 use Rattle.element.specs.declared.channel_switch.ChannelSwitch.{ChannelSwitch}
 use Rattle.frame.specs.Announcements.{announcement_in}
@@ -38,8 +38,8 @@ still_owner t (reigns r) a e = by (same a r.owner)
     by true = (r.recovery, (sym (same_is a r.owner e), refl))
     by false = (r.recovery, (sym (same_is a r.owner e), refl))
 
-module _ (s : Settings) (f : List ℕ) (h : History) (x : SentInIbss) (e : read_as s f ≡ accepted x) (ours : foreign_to (clock_after h) (reigning s h) x ≡ false) (w : ChannelSwitch)
-    (announces : announcement_in x.sent.kind ≡ MaybeSwitch.Is w) where
+module _ (s : Settings) (f : List ℕ) (h : History) (x : SentInIbss) (e : read_as s f ≡ Ok x) (ours : foreign_to (clock_after h) (reigning s h) x ≡ false) (w : ChannelSwitch)
+    (announces : announcement_in x.sent.kind ≡ Some w) where
   abbrev t : ℕ
   t = clock_after h
 

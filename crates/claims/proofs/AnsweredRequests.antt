@@ -1,5 +1,6 @@
 -- Each due request has a reply, and a buffer that is long enough takes it (01, "Replies"): every TPC Request, whatever the report, and every element of a
 -- Measurement Request but Enable elements, whatever the clock. Assumes nothing.
+use Rattle.std.specs.Prelude.{Ok, Err}
 use mathlib.Core.Bool.{Bool, true, false}
 use mathlib.Core.List.{List}
 use mathlib.Core.Logic.{◌⊎◌, inl, inr}
@@ -11,7 +12,7 @@ use lib.Dec.{eqb}
 use lib.ListN.{length, length-append}
 use Rattle.answer.proofs.Booleans.{neither}
 use Rattle.answer.proofs.Judged.{never}
-use Rattle.answer.specs.Checks.{Outcome, accepted, checked, and_then}
+use Rattle.answer.specs.Checks.{Outcome, checked, and_then}
 use Rattle.element.specs.TpcReport.{tpc_report_octets}
 use Rattle.element.specs.declared.tpc_report.TpcReport.{TpcReport}
 use Rattle.frame.specs.Actions.{Body, requests, tpc_request}
@@ -31,8 +32,7 @@ use Rattle.measurement_element.specs.declared.measurement_request.Matter as Asks
 use Rattle.measurement_element.specs.declared.measurement_request.Request.{Request}
 use Rattle.measurement_element.specs.declared.span.Span.{Span}
 use Rattle.octets.proofs.Storing.{room_answer, front_left}
-use Rattle.octets.specs.Writing.{wrote_told, wrote, filled}
-use Rattle.octets.specs.declared.writing.Wrote.{Wrote}
+use Rattle.octets.specs.Writing.{wrote, filled}
 use Rattle.reply.proofs.Framed.{head_length_lem}
 use Rattle.reply.proofs.OneReport.{body, short_body}
 use Rattle.reply.specs.Due.{asks, breaks, due_means}
@@ -51,12 +51,12 @@ use Rattle.claims.specs.PossibleReadings.{AsAsked, basic, cca, rpi, Possible, in
 -- one that is owed and may be written
 record Writable (clock : ℕ) (readings : Readings) (q : Request) : Type 0 where
   report : Report
-  owes : report_for clock readings q ≡ accepted report
+  owes : report_for clock readings q ≡ Ok report
   may : report_may report ≡ true
 
 module _ {times : List ℕ} where
   as_found : {kind : ℕ} {finding : Finding} {x : Found} {ds : List ℕ} (token : ℕ) (s : Span) → AsAsked s.duration times kind finding x ds
-      → found token kind s finding times ≡ accepted (record { token = token; kind = kind; matter = Matter.Measured s x; densities = ds })
+      → found token kind s finding times ≡ Ok (record { token = token; kind = kind; matter = Matter.Measured s x; densities = ds })
   as_found token s (basic h k) = refl
   as_found token s (cca e) = rw e
   as_found token s (rpi e) = rw e
@@ -69,7 +69,7 @@ module _ {times : List ℕ} where
   may_carry token s allowed (rpi e) = rw allowed
 
 module _ (clock : ℕ) (readings : Readings) (q : Request) (allowed : request_forbids q ≡ false) where
-  unmeasured : (reason : Reason) → report_for clock readings q ≡ accepted (plain q.token q.kind (Matter.NotMeasured reason)) → Writable clock readings q
+  unmeasured : (reason : Reason) → report_for clock readings q ≡ Ok (plain q.token q.kind (Matter.NotMeasured reason)) → Writable clock readings q
   unfolding report_may
   unmeasured reason e = record { report = plain q.token q.kind (Matter.NotMeasured reason); owes = e; may = refl }
 
@@ -103,19 +103,19 @@ refusing_possible clock q measures = by q.matter refl measures
 
 -- ---- into a buffer that is long enough
 
-told_length : (w : Wrote) (n : ℕ) → wrote_told w ≡ accepted n → w ≡ Wrote.Length n
-told_length (Wrote.Refused r) n e = absurd (never e)
-told_length (Wrote.Length m) n e = ap Wrote.Length (let same : m ≡ n = cc in same)
+told_length : (w : Outcome ℕ) (n : ℕ) → w ≡ Ok n → w ≡ Ok n
+told_length (Err r) n e = absurd (never e)
+told_length (Ok m) n e = ap Ok (let same : m ≡ n = cc in same)
 
-put_in_front : {o : Outcome (List ℕ)} {os buffer exit : List ℕ} {answer : Wrote} → Replied o buffer answer exit → o ≡ accepted os → length os ≤ length buffer
-    → (answer ≡ Wrote.Length (length os)) × (exit ≡ filled os buffer)
+put_in_front : {o : Outcome (List ℕ)} {os buffer exit : List ℕ} {answer : Outcome ℕ} → Replied o buffer answer exit → o ≡ Ok os → length os ≤ length buffer
+    → (answer ≡ Ok (length os)) × (exit ≡ filled os buffer)
 put_in_front {os = os} {buffer = buffer} {answer = answer} w e h = (
   told_length answer (length os) (w.answers ∙ ap (λ (x : Outcome (List ℕ)). and_then x (λ xs. wrote true xs 0 buffer)) e ∙ room_answer os 0 buffer (omega arith)),
   w.leaves ∙ ap (λ (x : Outcome (List ℕ)). left_by x buffer) e ∙ front_left os buffer h,
 )
 
 module _ (own ap' f : List ℕ) where
-  reply_length : (asked : Body) → due_means own ap' f ≡ accepted (asks asked) → (os : List ℕ) → length (reply_frame own ap' os) ≡ header_length + length os
+  reply_length : (asked : Body) → due_means own ap' f ≡ Ok (asks asked) → (os : List ℕ) → length (reply_frame own ap' os) ≡ header_length + length os
   reply_length asked d os =
       let a = owed_by_station own ap' f (asks asked) d in
       length-append (head_to own ap' ap') os ∙ ap (λ (n : ℕ). n + length os) (head_length_lem own ap' ap' (ap length (sym a.to_station)) (ap length (sym a.from_ap)) (ap length (sym a.from_ap)))
@@ -123,15 +123,15 @@ module _ (own ap' f : List ℕ) where
   -- ---- TPC Requests
 
   module _ (report : TpcReport) where
-    tpc_called : (buffer exit : List ℕ) (answer : Wrote) → TpcCall own ap' f report buffer exit answer → Replied (tpc_reply own ap' report f) buffer answer exit
+    tpc_called : (buffer exit : List ℕ) (answer : Outcome ℕ) → TpcCall own ap' f report buffer exit answer → Replied (tpc_reply own ap' report f) buffer answer exit
     tpc_called buffer exit answer (κs, a, e, promised, of_frame, of-own, of-ap, of-report, lent, left) =
         let same : tpc_reply a.1.0 a.1.1.0 a.1.1.1.0 a.0.now ≡ tpc_reply own ap' report f = cc in
         subst₃ (λ (o : Outcome (List ℕ)) (b x : List ℕ). Replied o b answer x) same lent left promised
 
-    pub tpc_answered : (token : ℕ) → due_means own ap' f ≡ accepted (asks (tpc_request token)) → Answered (tpc_reply own ap' report f) (TpcCall own ap' f report)
+    pub tpc_answered : (token : ℕ) → due_means own ap' f ≡ Ok (asks (tpc_request token)) → Answered (tpc_reply own ap' report f) (TpcCall own ap' f report)
     unfolding tpc_reply_in tpc_report_octets
     tpc_answered token d =
-        let given : tpc_reply own ap' report f ≡ accepted (reply_frame own ap' (tpc_report_body token report)) = rw d in
+        let given : tpc_reply own ap' report f ≡ Ok (reply_frame own ap' (tpc_report_body token report)) = rw d in
         record {
           octets = reply_frame own ap' (tpc_report_body token report);
           given = given;
@@ -142,20 +142,20 @@ module _ (own ap' f : List ℕ) where
   -- ---- elements of Measurement Requests
 
   module _ (clock index : ℕ) where
-    element_called : (readings : Readings) (buffer exit : List ℕ) (answer : Wrote) → MeasurementCall own ap' f clock index readings buffer exit answer
+    element_called : (readings : Readings) (buffer exit : List ℕ) (answer : Outcome ℕ) → MeasurementCall own ap' f clock index readings buffer exit answer
         → Replied (measurement_reply own ap' clock index readings f) buffer answer exit
     element_called readings buffer exit answer (κs, a, e, promised, of_frame, of-own, of-ap, of-clock, of-index, of-readings, lent, left) =
         let same : measurement_reply a.1.0 a.1.1.0 a.1.1.1.0 a.1.1.1.1.0 a.1.1.1.1.1.0 a.0.now ≡ measurement_reply own ap' clock index readings f = cc in
         subst₃ (λ (o : Outcome (List ℕ)) (b x : List ℕ). Replied o b answer x) same lent left promised
 
-    module _ (readings : Readings) (token : ℕ) (rs : List Request) (q : Request) (due : due_means own ap' f ≡ accepted (asks (requests token rs))) (at : nth index rs ≡ accepted q) where
+    module _ (readings : Readings) (token : ℕ) (rs : List Request) (q : Request) (due : due_means own ap' f ≡ Ok (asks (requests token rs))) (at : nth index rs ≡ Ok q) where
       -- with all possible readings
       pub element_answered : length readings.times ≡ 8 → Possible clock readings q → Answered (measurement_reply own ap' clock index readings f) (MeasurementCall own ap' f clock index readings)
       unfolding measurement_reply_in checked
       element_answered eight possible =
           let w = writable clock readings q (element_allowed own ap' f token rs index q due at) possible in
           let x = w.report in
-          let given : measurement_reply own ap' clock index readings f ≡ accepted (reply_frame own ap' (body token x)) = rw (due, at, w.owes, w.may) in
+          let given : measurement_reply own ap' clock index readings f ≡ Ok (reply_frame own ap' (body token x)) = rw (due, at, w.owes, w.may) in
           record {
             octets = reply_frame own ap' (body token x);
             given = given;
@@ -164,7 +164,7 @@ module _ (own ap' f : List ℕ) where
           }
 
       -- and with no others
-      pub only_possible : (os : List ℕ) → measurement_reply own ap' clock index readings f ≡ accepted os → Possible clock readings q
+      pub only_possible : (os : List ℕ) → measurement_reply own ap' clock index readings f ≡ Ok os → Possible clock readings q
       only_possible os e = by (measurement_parts own ap' f os clock index readings e)
         where
           by : MeasurementParts own ap' f os clock index readings ⊎ ReturnParts own ap' f os → Possible clock readings q
@@ -176,6 +176,6 @@ module _ (own ap' f : List ℕ) where
           by (inr p) = absurd (let k : breaks p.body ≡ asks (requests token rs) = accepted_once (sym p.due ∙ due) in let z : ◌≡◌ {A = ℕ} 0 1 = cc in omega arith)
 
     -- so each element but Enable has a reply, whatever was found: a station may always refuse
-    pub each_element_answered : (token : ℕ) (rs : List Request) (q : Request) → due_means own ap' f ≡ accepted (asks (requests token rs)) → nth index rs ≡ accepted q
+    pub each_element_answered : (token : ℕ) (rs : List Request) (q : Request) → due_means own ap' f ≡ Ok (asks (requests token rs)) → nth index rs ≡ Ok q
         → (IsEnable q.matter → ⊥) → Answered (measurement_reply own ap' clock index refusing f) (MeasurementCall own ap' f clock index refusing)
     each_element_answered token rs q due at measures = element_answered refusing token rs q due at refl (refusing_possible clock q measures)

@@ -1,4 +1,5 @@
 -- Each answer to a question, by the history (00, demand 3; 01, "The station"). Assumes nothing.
+use Rattle.std.specs.Prelude.{Some, None, Option}
 use mathlib.Core.Bool.{Bool, true, false}
 use mathlib.Core.Logic.{inl, inr, ⊎_elim, ◌↔◌}
 use mathlib.Core.Path.{◌≡◌, refl, sym, ap, ◌∙◌, subst}
@@ -10,7 +11,6 @@ use lib.Dec.{ltb, eqb}
 use Rattle.answer.proofs.Booleans.{clash, either}
 use Rattle.element.specs.declared.channel_switch.ChannelSwitch.{ChannelSwitch}
 use Rattle.pending.specs.Waiting.{silences, up_to, comes_before}
-use Rattle.pending.specs.declared.Pending.{Pending}
 use Rattle.schedule.proofs.FirstUnit.{found, some_one}
 use Rattle.station.specs.Asking.{first_of, quiet, quiet_between, permission_number, permission_of}
 use Rattle.station.specs.declared.Station.{Station}
@@ -25,6 +25,7 @@ use Rattle.claims.proofs.Following.{Sound}
 use Rattle.claims.proofs.OneSaying.{announced_one, pending_one}
 use Rattle.claims.proofs.QuietUnits.{quiet_unit, unit_quiet}
 use Rattle.claims.proofs.StationFollows.{sound}
+use Rattle.pending.specs.declared.Switch.{Switch}
 
 -- a test that says whether something holds
 record Tells-whether (t : Bool) (P : Type 0) : Type 0 where
@@ -41,8 +42,8 @@ module _ {t : Bool} {P : Type 0} (x : Tells-whether t P) where
 module _ (l : Listener) (sound : Sound l) (pos : 1 ≤ l.interval) (h : History) (r : Station) (a : Agreeing l h r) where
   -- ---- the pending switch
 
-  abbrev awaited : ℕ → ChannelSwitch → Pending
-  awaited at w = Pending.Switch (record { at = at; mode = w.mode; channel = w.channel })
+  abbrev awaited : ℕ → ChannelSwitch → Option Switch
+  awaited at w = Some (record { at = at; mode = w.mode; channel = w.channel })
 
   pending_of : (at : ℕ) (w : ChannelSwitch) → Awaits l h at w → r.pending ≡ awaited at w
   pending_of at w x = pending_one l sound pos h r.pending (awaited at w) a.pending_told (w, x, refl, refl)
@@ -50,20 +51,20 @@ module _ (l : Listener) (sound : Sound l) (pos : 1 ≤ l.interval) (h : History)
   waits : Tells-whether (silences r.pending) (Waits l h)
   waits = record { holds = λ e. by_pending r.pending a.pending_told e; shows = λ x. ap silences (pending_of x.0 x.1 x.2) ∙ eq-eqb x.1.mode 1 x.3 }
     where
-      by_pending : (p : Pending) → PendingIs l h p → silences p ≡ true → Waits l h
-      by_pending Pending.Nothing y e = clash (sym e)
-      by_pending (Pending.Switch q) (w, y, m, c) e = (q.at, w, y, m ∙ eqb-true q.mode 1 e)
+      by_pending : (p : Option Switch) → PendingIs l h p → silences p ≡ true → Waits l h
+      by_pending None y e = clash (sym e)
+      by_pending (Some q) (w, y, m, c) e = (q.at, w, y, m ∙ eqb-true q.mode 1 e)
 
   within : (n : ℕ) → Tells-whether (comes_before r.pending (r.clock + n)) (SwitchWithin l h n)
   within n =
       record {
         holds = λ e. by_pending r.pending a.pending_told e;
-        shows = λ x. ap (λ (p : Pending). comes_before p (r.clock + n)) (pending_of x.0 x.1 x.2) ∙ lt-ltb x.0 (r.clock + n) (omega (arith, x.3, a.same_clock));
+        shows = λ x. ap (λ (p : Option Switch). comes_before p (r.clock + n)) (pending_of x.0 x.1 x.2) ∙ lt-ltb x.0 (r.clock + n) (omega (arith, x.3, a.same_clock));
       }
     where
-      by_pending : (p : Pending) → PendingIs l h p → comes_before p (r.clock + n) ≡ true → SwitchWithin l h n
-      by_pending Pending.Nothing y e = clash (sym e)
-      by_pending (Pending.Switch q) (w, y, m, c) e = (q.at, w, y, omega (arith, ltb-true q.at (r.clock + n) e, a.same_clock))
+      by_pending : (p : Option Switch) → PendingIs l h p → comes_before p (r.clock + n) ≡ true → SwitchWithin l h n
+      by_pending None y e = clash (sym e)
+      by_pending (Some q) (w, y, m, c) e = (q.at, w, y, omega (arith, ltb-true q.at (r.clock + n) e, a.same_clock))
 
   -- ---- the quiet units
 
@@ -75,12 +76,12 @@ module _ (l : Listener) (sound : Sound l) (pos : 1 ≤ l.interval) (h : History)
       }
 
   -- before the end, and before the pending switch, if any
-  abbrev Before : Pending → ℕ → ℕ → Type 0
+  abbrev Before : Option Switch → ℕ → ℕ → Type 0
   Before p e u = (u < e) × ((at : ℕ) (w : ChannelSwitch) → Awaits l h at w → u < at)
 
-  up_to_lem : (p : Pending) (e u : ℕ) → PendingIs l h p → u < up_to p e → Before p e u
-  up_to_lem Pending.Nothing e u y lt = (lt, λ at w x. absurd (y at w x))
-  up_to_lem (Pending.Switch q) e u y lt =
+  up_to_lem : (p : Option Switch) (e u : ℕ) → PendingIs l h p → u < up_to p e → Before p e u
+  up_to_lem None e u y lt = (lt, λ at w x. absurd (y at w x))
+  up_to_lem (Some q) e u y lt =
       ⊎_elim
       (λ (z : ltb q.at e ≡ true). let k : u < q.at = simp z at lt in (omega (arith, ltb-true q.at e z), λ at w x. omega (arith, same at w x)))
       (λ (z : ltb q.at e ≡ false). let k : u < e = simp z at lt in (k, λ at w x. omega (arith, same at w x, ltb-false q.at e z)))
@@ -89,9 +90,9 @@ module _ (l : Listener) (sound : Sound l) (pos : 1 ≤ l.interval) (h : History)
       same : (at : ℕ) (w : ChannelSwitch) → Awaits l h at w → q.at ≡ at
       same at w x = ap (λ (z : ℕ × ChannelSwitch). z.0) (announced_one l sound pos h (q.at, y.0) (at, w) y.1.0 x.0)
 
-  up_to_back : (p : Pending) (e u : ℕ) → PendingIs l h p → Before p e u → u < up_to p e
-  up_to_back Pending.Nothing e u y b = b.0
-  up_to_back (Pending.Switch q) e u y b =
+  up_to_back : (p : Option Switch) (e u : ℕ) → PendingIs l h p → Before p e u → u < up_to p e
+  up_to_back None e u y b = b.0
+  up_to_back (Some q) e u y b =
       ⊎_elim
       (λ (z : ltb q.at e ≡ true). simp z (b.1 q.at y.0 y.1))
       (λ (z : ltb q.at e ≡ false). simp z b.0)

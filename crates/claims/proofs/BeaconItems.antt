@@ -1,5 +1,6 @@
 -- Bodies of beacons and probe responses over the plain list of their elements (01, "Octets": whole elements but 32, 35, 37 and 40 are skipped;
 -- "Wrong programs that look right": only the first, or only the last, Quiet element is kept). Assumes nothing.
+use Rattle.std.specs.Prelude.{Ok, Err, Some, Option}
 use mathlib.Core.Bool.{Bool, true, false}
 use mathlib.Core.List.{List, [], ◌∷◌, ◌++◌}
 use mathlib.Core.Logic.{◌↔◌}
@@ -9,7 +10,7 @@ use native.Mathlib.Omega.{arith}
 use borrow.Author.Tests.{eq-eqb, eqb-true, eqb-false, ne_eqb, le-ltb, ltb-false, lt-leb, not-false}
 use lib.Dec.{leb, eqb}
 use lib.ListN.{length, drop, length-append}
-use Rattle.answer.specs.Checks.{Outcome, refused, accepted, checked, and_then}
+use Rattle.answer.specs.Checks.{Outcome, checked, and_then}
 use Rattle.answer.specs.Faults.{placed_at}
 use Rattle.answer.specs.declared.Refusal.{Refusal}
 use Rattle.answer.proofs.Placing.{placed_value}
@@ -17,9 +18,6 @@ use Rattle.answer.proofs.Judged.{never, passed, stands, kept, followed, past, th
 use Rattle.beacon.proofs.Allowing.{beacon_allowed}
 use Rattle.beacon.specs.Beacons.{Told, opening, fixed_length, quiet_limit, without_margin, element_means, adds, takes, says, beacon_means}
 use Rattle.beacon.specs.Notices.{has_power, has_report, has_switch}
-use Rattle.beacon.specs.declared.MaybePower.{MaybePower}
-use Rattle.beacon.specs.declared.MaybeReport.{MaybeReport}
-use Rattle.beacon.specs.declared.MaybeSwitch.{MaybeSwitch}
 use Rattle.beacon.specs.declared.elements.Element.{Element}
 use Rattle.element.specs.ChannelSwitch.{switch_means}
 use Rattle.element.specs.PowerConstraint.{power_means}
@@ -35,11 +33,13 @@ use Rattle.claims.proofs.NoticeFields.{one_power, one_report, one_switch, same_t
 use Rattle.claims.proofs.ReadItems.{Grows, grows_none, grew_none, grows_all, grew_all, grows_first, grew_first, the_one, was_the_one}
 use Rattle.claims.proofs.RunItems.{walk_whole}
 use Rattle.claims.proofs.Same.{accepted_once}
+use Rattle.element.specs.declared.power_constraint.PowerConstraint.{PowerConstraint}
+use Rattle.element.specs.declared.channel_switch.ChannelSwitch.{ChannelSwitch}
 
-made : {A B C : Type 0} (o : Outcome A) (make : A → B) (next : B → Outcome C) (r : C) → and_then (and_then o (λ a. accepted (make a))) next ≡ accepted r
-    → (a : A) × (o ≡ accepted a) × (next (make a) ≡ accepted r)
-made (refused x) make next r e = absurd (never e)
-made (accepted a) make next r e = (a, refl, e)
+made : {A B C : Type 0} (o : Outcome A) (make : A → B) (next : B → Outcome C) (r : C) → and_then (and_then o (λ a. Ok (make a))) next ≡ Ok r
+    → (a : A) × (o ≡ Ok a) × (next (make a) ≡ Ok r)
+made (Err x) make next r e = absurd (never e)
+made (Ok a) make next r e = (a, refl, e)
 
 -- an ID is one of these four, or another
 by_id : (P : ℕ → Type 0) → P 32 → P 35 → P 37 → P 40
@@ -70,17 +70,17 @@ module _ (b : ℕ) where
   -- other elements of one ID, from other values on
 
   module _ {powers reports switches quieting : List Item} {after : Told} (t : Told) where
-    other_power : (m n : MaybePower) {others : List Item} → Grows power_means others (any_power n) (any_power after.notice.power)
+    other_power : (m n : Option PowerConstraint) {others : List Item} → Grows power_means others (any_power n) (any_power after.notice.power)
         → Added powers reports switches quieting (power_as t m) after → Added others reports switches quieting (power_as t n) after
     other_power m n g s =
         record { power = g; report = s.report; switch = s.switch; quiet = s.quiet; timestamp = s.timestamp; capability = s.capability }
 
-    other_report : (m n : MaybeReport) {others : List Item} → Grows notice_report_means others (any_report n) (any_report after.notice.report)
+    other_report : (m n : Option TpcReport) {others : List Item} → Grows notice_report_means others (any_report n) (any_report after.notice.report)
         → Added powers reports switches quieting (report_as t m) after → Added powers others switches quieting (report_as t n) after
     other_report m n g s =
         record { power = s.power; report = g; switch = s.switch; quiet = s.quiet; timestamp = s.timestamp; capability = s.capability }
 
-    other_switch : (m n : MaybeSwitch) {others : List Item} → Grows switch_means others (any_switch n) (any_switch after.notice.switch)
+    other_switch : (m n : Option ChannelSwitch) {others : List Item} → Grows switch_means others (any_switch n) (any_switch after.notice.switch)
         → Added powers reports switches quieting (switch_as t m) after → Added powers reports others quieting (switch_as t n) after
     other_switch m n g s =
         record { power = s.power; report = s.report; switch = g; quiet = s.quiet; timestamp = s.timestamp; capability = s.capability }
@@ -94,12 +94,12 @@ module _ (b : ℕ) where
 
   module _ (c : List ℕ) (xs : List Item) (before after : Told) where
     abbrev Fore : ℕ → Type 0
-    Fore id = (next : Told) × (takes b id c before ≡ accepted next) × Said xs next after
+    Fore id = (next : Told) × (takes b id c before ≡ Ok next) × Said xs next after
 
     abbrev Then : ℕ → Type 0
     Then id = Said (item id c ∷ xs) before after
 
-    from : {next made : Told} → checked {R = Refusal} [] (accepted made) ≡ accepted next → Said xs next after → Said xs made after
+    from : {next made : Told} → checked {R = Refusal} [] (Ok made) ≡ Ok next → Said xs next after → Said xs made after
     from e s = subst (λ (t : Told). Said xs t after) (sym (kept _ e)) s
 
     power_fore : Fore 32 → Then 32
@@ -114,18 +114,18 @@ module _ (b : ℕ) where
     unfolding takes element_means of_id checked
     power_then s =
         let p = was_the_one power_means any_power has_power one_power (item 32 c) (of_id 32 xs) before.notice.power after.notice.power s.power in
-        (power_as before (MaybePower.Is p.1.0), simp (p.1.1, p.0), other_power before _ _ p.1.2 s)
+        (power_as before (Some p.1.0), simp (p.1.1, p.0), other_power before _ _ p.1.2 s)
 
     -- its margin is ignored before it is added, or after
-    report_taken : takes b 35 c before ≡ and_then (and_then (notice_report_means c) (λ r. accepted (Element.Report r))) (adds before)
+    report_taken : takes b 35 c before ≡ and_then (and_then (notice_report_means c) (λ r. Ok (Element.Report r))) (adds before)
     unfolding takes element_means
     report_taken = by (tpc_report_means c)
       where
         by : (o : Outcome TpcReport)
-            → and_then (and_then o (λ t. accepted (Element.Report (without_margin t)))) (adds before)
-            ≡ and_then (and_then (and_then o (λ t. accepted (without_margin t))) (λ r. accepted (Element.Report r))) (adds before)
-        by (refused r) = refl
-        by (accepted t) = refl
+            → and_then (and_then o (λ t. Ok (Element.Report (without_margin t)))) (adds before)
+            ≡ and_then (and_then (and_then o (λ t. Ok (without_margin t))) (λ r. Ok (Element.Report r))) (adds before)
+        by (Err r) = refl
+        by (Ok t) = refl
 
     report_fore : Fore 35 → Then 35
     unfolding takes element_means of_id
@@ -139,7 +139,7 @@ module _ (b : ℕ) where
     unfolding takes element_means of_id checked
     report_then s =
         let p = was_the_one notice_report_means any_report has_report one_report (item 35 c) (of_id 35 xs) before.notice.report after.notice.report s.report in
-        (report_as before (MaybeReport.Is p.1.0), report_taken ∙ simp (p.1.1, p.0), other_report before _ _ p.1.2 s)
+        (report_as before (Some p.1.0), report_taken ∙ simp (p.1.1, p.0), other_report before _ _ p.1.2 s)
 
     switch_fore : Fore 37 → Then 37
     unfolding takes element_means of_id
@@ -153,7 +153,7 @@ module _ (b : ℕ) where
     unfolding takes element_means of_id checked
     switch_then s =
         let p = was_the_one switch_means any_switch has_switch one_switch (item 37 c) (of_id 37 xs) before.notice.switch after.notice.switch s.switch in
-        (switch_as before (MaybeSwitch.Is p.1.0), simp (p.1.1, p.0), other_switch before _ _ p.1.2 s)
+        (switch_as before (Some p.1.0), simp (p.1.1, p.0), other_switch before _ _ p.1.2 s)
 
     quiet_fore : Fore 40 → Then 40
     unfolding takes element_means of_id
@@ -175,7 +175,7 @@ module _ (b : ℕ) where
 
     -- any other is skipped
     module _ (id : ℕ) (v : id ≡ 32 → ⊥) (w : id ≡ 35 → ⊥) (x : id ≡ 37 → ⊥) (y : id ≡ 40 → ⊥) where
-      skipped : takes b id c before ≡ accepted before
+      skipped : takes b id c before ≡ Ok before
       unfolding takes element_means
       skipped = simp (ne_eqb id 32 v, ne_eqb id 35 w, ne_eqb id 37 x, ne_eqb id 40 y)
 
@@ -209,7 +209,7 @@ module _ (b : ℕ) where
         capability = refl;
       }
 
-  said : (n : ℕ) (es : Elements) (before after : Told) → says (takes b) n es before ≡ accepted after → (xs : List Item) × (es ≡ walked_as xs end) × Said xs before after
+  said : (n : ℕ) (es : Elements) (before after : Told) → says (takes b) n es before ≡ Ok after → (xs : List Item) × (es ≡ walked_as xs end) × Said xs before after
   unfolding says walked_as
   said n end before after e = ([], refl, subst (λ (t : Told). Said [] before t) (accepted_once e) (none before))
   said n (cut_header o) before after e = absurd (never e)
@@ -232,9 +232,9 @@ module _ (b : ℕ) where
         same_told before after (sym s.timestamp) (sym s.capability) (sym (grew_none power_means s.power))
         (sym (grew_none notice_report_means s.report)) (sym (grew_none switch_means s.switch)) (sym (grew_none (quiet_means b) s.quiet))
 
-    says_all : (n : ℕ) (xs : List Item) (before : Told) → Said xs before after → says (takes b) n (walked_as xs end) before ≡ accepted after
+    says_all : (n : ℕ) (xs : List Item) (before : Told) → Said xs before after → says (takes b) n (walked_as xs end) before ≡ Ok after
     unfolding says walked_as
-    says_all n [] before s = ap accepted (nothing_added before s)
+    says_all n [] before s = ap Ok (nothing_added before s)
     says_all n (x ∷ xs) before s =
         let p = then x.id x.contents xs before s in
         simp p.1 (says_all (past_element n x.contents) xs p.0 p.2)
@@ -242,7 +242,7 @@ module _ (b : ℕ) where
 -- ---- a body is accepted as what its elements say, and only so
 
 module _ (b : ℕ) (body : List ℕ) (t : Told) where
-  accepted_notice : beacon_means b body ≡ accepted t → NoticeOf b body t
+  accepted_notice : beacon_means b body ≡ Ok t → NoticeOf b body t
   unfolding beacon_means
   accepted_notice e =
       let p = passed _ _ _ e in
@@ -262,7 +262,7 @@ module _ (b : ℕ) (body : List ℕ) (t : Told) where
         switch_is = grew_all switch_means r.2.switch;
       }
 
-  notice_accepted : NoticeOf b body t → beacon_means b body ≡ accepted t
+  notice_accepted : NoticeOf b body t → beacon_means b body ≡ Ok t
   unfolding beacon_means
   notice_accepted n =
       let s : Said b n.items (opening body) t =
@@ -275,10 +275,10 @@ module _ (b : ℕ) (body : List ℕ) (t : Told) where
         capability = n.capability_is;
       } in
       let w = (walk_whole (drop fixed_length body) n.items).1 n.octets in
-      let whole : says (takes b) fixed_length (elements_in (drop fixed_length body)) (opening body) ≡ accepted t =
+      let whole : says (takes b) fixed_length (elements_in (drop fixed_length body)) (opening body) ≡ Ok t =
       ap (λ (es : Elements). says (takes b) fixed_length es (opening body)) w ∙ says_all b t n.few_quiets fixed_length n.items (opening body) s in
       sym (past _ _ _ (le-ltb (length body) fixed_length n.none_missing)
       (past _ _ _ (rw (eq-eqb (number 2 8 body) b n.interval_is)) (through _ (sym whole))))
 
-  pub beacon_filtered : (beacon_means b body ≡ accepted t) ↔ NoticeOf b body t
+  pub beacon_filtered : (beacon_means b body ≡ Ok t) ↔ NoticeOf b body t
   beacon_filtered = (accepted_notice, notice_accepted)

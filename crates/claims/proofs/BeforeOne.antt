@@ -1,5 +1,6 @@
 -- A frame in which nothing is passed over means what it meant before request One, but for the place of a refusal, and for 21 and 22, which were 7 (02, One
 -- and Four: no other answer changes). Assumes nothing.
+use Rattle.std.specs.Prelude.{Ok, Err}
 use mathlib.Core.Bool.{Bool, true, false, not}
 use mathlib.Core.List.{List, [], ◌∷◌, ◌++◌}
 use mathlib.Core.Logic.{◌⊎◌, inl, inr, ⊎_elim, ◌↔◌}
@@ -14,7 +15,7 @@ use Rattle.answer.proofs.Booleans.{both}
 use Rattle.answer.proofs.Judged.{never}
 use Rattle.answer.proofs.Placing.{past_without, nowhere_without}
 use Rattle.answer.proofs.Refusing.{Refuses, by_value, by_check, by_none, by_then, of_place}
-use Rattle.answer.specs.Checks.{Outcome, refused, accepted, pick, checked, and_then}
+use Rattle.answer.specs.Checks.{Outcome, pick, checked, and_then}
 use Rattle.answer.specs.Faults.{Placed, placed_at, nowhere, placed_past}
 use Rattle.answer.specs.declared.Fault.{Fault}
 use Rattle.answer.specs.declared.Refusal.{Refusal}
@@ -44,8 +45,8 @@ use Rattle.claims.proofs.Same.{accepted_once}
 
 module _ {A : Type 0} where
   placed_before : (n : ℕ) (o : Outcome A) → as_before (placed_at n o) ≡ old_told o
-  placed_before n (refused r) = refl
-  placed_before n (accepted a) = refl
+  placed_before n (Err r) = refl
+  placed_before n (Ok a) = refl
 
   -- of a test
   told_either : (t : Bool) (o p : Outcome A) {q r : Outcome A} → old_told o ≡ q → old_told p ≡ r → old_told (pick t o p) ≡ pick t q r
@@ -60,13 +61,13 @@ module _ {A : Type 0} where
   module _ {B : Type 0} where
     told_then : (o : Outcome A) (f : A → Outcome B) {p : Outcome A} {g : A → Outcome B} → old_told o ≡ p → ((a : A) → old_told (f a) ≡ g a)
         → old_told (and_then o f) ≡ and_then p g
-    told_then (refused r) f {p} {g} e h = ap (λ (q : Outcome A). and_then q g) e
-    told_then (accepted a) f {p} {g} e h = h a ∙ ap (λ (q : Outcome A). and_then q g) e
+    told_then (Err r) f {p} {g} e h = ap (λ (q : Outcome A). and_then q g) e
+    told_then (Ok a) f {p} {g} e h = h a ∙ ap (λ (q : Outcome A). and_then q g) e
 
     before_then : (o : Placed A) (f : A → Placed B) {p : Outcome A} {g : A → Outcome B} → as_before o ≡ p → ((a : A) → as_before (f a) ≡ g a)
         → as_before (and_then o f) ≡ and_then p g
-    before_then (refused x) f {p} {g} e h = ap (λ (q : Outcome A). and_then q g) e
-    before_then (accepted a) f {p} {g} e h = h a ∙ ap (λ (q : Outcome A). and_then q g) e
+    before_then (Err x) f {p} {g} e h = ap (λ (q : Outcome A). and_then q g) e
+    before_then (Ok a) f {p} {g} e h = h a ∙ ap (λ (q : Outcome A). and_then q g) e
 
 -- ---- refusals that are neither 21 nor 22 are as they were
 
@@ -74,8 +75,8 @@ abbrev Kept : Refusal → Type 0
 Kept r = old_numbered r ≡ r
 
 told_kept : {A : Type 0} (o : Outcome A) → Refuses Kept o → old_told o ≡ o
-told_kept (refused r) h = ap refused (h r refl)
-told_kept (accepted a) h = refl
+told_kept (Err r) h = ap Err (h r refl)
+told_kept (Ok a) h = refl
 
 -- of contents
 misread_kept : (r : Refusal) → Misread r → Kept r
@@ -266,14 +267,14 @@ module _ (body : List ℕ) {A : Type 0} (f g : Opens → Outcome A) where
       Alike : Outcome Opens → Type 0
       Alike o = and_then o f ≡ and_then o g
 
-      past_test : (t : Bool) (r : Refusal) (o : Outcome Opens) → Alike o → Alike (pick t (refused r) o)
+      past_test : (t : Bool) (r : Refusal) (o : Outcome Opens) → Alike o → Alike (pick t (Err r) o)
       past_test true r o e = refl
       past_test false r o e = e
 
       by : (t : Bool) → eqb (octet 1 body) 4 ≡ t
-          → Alike (pick t (accepted switching)
-          (pick (ltb (length body) fixed_fields) (refused Refusal.TooShort)
-          (pick (forbids_token (octet 1 body) (octet 2 body)) (refused Refusal.ForbiddenValue) (accepted (with (octet 1 body) (octet 2 body))))))
+          → Alike (pick t (Ok switching)
+          (pick (ltb (length body) fixed_fields) (Err Refusal.TooShort)
+          (pick (forbids_token (octet 1 body) (octet 2 body)) (Err Refusal.ForbiddenValue) (Ok (with (octet 1 body) (octet 2 body))))))
       by true e = four e
       by false e =
           past_test (ltb (length body) fixed_fields) _ _ (past_test (forbids_token (octet 1 body) (octet 2 body)) _ _ (others e (octet 1 body) (octet 2 body)))
@@ -287,19 +288,19 @@ module _ (body : List ℕ) (none : NoVendor body) where
   each_action : and_then (old_opens body) (old_after_opening handed_in body) ≡ and_then (old_opens body) (old_after_opening each_in body)
   each_action =
       opened_alike body (old_after_opening handed_in body) (old_after_opening each_in body)
-      (λ four. ap (λ (hs : Handed). and_then (old_single 37 switch_means hs) (λ s. accepted (switch s))) (each_after true four))
+      (λ four. ap (λ (hs : Handed). and_then (old_single 37 switch_means hs) (λ s. Ok (switch s))) (each_after true four))
       (λ other k token.
       ap
-      (λ (hs : Handed). pick (eqb k 0) (and_then (old_listed request_sort hs []) (λ rs. accepted (requests token rs)))
-      (pick (eqb k 1) (and_then (old_listed report_sort hs []) (λ rs. accepted (reports token rs)))
-      (pick (eqb k 2) (and_then (old_single 34 tpc_request_means hs) (λ u. accepted (tpc_request token)))
-      (and_then (old_single 35 tpc_report_means hs) (λ t. accepted (tpc_report token t))))))
+      (λ (hs : Handed). pick (eqb k 0) (and_then (old_listed request_sort hs []) (λ rs. Ok (requests token rs)))
+      (pick (eqb k 1) (and_then (old_listed report_sort hs []) (λ rs. Ok (reports token rs)))
+      (pick (eqb k 2) (and_then (old_single 34 tpc_request_means hs) (λ u. Ok (tpc_request token)))
+      (and_then (old_single 35 tpc_report_means hs) (λ t. Ok (tpc_report token t))))))
       (each_after false other))
 
 each_kind : (body : List ℕ) (b : ℕ) (s : Subtype) → (s ≡ Subtype.Action → NoVendor body) → old_kind_of handed_in b s body ≡ old_kind_of each_in b s body
 each_kind body b Subtype.Beacon none = refl
 each_kind body b Subtype.ProbeResponse none = refl
-each_kind body b Subtype.Action none = ap (λ (o : Outcome Body). and_then o (λ a. accepted (action a))) (each_action body (none refl))
+each_kind body b Subtype.Action none = ap (λ (o : Outcome Body). and_then o (λ a. Ok (action a))) (each_action body (none refl))
 
 -- without what is new, such a frame means what it meant
 pub as_before_lem : (own ap' : List ℕ) (b : ℕ) (f : List ℕ) → NothingPassed own ap' f → as_before (frame_means own ap' b f) ≡ old_frame_means own ap' b f
@@ -308,13 +309,13 @@ as_before_lem own ap' b f none =
     refusals_before own ap' b f ∙ by (header_means Cell.Ap own ap' f) refl
   where
     heard : Head → Kind → Outcome Sent
-    heard h k = accepted (record { to_all = h.to_all; kind = k })
+    heard h k = Ok (record { to_all = h.to_all; kind = k })
 
     by : (o : Outcome Head) → header_means Cell.Ap own ap' f ≡ o
         → and_then o (λ h. and_then (old_kind_of handed_in b h.subtype (body_of f)) (heard h))
         ≡ and_then o (λ h. and_then (old_kind_of each_in b h.subtype (body_of f)) (heard h))
-    by (refused r) e = refl
-    by (accepted h) e = ap (λ (o : Outcome Kind). and_then o (heard h)) (each_kind (body_of f) b h.subtype (none h e))
+    by (Err r) e = refl
+    by (Ok h) e = ap (λ (o : Outcome Kind). and_then o (heard h)) (each_kind (body_of f) b h.subtype (none h e))
 
 -- ---- what that says of each answer
 
@@ -348,18 +349,18 @@ numbered_before Refusal.AlreadyJoined = inl refl
 numbered_before Refusal.NotJoined = inl refl
 
 -- a frame that is refused was refused, and with the same number, or with 7 where it is 21 or 22 now
-pub only_seven : (own ap' : List ℕ) (b : ℕ) (f : List ℕ) (x : Fault) → NothingPassed own ap' f → frame_means own ap' b f ≡ refused x
-    → ((old_frame_means own ap' b f ≡ refused x.refusal) × (old_numbered x.refusal ≡ x.refusal))
-    ⊎ ((old_frame_means own ap' b f ≡ refused Refusal.ElementAbsent) × ((x.refusal ≡ Refusal.OtherElement) ⊎ (x.refusal ≡ Refusal.LeftOver)))
+pub only_seven : (own ap' : List ℕ) (b : ℕ) (f : List ℕ) (x : Fault) → NothingPassed own ap' f → frame_means own ap' b f ≡ Err x
+    → ((old_frame_means own ap' b f ≡ Err x.refusal) × (old_numbered x.refusal ≡ x.refusal))
+    ⊎ ((old_frame_means own ap' b f ≡ Err Refusal.ElementAbsent) × ((x.refusal ≡ Refusal.OtherElement) ⊎ (x.refusal ≡ Refusal.LeftOver)))
 only_seven own ap' b f x none e =
-    let was : old_frame_means own ap' b f ≡ refused (old_numbered x.refusal) = sym (as_before_lem own ap' b f none) ∙ ap as_before e in
-    ⊎_elim (λ k. inl (was ∙ ap refused k, k)) (λ k. inr (was ∙ ap refused k.0, k.1)) (numbered_before x.refusal)
+    let was : old_frame_means own ap' b f ≡ Err (old_numbered x.refusal) = sym (as_before_lem own ap' b f none) ∙ ap as_before e in
+    ⊎_elim (λ k. inl (was ∙ ap Err k, k)) (λ k. inr (was ∙ ap Err k.0, k.1)) (numbered_before x.refusal)
 
 -- the same frames are accepted, and as the same
-accepted_before : {A : Type 0} (o : Placed A) (a : A) → as_before o ≡ accepted a → o ≡ accepted a
-accepted_before (refused x) a e = absurd (never e)
-accepted_before (accepted b) a e = ap accepted (accepted_once e)
+accepted_before : {A : Type 0} (o : Placed A) (a : A) → as_before o ≡ Ok a → o ≡ Ok a
+accepted_before (Err x) a e = absurd (never e)
+accepted_before (Ok b) a e = ap Ok (accepted_once e)
 
-pub accepted_alike : (own ap' : List ℕ) (b : ℕ) (f : List ℕ) (s : Sent) → NothingPassed own ap' f → (frame_means own ap' b f ≡ accepted s) ↔ (old_frame_means own ap' b f ≡ accepted s)
+pub accepted_alike : (own ap' : List ℕ) (b : ℕ) (f : List ℕ) (s : Sent) → NothingPassed own ap' f → (frame_means own ap' b f ≡ Ok s) ↔ (old_frame_means own ap' b f ≡ Ok s)
 accepted_alike own ap' b f s none =
     (λ e. sym (as_before_lem own ap' b f none) ∙ ap as_before e, λ e. accepted_before (frame_means own ap' b f) s (as_before_lem own ap' b f none ∙ e))

@@ -2,6 +2,7 @@
 -- the same, and each accepted body with nothing uninterpreted and no reserved bit set is written back octet for octet.
 -- `action_bodies` says it of octets and records, whatever their length; the laws that it cites say it of the calls that write, and of
 -- frames: the calls write at most `longest_body` octets, and no accepted frame has a longer body. Assumes nothing.
+use Rattle.std.specs.Prelude.{Ok}
 use mathlib.Core.Bool.{Bool, true, false, not}
 use mathlib.Core.List.{List}
 use mathlib.Core.Path.{◌≡◌, refl, sym, ap, ap₂, subst, ◌∙◌}
@@ -12,7 +13,7 @@ use lib.ListN.{length, take, length-drop, take-append-drop}
 use Rattle.single_body.specs.Singles.{tpc_request_body, tpc_report_body, switch_body}
 use Rattle.answer.proofs.Booleans.{both}
 use Rattle.answer.proofs.Judged.{passed, kept, followed}
-use Rattle.answer.specs.Checks.{Outcome, accepted}
+use Rattle.answer.specs.Checks.{Outcome}
 use Rattle.answer.specs.Faults.{nowhere, placed_past}
 use Rattle.answer.proofs.Placing.{nowhere_value, past_value}
 use Rattle.beacon.specs.Beacons.{beacon_means}
@@ -63,12 +64,12 @@ body_written (tpc_request token) buffer f m short room = called_once _ _ buffer 
 body_written (tpc_report token t) buffer f m short room = called_once _ _ buffer refl room
 body_written (switch s) buffer f m short room = called_once _ _ buffer m room
 
-one_call : (may : Bool) (os buffer : List ℕ) (n : ℕ) → wrote may os 0 buffer ≡ accepted n → length os ≡ n
+one_call : (may : Bool) (os buffer : List ℕ) (n : ℕ) → wrote may os 0 buffer ≡ Ok n → length os ≡ n
 unfolding wrote room
 one_call may os buffer n e = kept _ (passed _ _ _ (passed _ _ _ e).1).1
 
 -- and no calls write one that is too long for any frame
-pub body_never_longer : (body : Body) (buffer : List ℕ) (n : ℕ) → (body_calls body buffer).used ≡ accepted n → n ≤ longest_body
+pub body_never_longer : (body : Body) (buffer : List ℕ) (n : ℕ) → (body_calls body buffer).used ≡ Ok n → n ≤ longest_body
 unfolding body_calls tpc_report_octets switch_octets
 body_never_longer (requests token rs) buffer n e = never_longer request_sort token rs 0 buffer n (omega arith) e
 body_never_longer (reports token rs) buffer n e = never_longer report_sort token rs 0 buffer n (omega arith) e
@@ -77,7 +78,7 @@ body_never_longer (tpc_report token t) buffer n e = omega (arith, one_call _ (tp
 body_never_longer (switch s) buffer n e = omega (arith, one_call _ (switch_body s) buffer n e)
 
 -- each accepted body with nothing uninterpreted and no reserved bit set is written back, where it is not too long for any frame
-pub body_written_back : (c : List ℕ) (body : Body) (buffer : List ℕ) → Octets c → action_means c ≡ accepted body → action_interpreted body ≡ true
+pub body_written_back : (c : List ℕ) (body : Body) (buffer : List ℕ) → Octets c → action_means c ≡ Ok body → action_interpreted body ≡ true
     → action_clear c ≡ true → length c ≤ longest_body → length c ≤ length buffer → body_calls body buffer ≡ holding c buffer
 body_written_back c body buffer o e i k short room =
     let b = action_trip.back c body o e i k in
@@ -88,14 +89,14 @@ body_written_back c body buffer o e i k short room =
 
 module _ (own ap' : List ℕ) (b : ℕ) (f : List ℕ) where
   -- the body of an accepted frame is never too long
-  pub accepted_short : (x : Sent) → frame_means own ap' b f ≡ accepted x → length (body_of f) ≤ longest_body
+  pub accepted_short : (x : Sent) → frame_means own ap' b f ≡ Ok x → length (body_of f) ≤ longest_body
   unfolding frame_means
   accepted_short x e =
       let h = followed (nowhere (header_means Cell.Ap own ap' f)) _ x e in
       omega (arith, not_too_long Cell.Ap own ap' f h.0 (nowhere_value (header_means Cell.Ap own ap' f) h.1), length-drop header_length f)
 
   -- what an accepted action frame says is what its body means
-  body_means_lem : (s : Subtype) (body : Body) → kind_of b s (body_of f) ≡ accepted (action body) → action_means (body_of f) ≡ accepted body
+  body_means_lem : (s : Subtype) (body : Body) → kind_of b s (body_of f) ≡ Ok (action body) → action_means (body_of f) ≡ Ok body
   body_means_lem Subtype.Beacon body e =
       let t = followed (beacon_means b (body_of f)) _ _ e in
       absurd (let z : ◌≡◌ {A = ℕ} 0 1 = cc t.2 in omega arith)
@@ -104,29 +105,29 @@ module _ (own ap' : List ℕ) (b : ℕ) (f : List ℕ) where
       absurd (let z : ◌≡◌ {A = ℕ} 0 1 = cc t.2 in omega arith)
   body_means_lem Subtype.Action body e =
       let t = followed (action_means (body_of f)) _ _ e in
-      t.1 ∙ ap accepted (let same : t.0 ≡ body = cc t.2 in same)
+      t.1 ∙ ap Ok (let same : t.0 ≡ body = cc t.2 in same)
 
-  kind_means_lem : (x : Sent) → frame_means own ap' b f ≡ accepted x → (s : Subtype) × (kind_of b s (body_of f) ≡ accepted x.kind)
+  kind_means_lem : (x : Sent) → frame_means own ap' b f ≡ Ok x → (s : Subtype) × (kind_of b s (body_of f) ≡ Ok x.kind)
   unfolding frame_means
   kind_means_lem x e =
       let h = followed (nowhere (header_means Cell.Ap own ap' f)) _ x e in
       let k = followed (placed_past header_length (kind_of b h.0.subtype (body_of f))) _ x h.2 in
       let same : record { to_all = h.0.to_all; kind = k.0 } ≡ x = cc k.2 in
-      (h.0.subtype, past_value header_length (kind_of b h.0.subtype (body_of f)) k.1 ∙ ap (λ (y : Sent). accepted y.kind) same)
+      (h.0.subtype, past_value header_length (kind_of b h.0.subtype (body_of f)) k.1 ∙ ap (λ (y : Sent). Ok y.kind) same)
 
   -- so the body of each accepted action frame with nothing uninterpreted and no reserved bit set is written back
-  pub frame_written_back : (x : Sent) (body : Body) (buffer : List ℕ) → Octets f → frame_means own ap' b f ≡ accepted x → x.kind ≡ action body
+  pub frame_written_back : (x : Sent) (body : Body) (buffer : List ℕ) → Octets f → frame_means own ap' b f ≡ Ok x → x.kind ≡ action body
       → action_interpreted body ≡ true → action_clear (body_of f) ≡ true → length (body_of f) ≤ length buffer
       → body_calls body buffer ≡ holding (body_of f) buffer
   frame_written_back x body buffer o e k i c room =
       let m = kind_means_lem x e in
       body_written_back (body_of f) body buffer (octets_after (take header_length f) (body_of f) (subst Octets (sym (take-append-drop header_length f)) o))
-      (body_means_lem m.0 body (m.1 ∙ ap accepted k)) i c (accepted_short x e) room
+      (body_means_lem m.0 body (m.1 ∙ ap Ok k)) i c (accepted_short x e) room
 
   -- and after a header that is not refused, each body that may be written, and is not too long, reads back the same
   pub frame_read_back : (body : Body) → ActionFits body → action_may body ≡ true → length (action_octets body) ≤ longest_body
       → header_length ≤ length f → foreign_header f ≡ false → foreign_address Cell.Ap own ap' f ≡ false → subtype_of (subtype f) ≡ Subtype.Action
-      → body_of f ≡ action_octets body → frame_means own ap' b f ≡ accepted (record { to_all = to_all f; kind = action body })
+      → body_of f ≡ action_octets body → frame_means own ap' b f ≡ Ok (record { to_all = to_all f; kind = action body })
   unfolding frame_means
   frame_read_back body fits m short long h a s e =
       let size = ap length e in

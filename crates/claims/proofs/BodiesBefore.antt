@@ -1,4 +1,5 @@
 -- The first octets of a body that is refused at an element are a body that is accepted, or one whose first element is absent. Assumes nothing.
+use Rattle.std.specs.Prelude.{Ok, Err}
 use mathlib.Core.Bool.{Bool, true, false, not}
 use mathlib.Core.List.{List, [], ◌∷◌, ◌++◌}
 use mathlib.Core.Path.{◌≡◌, refl, sym, ap, ap₂, subst, ◌∙◌}
@@ -10,7 +11,7 @@ use lib.ListN.{length, take, drop}
 use lib.Seq.{take-append-add}
 use Rattle.action.specs.Openings.{category_field, action_field, token_field, fixed_fields, switch_fixed_fields, forbids_token, Opens, switching, with, opens_with}
 use Rattle.answer.proofs.Judged.{never, past, through}
-use Rattle.answer.specs.Checks.{refused, accepted, pick, ◌⇒◌, judged, and_then}
+use Rattle.answer.specs.Checks.{pick, ◌⇒◌, judged, and_then}
 use Rattle.answer.specs.Faults.{fault_at, fault_nowhere, Placed}
 use Rattle.answer.specs.declared.Refusal.{Refusal}
 use Rattle.beacon.specs.Beacons.{Told, fixed_length, interval_field, opening, takes, says, beacon_means, tells}
@@ -39,9 +40,9 @@ module _ (b : ℕ) (body : List ℕ) (q : ℕ) (r : Refusal) (late : fixed_lengt
   record Fixed : Type 0 where
     whole : fixed_length ≤ length body
     interval : not (eqb (number 2 interval_field body) b) ≡ false
-    rest : says (takes b) fixed_length (elements_in (drop fixed_length body)) (opening body) ≡ refused (fault_at q r)
+    rest : says (takes b) fixed_length (elements_in (drop fixed_length body)) (opening body) ≡ Err (fault_at q r)
 
-  fixed : beacon_means b body ≡ refused (fault_at q r) → Fixed
+  fixed : beacon_means b body ≡ Err (fault_at q r) → Fixed
   unfolding beacon_means
   fixed e =
       let long = unfailed _ _ _ (some_place Refusal.TooShort q r) e in
@@ -53,7 +54,7 @@ module _ (b : ℕ) (body : List ℕ) (q : ℕ) (r : Refusal) (late : fixed_lengt
   same_opening =
       ap₂ (λ (t c : List ℕ). tells (elementless (join t) (join c)) []) (from_kept q body 8 0 (omega arith)) (from_kept q body 2 10 (omega arith))
 
-  pub notice_before : beacon_means b body ≡ refused (fault_at q r) → Accepts (beacon_means b (take q body))
+  pub notice_before : beacon_means b body ≡ Err (fault_at q r) → Accepts (beacon_means b (take q body))
   unfolding beacon_means
   notice_before e =
       let x = fixed e in
@@ -76,35 +77,35 @@ abbrev pub fields_of : List ℕ → ℕ
 fields_of body = pick (eqb (octet action_field body) 4) switch_fixed_fields fixed_fields
 
 pub record ActionBefore (body : List ℕ) (q : ℕ) : Type 0 where
-  pub absent : q ≡ fields_of body → action_means (take q body) ≡ refused (fault_at q Refusal.ElementAbsent)
+  pub absent : q ≡ fields_of body → action_means (take q body) ≡ Err (fault_at q Refusal.ElementAbsent)
   pub later : fields_of body < q → Accepts (action_means (take q body))
 
 -- a body with these fixed fields, by what is said of the run after them
 module _ {A : Type 0} (lead : List ℕ) (inner : List ℕ → Placed A) (make : A → Body)
-    (means : (run : List ℕ) → action_means (lead ++ run) ≡ and_then (inner run) (λ a. accepted (make a)))
+    (means : (run : List ℕ) → action_means (lead ++ run) ≡ and_then (inner run) (λ a. Ok (make a)))
     (fields : (run : List ℕ) → fields_of (lead ++ run) ≡ length lead)
-    (none : inner [] ≡ refused (fault_at (length lead) Refusal.ElementAbsent))
-    (first : (run : List ℕ) (q : ℕ) (r : Refusal) → inner run ≡ refused (fault_at q r) → Reached (length lead) q (λ k. 0 < k → Accepts (inner (take k run)))) where
-  front_before : (run : List ℕ) (q : ℕ) (r : Refusal) → action_means (lead ++ run) ≡ refused (fault_at q r) → ActionBefore (lead ++ run) q
+    (none : inner [] ≡ Err (fault_at (length lead) Refusal.ElementAbsent))
+    (first : (run : List ℕ) (q : ℕ) (r : Refusal) → inner run ≡ Err (fault_at q r) → Reached (length lead) q (λ k. 0 < k → Accepts (inner (take k run)))) where
+  front_before : (run : List ℕ) (q : ℕ) (r : Refusal) → action_means (lead ++ run) ≡ Err (fault_at q r) → ActionBefore (lead ++ run) q
   front_before run q r e =
       let x = first run q r (made_refused (inner run) make (sym (means run) ∙ e)) in
-      let cut : action_means (take q (lead ++ run)) ≡ and_then (inner (take x.own run)) (λ a. accepted (make a)) =
+      let cut : action_means (take q (lead ++ run)) ≡ and_then (inner (take x.own run)) (λ a. Ok (make a)) =
       ap (λ (n : ℕ). action_means (take n (lead ++ run))) x.place ∙ ap action_means (take-append-add lead run x.own) ∙ means (take x.own run) in
       record {
         absent =
             λ h.
             let nothing : x.own ≡ 0 = omega (arith, x.place, h, fields run) in
             let place : length lead ≡ q = omega (arith, h, fields run) in
-            cut ∙ ap (λ (n : ℕ). and_then (inner (take n run)) (λ a. accepted (make a))) nothing
-            ∙ ap (λ (o : Placed A). and_then o (λ a. accepted (make a))) none
-            ∙ ap (λ (n : ℕ). refused (fault_at n Refusal.ElementAbsent)) place;
+            cut ∙ ap (λ (n : ℕ). and_then (inner (take n run)) (λ a. Ok (make a))) nothing
+            ∙ ap (λ (o : Placed A). and_then o (λ a. Ok (make a))) none
+            ∙ ap (λ (n : ℕ). Err (fault_at n Refusal.ElementAbsent)) place;
         later =
             λ h.
             let y = x.holds (omega (arith, x.place, h, fields run)) in
-            (make y.0, cut ∙ ap (λ (o : Placed A). and_then o (λ a. accepted (make a))) y.1);
+            (make y.0, cut ∙ ap (λ (o : Placed A). and_then o (λ a. Ok (make a))) y.1);
       }
 
-  led_before : (body run : List ℕ) (q : ℕ) (r : Refusal) → body ≡ lead ++ run → action_means body ≡ refused (fault_at q r) → ActionBefore body q
+  led_before : (body run : List ℕ) (q : ℕ) (r : Refusal) → body ≡ lead ++ run → action_means body ≡ Err (fault_at q r) → ActionBefore body q
   led_before body run q r is e = subst (λ (os : List ℕ). ActionBefore os q) (sym is) (front_before run q r (sym (ap action_means is) ∙ e))
 
 module _ (body : List ℕ) (q : ℕ) (r : Refusal) where
@@ -113,7 +114,7 @@ module _ (body : List ℕ) (q : ℕ) (r : Refusal) where
   at_least false = omega arith
 
   -- the fixed fields are at fault before the first element alone
-  opens_before : fields_of body ≤ q → opens_with body ≡ refused (fault_at q r) → ⊥
+  opens_before : fields_of body ≤ q → opens_with body ≡ Err (fault_at q r) → ⊥
   unfolding opens_with
   opens_before late e =
       let least = at_least (eqb (octet action_field body) 4) in
@@ -124,13 +125,13 @@ module _ (body : List ℕ) (q : ℕ) (r : Refusal) where
       by (eqb (octet action_field body) 4) late (unchecked _ action.1)
     where
       by : (t : Bool) → pick t switch_fixed_fields fixed_fields ≤ q
-          → pick t (accepted switching)
+          → pick t (Ok switching)
           (judged
           (ltb (length body) fixed_fields ⇒ fault_nowhere Refusal.TooShort
           ∷ forbids_token (octet action_field body) (octet token_field body) ⇒ fault_at token_field Refusal.ForbiddenValue
           ∷ [])
           (with (octet action_field body) (octet token_field body)))
-          ≡ refused (fault_at q r)
+          ≡ Err (fault_at q r)
           → ⊥
       by true h g = never (sym g)
       by false h g =
@@ -139,7 +140,7 @@ module _ (body : List ℕ) (q : ℕ) (r : Refusal) where
           never (sym (unchecked _ token.1))
 
   -- after them, by the action
-  by_opening : (o : Opens) → Begins body o → action_means body ≡ refused (fault_at q r) → ActionBefore body q
+  by_opening : (o : Opens) → Begins body o → action_means body ≡ Err (fault_at q r) → ActionBefore body q
   by_opening switching b e =
       led_before (0 ∷ 4 ∷ []) (λ run. single switch_fixed_fields 37 switch_means (handed_in run)) switch
       (λ run. by_lead run _ _ (opens_switch run)) (λ run. refl) (none_single switch_fixed_fields 37 switch_means) (single_before switch_fixed_fields 37 switch_means)
@@ -162,7 +163,7 @@ module _ (body : List ℕ) (q : ℕ) (r : Refusal) where
       body (drop fixed_fields body) q r b.0 e
   by_opening (with (suc (suc (suc (suc n)))) token) b e = absurd (omega arith)
 
-  pub action_before : fields_of body ≤ q → action_means body ≡ refused (fault_at q r) → ActionBefore body q
+  pub action_before : fields_of body ≤ q → action_means body ≡ Err (fault_at q r) → ActionBefore body q
   unfolding action_means
   action_before late e =
       refused_by (opens_with body) (after_opening body) e (λ f. absurd (opens_before late f)) (λ o opened f. by_opening o (begins body o opened) e)

@@ -1,4 +1,5 @@
 -- Misses are counted from the latest beacon that came from the owner or named another (02, Five). Assumes nothing.
+use Rattle.std.specs.Prelude.{Ok, Err}
 use mathlib.Core.Bool.{Bool, true, false, ◌&&◌}
 use mathlib.Core.List.{List, [], ◌∷◌}
 use mathlib.Core.Logic.{◌⊎◌, inl, inr}
@@ -8,7 +9,7 @@ use native.Mathlib.Omega.{arith}
 use lib.Dec.{leb}
 use Rattle.answer.proofs.Booleans.{clash}
 use Rattle.answer.proofs.Judged.{never}
-use Rattle.answer.specs.Checks.{refused, accepted, pick}
+use Rattle.answer.specs.Checks.{pick}
 use Rattle.answer.specs.Faults.{Placed}
 use Rattle.answer.specs.declared.Fault.{Fault}
 use Rattle.beacon.specs.Beacons.{Told}
@@ -57,10 +58,10 @@ module _ (s : Settings) where
 
     -- ---- frames that set no count to 0
 
-    refused_calm : (q : Fault) → read_as s f ≡ refused q → (a : List ℕ) (y : Bool) → Restarts s (frame f) h a y → ⊥
+    refused_calm : (q : Fault) → read_as s f ≡ Err q → (a : List ℕ) (y : Bool) → Restarts s (frame f) h a y → ⊥
     refused_calm q e a y z = never (sym e ∙ z.accepts.0)
 
-    module _ (x : SentInIbss) (e : read_as s f ≡ accepted x) where
+    module _ (x : SentInIbss) (e : read_as s f ≡ Ok x) where
       foreign_calm : foreign_to t w x ≡ true → (a : List ℕ) (y : Bool) → Restarts s (frame f) h a y → ⊥
       foreign_calm g a y z = clash (sym g ∙ ap (foreign_to t w) (accepted_once (sym e ∙ z.accepts.0)) ∙ z.accepts.1)
 
@@ -95,7 +96,7 @@ module _ (s : Settings) where
       unfolding Latest
       passes none o = inr (none, before o)
 
-      module _ (x : SentInIbss) (e : read_as s f ≡ accepted x) (told : Told) (in_beacon : x.sent.kind ≡ beacon told) (ours : foreign_to t w x ≡ false) where
+      module _ (x : SentInIbss) (e : read_as s f ≡ Ok x) (told : Told) (in_beacon : x.sent.kind ≡ beacon told) (ours : foreign_to t w x ≡ false) where
         restarting : FromOwner s h x p.0 p.2 ⊎ NamesAnother s h x p.0 p.2 → t ≡ p.1 → Goal
         unfolding Latest
         restarting how g = inl (record { sent = x; accepts = (e, ours); told = told; in_beacon = in_beacon; how = how }, g)
@@ -149,7 +150,7 @@ module _ (s : Settings) where
             unheard nobody k m = m
             unheard (reigns r) k m = subst (λ (b : Bool). MarkOf (reigns (pick b (reign_of r.owner r.recovery t true) r)) p) k m
 
-      module _ (x : SentInIbss) (e : read_as s f ≡ accepted x) where
+      module _ (x : SentInIbss) (e : read_as s f ≡ Ok x) where
         by_kind : (k : Kind) → x.sent.kind ≡ k → foreign_to t w x ≡ false → MarkOf (after_kind t x k w) p → Goal
         by_kind (beacon told) y ours o = by_sender x e told y ours (owns (naming_at t x.dfs w) x.sender) refl o
         by_kind (probe_response told) y ours o = passes (no_beacon_calm x e (probe_response told) y (λ u z. let q : ◌≡◌ {A = ℕ} 0 1 = cc in omega arith)) o
@@ -160,8 +161,8 @@ module _ (s : Settings) where
         by_test_lem false y o = by_kind x.sent.kind refl y o
 
       by_outcome : (o : Placed SentInIbss) → read_as s f ≡ o → MarkOf (after_frame t o w) p → Goal
-      by_outcome (refused q) e o = passes (refused_calm q e) o
-      by_outcome (accepted x) e o = by_test_lem x e (foreign_to t w x) refl o
+      by_outcome (Err q) e o = passes (refused_calm q e) o
+      by_outcome (Ok x) e o = by_test_lem x e (foreign_to t w x) refl o
 
   -- ---- whatever the calls
 

@@ -1,5 +1,6 @@
 -- What a frame that is due a reply says of itself (01, "Replies": "Due only for accepted Action frames whose DA is the station"; 02, One): its three
 -- addresses, and its body. Assumes nothing.
+use Rattle.std.specs.Prelude.{Ok, Err}
 use mathlib.Core.Bool.{Bool, true, false, ◌&&◌, ◌||◌}
 use mathlib.Core.List.{List}
 use mathlib.Core.Path.{◌≡◌, refl, sym, ap, ◌∙◌, subst}
@@ -9,7 +10,7 @@ use lib.ListN.{take, drop}
 use Rattle.action.specs.Openings.{fixed_fields}
 use Rattle.answer.proofs.Booleans.{clash, neither}
 use Rattle.answer.proofs.Judged.{never, passed, kept}
-use Rattle.answer.specs.Checks.{Outcome, refused, accepted, pick, and_then}
+use Rattle.answer.specs.Checks.{Outcome, pick, and_then}
 use Rattle.answer.specs.Faults.{Placed}
 use Rattle.answer.specs.Numbers.{number_of}
 use Rattle.answer.specs.declared.Refusal.{Refusal}
@@ -42,11 +43,11 @@ pub record OwedByStation (own ap f : List ℕ) (x : Owed) : Type 0 where
   pub to_one : to_all f ≡ false
   pub from_ap : sa f ≡ ap
   pub of_bss : bssid f ≡ ap
-  pub is : or_return (body_of f) (action_means (body_of f)) ≡ accepted x
+  pub is : or_return (body_of f) (action_means (body_of f)) ≡ Ok x
 
 module _ (own ap' f : List ℕ) (x : Owed) where
   -- past the checks on the addresses, and not to all ones
-  addressed : address_means Cell.Ap own ap' f ≡ accepted false → or_return (body_of f) (action_means (body_of f)) ≡ accepted x → OwedByStation own ap' f x
+  addressed : address_means Cell.Ap own ap' f ≡ Ok false → or_return (body_of f) (action_means (body_of f)) ≡ Ok x → OwedByStation own ap' f x
   unfolding address_means foreign_address
   addressed e is =
       let p = passed _ _ _ e in
@@ -62,38 +63,38 @@ module _ (own ap' f : List ℕ) (x : Owed) where
       }
 
   by_checks : (m : Outcome Subtype) (o : Outcome Bool) → address_means Cell.Ap own ap' f ≡ o
-      → and_then (and_then m (λ s. and_then o (λ t. accepted (record { subtype = s; to_all = t })))) (after_header f) ≡ accepted x → OwedByStation own ap' f x
-  by_checks (refused r) o a e = absurd (never e)
-  by_checks (accepted s) (refused r) a e = absurd (never e)
-  by_checks (accepted s) (accepted true) a e = absurd (never e)
-  by_checks (accepted Subtype.Beacon) (accepted false) a e = absurd (never e)
-  by_checks (accepted Subtype.ProbeResponse) (accepted false) a e = absurd (never e)
-  by_checks (accepted Subtype.Action) (accepted false) a e = addressed a e
+      → and_then (and_then m (λ s. and_then o (λ t. Ok (record { subtype = s; to_all = t })))) (after_header f) ≡ Ok x → OwedByStation own ap' f x
+  by_checks (Err r) o a e = absurd (never e)
+  by_checks (Ok s) (Err r) a e = absurd (never e)
+  by_checks (Ok s) (Ok true) a e = absurd (never e)
+  by_checks (Ok Subtype.Beacon) (Ok false) a e = absurd (never e)
+  by_checks (Ok Subtype.ProbeResponse) (Ok false) a e = absurd (never e)
+  by_checks (Ok Subtype.Action) (Ok false) a e = addressed a e
 
-  pub owed_by_station : due_means own ap' f ≡ accepted x → OwedByStation own ap' f x
+  pub owed_by_station : due_means own ap' f ≡ Ok x → OwedByStation own ap' f x
   unfolding due_in header_means
   owed_by_station e = by_checks (management_means f) (address_means Cell.Ap own ap' f) refl e
 
 -- what is asked is what the body means
-pub due_asks : (own ap' f : List ℕ) (body : Body) → due_means own ap' f ≡ accepted (asks body) → action_means (body_of f) ≡ accepted body
+pub due_asks : (own ap' f : List ℕ) (body : Body) → due_means own ap' f ≡ Ok (asks body) → action_means (body_of f) ≡ Ok body
 due_asks own ap' f body e = by (action_means (body_of f)) (owed_by_station own ap' f (asks body) e).is
   where
-    by_test_lem : (t : Bool) → pick t (accepted (breaks (body_of f))) (refused Refusal.NoReplyDue) ≡ accepted (asks body) → ⊥
+    by_test_lem : (t : Bool) → pick t (Ok (breaks (body_of f))) (Err Refusal.NoReplyDue) ≡ Ok (asks body) → ⊥
     by_test_lem true k = let z : ◌≡◌ {A = ℕ} 0 1 = cc in omega arith
     by_test_lem false k = never k
 
-    by : (o : Placed Body) → or_return (body_of f) o ≡ accepted (asks body) → o ≡ accepted body
-    by (refused x) k = absurd (by_test_lem (is_returned (number_of x.refusal) && has_category (body_of f)) k)
-    by (accepted b) k = cc
+    by : (o : Placed Body) → or_return (body_of f) o ≡ Ok (asks body) → o ≡ Ok body
+    by (Err x) k = absurd (by_test_lem (is_returned (number_of x.refusal) && has_category (body_of f)) k)
+    by (Ok b) k = cc
 
 -- ---- an element of its Measurement Request is what some of its octets mean
 
 record Said (f : List ℕ) (q : Request) : Type 0 where
   contents : List ℕ
   octets : Octets f → Octets contents
-  means : request_means contents ≡ accepted q
+  means : request_means contents ≡ Ok q
 
-module _ (own ap' f : List ℕ) (token : ℕ) (rs : List Request) (i : ℕ) (q : Request) (due : due_means own ap' f ≡ accepted (asks (requests token rs))) (at : nth i rs ≡ accepted q) where
+module _ (own ap' f : List ℕ) (token : ℕ) (rs : List Request) (i : ℕ) (q : Request) (due : due_means own ap' f ≡ Ok (asks (requests token rs))) (at : nth i rs ≡ Ok q) where
   by_place : (p : Place) → Reads request_sort (body_of f) (nth i rs) p → Said f q
   by_place Place.Absent e = absurd (never (sym e ∙ at))
   by_place (Place.Contents start stop) e =

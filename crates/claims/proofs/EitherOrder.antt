@@ -1,5 +1,6 @@
 -- Frames to two different stations of a table at one moment may be taken in either order, and so may a frame to one and a question of the other (02, Seven: "frames to
 -- two different stations at one moment may be taken in either order"); of two frames to one station the order can matter. Over the code's own results. Assumes nothing.
+use Rattle.std.specs.Prelude.{Ok, Err}
 use mathlib.Core.Bool.{Bool, true, false}
 use mathlib.Core.List.{List, [], ◌∷◌, ◌++◌, map}
 use mathlib.Core.Logic.{⊎_elim}
@@ -8,7 +9,7 @@ use Prim.Native.Nat.{ℕ}
 use native.Mathlib.Omega.{arith}
 use lib.ListN.{replicate}
 use Rattle.answer.proofs.Booleans.{either, or_go}
-use Rattle.answer.specs.Checks.{Outcome, refused, accepted, pick, and_then, checked}
+use Rattle.answer.specs.Checks.{Outcome, pick, and_then, checked}
 use Rattle.answer.specs.Faults.{Placed, verdict_of}
 use Rattle.action.specs.Openings.{opens_with}
 use Rattle.element.specs.ChannelSwitch.{switch_means}
@@ -78,18 +79,18 @@ module _ (f : List ℕ) where
 
   -- what was read of it changes the row of its DA
   abbrev rows_by : Placed Sent → List Row → List Row
-  rows_by (refused x) ws = ws
-  rows_by (accepted x) ws = on_first (is_of (da f)) (hearing x.kind) ws
+  rows_by (Err x) ws = ws
+  rows_by (Ok x) ws = on_first (is_of (da f)) (hearing x.kind) ws
 
   taken_by : to_all f ≡ false → (t : Table) → (judged (take_of t f).verdict ≡ verdict_by (read_in t)) × ((take_of t f).table ≡ with_rows t (rows_by (read_in t) t.rows))
   unfolding take_means
   taken_by alone t = by (read_in t) refl
     where
       by : (o : Placed Sent) → read_in t ≡ o
-          → (judged (taken t (and_then o (λ x. accepted (with_rows t (heard_rows f x t.rows))))).verdict ≡ verdict_by o)
-          × ((taken t (and_then o (λ x. accepted (with_rows t (heard_rows f x t.rows))))).table ≡ with_rows t (rows_by o t.rows))
-      by (refused x) e = (refl, refl)
-      by (accepted x) e = (
+          → (judged (taken t (and_then o (λ x. Ok (with_rows t (heard_rows f x t.rows))))).verdict ≡ verdict_by o)
+          × ((taken t (and_then o (λ x. Ok (with_rows t (heard_rows f x t.rows))))).table ≡ with_rows t (rows_by o t.rows))
+      by (Err x) e = (refl, refl)
+      by (Ok x) e = (
         refl,
         ap (λ (b : Bool). with_rows t (pick b (map (hearing x.kind) t.rows) (on_first (is_of (da f)) (hearing x.kind) t.rows)))
             (sym (sent_to_all (reader_of t f) t.ap t.interval f x e) ∙ alone),
@@ -104,9 +105,9 @@ module _ (f : List ℕ) where
 
 module _ (f g : List ℕ) (two : same (da f) (da g) ≡ false) where
   rows_exchanged : (o o' : Placed Sent) (ws : List Row) → rows_by g o' (rows_by f o ws) ≡ rows_by f o (rows_by g o' ws)
-  rows_exchanged (refused x) o' ws = refl
-  rows_exchanged (accepted x) (refused y) ws = refl
-  rows_exchanged (accepted x) (accepted y) ws =
+  rows_exchanged (Err x) o' ws = refl
+  rows_exchanged (Ok x) (Err y) ws = refl
+  rows_exchanged (Ok x) (Ok y) ws =
       exchanged (is_of (da f)) (is_of (da g)) (hearing x.kind) (hearing y.kind) (λ w. of_another (da g) (da f) two w) (hearing_keeps (da g) x.kind) (hearing_keeps (da f) y.kind) ws
 
 module _ (t : Table) (v : ValidTable t) (f : List ℕ) (alone : to_all f ≡ false) where
@@ -142,7 +143,7 @@ module _ (t : Table) (v : ValidTable t) (f : List ℕ) (alone : to_all f ≡ fal
       let m' = does_means mid' (take f) x' last' q'.valid other-later in
       let still : station_of mid own ≡ station_of t own = ap (λ (u : Table). station_of u own) m.leaves ∙ to_another t v own f (or_go (to_all f) alone ∙ two) in (
         m.answers ∙ ap (λ (u : Table). judged (take_of u f).verdict) (sym q'.leaves) ∙ sym m'.answers,
-        q.answers ∙ ap (λ (o : Outcome Station). asked (asked_as (and_then o (λ s. accepted (permission_of s n))))) still ∙ sym q'.answers,
+        q.answers ∙ ap (λ (o : Outcome Station). asked (asked_as (and_then o (λ s. Ok (permission_of s n))))) still ∙ sym q'.answers,
         q.leaves ∙ m.leaves ∙ ap (λ (u : Table). (take_of u f).table) (sym q'.leaves) ∙ sym m'.leaves,
       )
 
@@ -168,9 +169,9 @@ order_matters before none x y x' y' t u one other e =
     omega (arith, same)
   where
     channel_in : Outcome Station → ℕ
-    channel_in (refused r) = 0
-    channel_in (accepted s) = s.channel
+    channel_in (Err r) = 0
+    channel_in (Ok s) = s.channel
 
     at_zero : (after : List TableMade)
-        → ◌≡◌ {A = Outcome Station} (accepted (record_from (joined_at before) ours (history_for ours.own after))) (accepted (record_from 0 ours (history_for ours.own after)))
-    at_zero after = ap (λ (m : ℕ). accepted (record_from m ours (history_for ours.own after))) none
+        → ◌≡◌ {A = Outcome Station} (Ok (record_from (joined_at before) ours (history_for ours.own after))) (Ok (record_from 0 ours (history_for ours.own after)))
+    at_zero after = ap (λ (m : ℕ). Ok (record_from m ours (history_for ours.own after))) none

@@ -1,5 +1,6 @@
 -- Calls made in either way meet the meanings of the calls by value (02, Eight: "both give the same station and answer"), and octets in which a station was started hold one after any
 -- calls. Assumes nothing.
+use Rattle.std.specs.Prelude.{Ok, Err}
 use mathlib.Core.List.{List, []}
 use mathlib.Core.Logic.{∥∥₁_elim, ∥∥₁_map}
 use mathlib.Core.Path.{◌≡◌, refl, sym, ap, ap₂, ◌∙◌, subst}
@@ -18,9 +19,8 @@ use denote.Triple.Clauses.{at_exit}
 use lib.ListN.{length, drop, length-append, length-drop}
 use Rattle.answer.proofs.Judged.{never, passed, kept, followed}
 use Rattle.answer.specs.contracts.Answer as AnswerRow
-use Rattle.answer.specs.Checks.{Outcome, refused, accepted, and_then, answer_of}
+use Rattle.answer.specs.Checks.{Outcome, and_then, answer_of, Answer}
 use Rattle.answer.specs.Faults.{Placed, nowhere, verdict_of}
-use Rattle.answer.specs.declared.Answer.{Answer}
 use Rattle.capture_record.specs.declared.entry.Settings.{Settings}
 use Rattle.lent.proofs.Lending.{given}
 use Rattle.lent.specs.contracts.advance as LentAdvance
@@ -39,11 +39,10 @@ use Rattle.station.specs.declared.asking.Permission.{Permission}
 use Rattle.station.specs.declared.clock.Stepped.{Stepped}
 use Rattle.station_record.proofs.Holding.{held_room}
 use Rattle.station_record.proofs.Layouts.{held_valid, laid_reads}
-use Rattle.station_record.specs.Calls.{relaid, started_in, taken_in, advanced_in, asked_in, asked_told}
+use Rattle.station_record.specs.Calls.{relaid, started_in, taken_in, advanced_in, asked_in}
 use Rattle.station_record.specs.Fits.{Fits}
 use Rattle.station_record.specs.Held.{station_at, held_in}
 use Rattle.station_record.specs.Records.{size, record_of}
-use Rattle.station_record.specs.declared.Asked.{Asked}
 use Rattle.claims.specs.EitherWays.{WasKept, LentAdvances, LentAsks, EitherDoes, either_way, SettingsFit, RecordStarts, RecordDoes, in_octets}
 use Rattle.claims.specs.Histories.{Call}
 use Rattle.claims.specs.Records.{record_after}
@@ -57,18 +56,18 @@ use Rattle.claims.proofs.StaysFit.{started_fits, advanced_fits, taken_fits}
 -- ---- octets that hold a station, after a call on them
 
 -- a station is valid that is held
-held_is_valid : (os : List ℕ) (r : Station) → held_in os ≡ accepted r → Valid r
+held_is_valid : (os : List ℕ) (r : Station) → held_in os ≡ Ok r → Valid r
 unfolding held_in
 held_is_valid os r e = let p = passed _ _ _ e in subst Valid (kept (station_at os) p.1) (held_valid os p.0)
 
 -- the record of a station that is laid in front is held there
-laid_is_held : (os : List ℕ) (t : Station) → size ≤ length os → Valid t → Fits t → held_in (filled (record_of t) os) ≡ accepted t
+laid_is_held : (os : List ℕ) (t : Station) → size ≤ length os → Valid t → Fits t → held_in (filled (record_of t) os) ≡ Ok t
 laid_is_held os t room v f =
     laid_reads t v f (drop (length (record_of t)) os) (omega (arith, room, length-append (record_of t) (drop (length (record_of t)) os), length-drop (length (record_of t)) os))
 
 -- octets hold this station, which fits them
 pub record Holds (os : List ℕ) (r : Station) : Type 0 where
-  pub held : held_in os ≡ accepted r
+  pub held : held_in os ≡ Ok r
   pub fits : Fits r
 
 module _ (os : List ℕ) (r : Station) (h : Holds os r) where
@@ -77,46 +76,46 @@ module _ (os : List ℕ) (r : Station) (h : Holds os r) where
   after_advance n = by (advance_means r n) refl (valid_advance r (held_is_valid os r h.held) n)
     where
       by : (o : Outcome Station) → advance_means r n ≡ o → Valid (stepped r o).station → Holds (relaid os o) (stepped r o).station
-      by (refused q) e v = h
-      by (accepted t) e v = let f = advanced_fits r n t h.fits e in record { held = laid_is_held os t (held_room os r h.held) v f; fits = f }
+      by (Err q) e v = h
+      by (Ok t) e v = let f = advanced_fits r n t h.fits e in record { held = laid_is_held os t (held_room os r h.held) v f; fits = f }
 
   -- a frame of octets
   after_take : (f : List ℕ) → Octets f → Holds (relaid os (take_means r f)) (take_of r f).station
   after_take f octets = by (take_means r f) refl (valid_take r (held_is_valid os r h.held) f)
     where
       by : (o : Placed Station) → take_means r f ≡ o → Valid (taken r o).station → Holds (relaid os o) (taken r o).station
-      by (refused q) e v = h
-      by (accepted t) e v = let g = taken_fits r f t h.fits octets e in record { held = laid_is_held os t (held_room os r h.held) v g; fits = g }
+      by (Err q) e v = h
+      by (Ok t) e v = let g = taken_fits r f t h.fits octets e in record { held = laid_is_held os t (held_room os r h.held) v g; fits = g }
 
 -- what an advance and a frame are answered
 pub advance_said : (r : Station) (n : ℕ) → answer_of (advance_means r n) ≡ (advance_of r n).answer
 advance_said r n = by (advance_means r n)
   where
     by : (o : Outcome Station) → answer_of o ≡ (stepped r o).answer
-    by (refused q) = refl
-    by (accepted t) = refl
+    by (Err q) = refl
+    by (Ok t) = refl
 
 pub take_said : (r : Station) (f : List ℕ) → verdict_of (take_means r f) ≡ (take_of r f).verdict
 take_said r f = by (take_means r f)
   where
     by : (o : Placed Station) → verdict_of o ≡ (taken r o).verdict
-    by (refused q) = refl
-    by (accepted t) = refl
+    by (Err q) = refl
+    by (Ok t) = refl
 
 -- an answer to a question that stands for a permission is that permission
-asked_is : (x : Asked) (p : Permission) → asked_told x ≡ accepted p → x ≡ Asked.Is p
-asked_is (Asked.Refused q) p e = absurd (never e)
-asked_is (Asked.Is q) p e = cc
+asked_is : (x : Outcome Permission) (p : Permission) → x ≡ Ok p → x ≡ Ok p
+asked_is (Err q) p e = absurd (never e)
+asked_is (Ok q) p e = cc
 
 -- ---- any calls
 
 -- an accepted start into octets
-begins : (own ap' : List ℕ) (b channel : ℕ) (os : List ℕ) (t : Station) → started_in own ap' b channel os ≡ accepted t → (start_means own ap' b channel ≡ accepted t) × (size ≤ length os)
+begins : (own ap' : List ℕ) (b channel : ℕ) (os : List ℕ) (t : Station) → started_in own ap' b channel os ≡ Ok t → (start_means own ap' b channel ≡ Ok t) × (size ≤ length os)
 unfolding started_in
 begins own ap' b channel os t e =
     let w = followed (start_means own ap' b channel) _ t e in
     let p = passed _ _ _ w.2 in
-    (w.1 ∙ ap accepted (kept w.0 p.1), ltb-false (length os) size p.0)
+    (w.1 ∙ ap Ok (kept w.0 p.1), ltb-false (length os) size p.0)
 
 -- each call on octets that hold a station is answered as it means, and leaves octets that hold what it means
 record_does : (before : List ℕ) (c : Call) (x : Said) (os : List ℕ) → RecordDoes before c x os → (r : Station) → Holds before r
@@ -132,8 +131,8 @@ record_does before c x os (RecordDoes.advances {n = n} (κs, a, y, e, promise, (
       subst (λ (b : List ℕ). Holds b (advance_of r n).station) (sym (sym left ∙ promise.1 ∙ ap₂ (λ (b : List ℕ) (o : Outcome Station). relaid b o) at_entry_lem comes)) (after_advance before r h n),
     )
 record_does before c x os (RecordDoes.asks {n = n} {v = v} (κs, a, y, e, promise, (at_entry_lem, units, told))) r h =
-    let comes : asked_in a.1.0 a.0.now ≡ accepted (permission_of r n) = ap₂ (λ (k : ℕ) (b : List ℕ). asked_in k b) units at_entry_lem ∙ ap (λ (o : Outcome Station). and_then o (λ z. accepted (permission_of z n))) h.held in
-    (ap asked (asked_is v (permission_of r n) (ap asked_told (sym told) ∙ promise ∙ comes)), h)
+    let comes : asked_in a.1.0 a.0.now ≡ Ok (permission_of r n) = ap₂ (λ (k : ℕ) (b : List ℕ). asked_in k b) units at_entry_lem ∙ ap (λ (o : Outcome Station). and_then o (λ z. Ok (permission_of z n))) h.held in
+    (ap asked (asked_is v (permission_of r n) (ap (sym told) ∙ promise ∙ comes)), h)
 
 module _ (s : Settings) (f : SettingsFit s) where
   record_starts : (os : List ℕ) → RecordStarts s os → Holds os (record_after s [])
@@ -144,14 +143,14 @@ module _ (s : Settings) (f : SettingsFit s) where
       entry : List ℕ
       entry = a.1.1.1.1.0.now
 
-      by : (o : Outcome Station) → started_in s.own s.ap s.interval s.channel entry ≡ o → Answer.Accepted ≡ answer_of o → os ≡ relaid entry o → Holds os (record_after s [])
-      by (refused q) d said exit = absurd (let z : ◌≡◌ {A = ℕ} 0 1 = cc in omega arith)
-      by (accepted t) d said exit =
+      by : (o : Outcome Station) → started_in s.own s.ap s.interval s.channel entry ≡ o → Ok tt ≡ answer_of o → os ≡ relaid entry o → Holds os (record_after s [])
+      by (Err q) d said exit = absurd (let z : ◌≡◌ {A = ℕ} 0 1 = cc in omega arith)
+      by (Ok t) d said exit =
           let w = begins s.own s.ap s.interval s.channel entry t d in
           let new = is_fresh s t w.0 in
           let g = started_fits s.own s.ap s.interval s.channel t f.own_six f.own_octets f.ap_six f.ap_octets f.interval_fits w.0 in
           record {
-            held = ap held_in exit ∙ laid_is_held entry t w.1 new.1 g ∙ ap accepted new.0;
+            held = ap held_in exit ∙ laid_is_held entry t w.1 new.1 g ∙ ap Ok new.0;
             fits = subst Fits new.0 g;
           }
 
@@ -204,7 +203,7 @@ module _ {M : Type 1} {𝓤 : Ura M} (𝓛 : Logic 𝓤) (at_mem : Memory → SP
       record { answers = ap answered w.0; leaves = w.1; valid = subst Valid (sym w.1) (valid_advance r v n) }
   either_does r c x next v (EitherDoes.asks_lent y) =
       let w = lent_asks y in
-      record { answers = ap (λ (p : Permission). asked (Asked.Is p)) w.0; leaves = w.1; valid = subst Valid (sym w.1) v }
+      record { answers = ap (λ (p : Permission). asked (Ok p)) w.0; leaves = w.1; valid = subst Valid (sym w.1) v }
 
   -- such calls can be made on any valid station: what the calls by value give is allowed
   module _ (κ : Lft) (b o : ℕ) (γ : GName) (before : Station) (n : ℕ) (v : Valid before) where
@@ -260,7 +259,7 @@ module _ {M : Type 1} {𝓤 : Ura M} (𝓛 : Logic 𝓤) (at_mem : Memory → SP
 
     -- a run on octets beside one of the same calls in either way: the octets hold the station, and the answers are the same
     pub same_in_octets : SettingsFit s → {ms ns : List (Made Call Said)} {os : List ℕ} {r : Station} → Ran in_octets s ms os → Ran (either_way 𝓛 at_mem run) s ns r
-        → calls_of ms ≡ calls_of ns → (held_in os ≡ accepted r) × (ms ≡ ns)
+        → calls_of ms ≡ calls_of ns → (held_in os ≡ Ok r) × (ms ≡ ns)
     same_in_octets f x y same =
         let w = said_alike (octets_meet s f) either_way_meets x y same in
-        (w.1.held ∙ ap accepted (sym w.2.0), w.3)
+        (w.1.held ∙ ap Ok (sym w.2.0), w.3)

@@ -1,6 +1,7 @@
 -- Demand 2 for the eight elements: each record that may be written reads back the same, and accepted contents with nothing
 -- uninterpreted and no reserved bit set are written back octet for octet. `RoundTrip` says it, with what 16 is given for and
 -- that what is read fits its fields. Assumes nothing.
+use Rattle.std.specs.Prelude.{Ok}
 use mathlib.Core.Bool.{true}
 use mathlib.Core.List.{[], ◌∷◌}
 use mathlib.Core.Path.{◌≡◌, sym, ap, ap₂, ◌∙◌}
@@ -8,7 +9,6 @@ use Prim.Native.Nat.{ℕ, ◌+◌, ◌*◌, ◌<◌}
 use native.Mathlib.Omega.{arith}
 use lib.ListN.{length, length-append}
 use lib.Seq.{get_or-append-add}
-use Rattle.answer.specs.Checks.{accepted}
 use Rattle.element.specs.ChannelSwitch.{switch_means, switch_contents, switch_may}
 use Rattle.element.specs.IbssDfs.{Dfs, dfs_means, pair_means, dfs_contents, dfs_may, DfsFits, few_pairs, in_element}
 use Rattle.octets.specs.Elements.{RoundTrip}
@@ -50,11 +50,11 @@ pub ibss_dfs : RoundTrip dfs_means dfs_contents dfs_may DfsFits few_pairs in_ele
 ibss_dfs = dfs_trip
 
 -- and each pair that was written is read by its index
-pub ibss_dfs_pair : (d : Dfs) (i : ℕ) → DfsFits d → 2 * i + 1 < length d.pairs → pair_means i (dfs_contents d) ≡ accepted (record { channel = octet (2 * i) d.pairs; map = octet (2 * i + 1) d.pairs })
+pub ibss_dfs_pair : (d : Dfs) (i : ℕ) → DfsFits d → 2 * i + 1 < length d.pairs → pair_means i (dfs_contents d) ≡ Ok (record { channel = octet (2 * i) d.pairs; map = octet (2 * i + 1) d.pairs })
 ibss_dfs_pair d i f h =
     let size = length-append d.owner (d.recovery ∷ d.pairs) in
     sym (a_pair i (dfs_contents d) (omega (arith, f, size)))
-    ∙ ap₂ (λ (c m : ℕ). accepted (record { channel = c; map = m })) (among (2 * i) (7 + 2 * i) (omega arith)) (among (2 * i + 1) (7 + 2 * i + 1) (omega arith))
+    ∙ ap₂ (λ (c m : ℕ). Ok (record { channel = c; map = m })) (among (2 * i) (7 + 2 * i) (omega arith)) (among (2 * i + 1) (7 + 2 * i + 1) (omega arith))
   where
     -- the octets of the pairs stand after seven others
     among : (k n : ℕ) → n ≡ 7 + k → octet n (dfs_contents d) ≡ octet k d.pairs

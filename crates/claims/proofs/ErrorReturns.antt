@@ -1,4 +1,5 @@
 -- An error return is the old body in every octet but the category's top bit, and nothing answers it (02, One). Assumes nothing.
+use Rattle.std.specs.Prelude.{Ok, Err}
 use mathlib.Core.Bool.{Bool, true, false, ◌&&◌}
 use mathlib.Core.List.{List, [], ◌∷◌, ◌++◌}
 use mathlib.Core.Path.{◌≡◌, refl, sym, ap, subst, subst₂, ◌∙◌}
@@ -9,7 +10,7 @@ use lib.Dec.{ltb}
 use lib.ListN.{length, drop, length-append, length-drop}
 use lib.Seq.{drop-drop}
 use Rattle.answer.proofs.Judged.{never, followed}
-use Rattle.answer.specs.Checks.{refused, accepted, pick}
+use Rattle.answer.specs.Checks.{pick}
 use Rattle.answer.specs.Faults.{Placed, fault_past}
 use Rattle.answer.specs.Numbers.{number_of}
 use Rattle.answer.specs.declared.Refusal.{Refusal}
@@ -45,7 +46,7 @@ octet_past (suc n) i (x ∷ xs) = ap (λ (k : ℕ). octet k (x ∷ xs)) (let e :
 
 -- ---- a frame that is owed its body back
 
-refused_so : (own ap' f body : List ℕ) (b : ℕ) (p : Returned Cell.Ap own ap' f body) → frame_means own ap' b f ≡ refused (fault_past header_length p.fault)
+refused_so : (own ap' f body : List ℕ) (b : ℕ) (p : Returned Cell.Ap own ap' f body) → frame_means own ap' b f ≡ Err (fault_past header_length p.fault)
 unfolding frame_means
 refused_so own ap' f body b p = rw (p.head, p.breaks_it) refl
 
@@ -114,10 +115,10 @@ module _ (own ap' g : List ℕ) (top : 128 ≤ category g) where
   leads (tpc_report t r) run e = omega (arith, ap (octet 0) e, first g, top)
   leads (switch s) run e = omega (arith, ap (octet 0) e, first g, top)
 
-  nothing_owed : (x : Owed) → due_means own ap' g ≡ accepted x → ⊥
+  nothing_owed : (x : Owed) → due_means own ap' g ≡ Ok x → ⊥
   nothing_owed x e = by (action_means (body_of g)) refl (owed_by_station own ap' g x e).is
     where
-      by_test_lem : (t : Bool) → t ≡ false → pick t (accepted (breaks (body_of g))) (refused Refusal.NoReplyDue) ≡ accepted x → ⊥
+      by_test_lem : (t : Bool) → t ≡ false → pick t (Ok (breaks (body_of g))) (Err Refusal.NoReplyDue) ≡ Ok x → ⊥
       by_test_lem true k h = let z : ◌≡◌ {A = ℕ} 0 1 = cc in omega arith
       by_test_lem false k h = never h
 
@@ -125,15 +126,15 @@ module _ (own ap' g : List ℕ) (top : 128 ≤ category g) where
       and-false true = none_free
       and-false false = refl
 
-      by : (o : Placed Body) → action_means (body_of g) ≡ o → or_return (body_of g) o ≡ accepted x → ⊥
-      by (refused y) a k = by_test_lem (is_returned (number_of y.refusal) && has_category (body_of g)) (and-false (is_returned (number_of y.refusal))) k
-      by (accepted b) a k = let q = parts (body_of g) b a in leads b q.run q.front
+      by : (o : Placed Body) → action_means (body_of g) ≡ o → or_return (body_of g) o ≡ Ok x → ⊥
+      by (Err y) a k = by_test_lem (is_returned (number_of y.refusal) && has_category (body_of g)) (and-false (is_returned (number_of y.refusal))) k
+      by (Ok b) a k = let q = parts (body_of g) b a in leads b q.run q.front
 
-  pub never_tpc : (report : TpcReport) (os : List ℕ) → tpc_reply own ap' report g ≡ accepted os → ⊥
+  pub never_tpc : (report : TpcReport) (os : List ℕ) → tpc_reply own ap' report g ≡ Ok os → ⊥
   unfolding tpc_reply_in
   never_tpc report os e = let p = followed (due_means own ap' g) _ os e in nothing_owed p.0 p.1
 
-  pub never_measurement : (clock index : ℕ) (readings : Readings) (os : List ℕ) → measurement_reply own ap' clock index readings g ≡ accepted os → ⊥
+  pub never_measurement : (clock index : ℕ) (readings : Readings) (os : List ℕ) → measurement_reply own ap' clock index readings g ≡ Ok os → ⊥
   unfolding measurement_reply_in
   never_measurement clock index readings os e = let p = followed (due_means own ap' g) _ os e in nothing_owed p.0 p.1
 
@@ -142,8 +143,8 @@ module _ (own ap' f os : List ℕ) (r : ReturnsBody own ap' f os) where
   top : 128 ≤ category os
   top = omega (arith, r.top_bit)
 
-  pub never_answered : (heard-by from : List ℕ) (report : TpcReport) (back : List ℕ) → tpc_reply heard-by from report os ≡ accepted back → ⊥
+  pub never_answered : (heard-by from : List ℕ) (report : TpcReport) (back : List ℕ) → tpc_reply heard-by from report os ≡ Ok back → ⊥
   never_answered heard-by from = never_tpc heard-by from os top
 
-  pub never_measured : (heard-by from : List ℕ) (clock index : ℕ) (readings : Readings) (back : List ℕ) → measurement_reply heard-by from clock index readings os ≡ accepted back → ⊥
+  pub never_measured : (heard-by from : List ℕ) (clock index : ℕ) (readings : Readings) (back : List ℕ) → measurement_reply heard-by from clock index readings os ≡ Ok back → ⊥
   never_measured heard-by from = never_measurement heard-by from os top

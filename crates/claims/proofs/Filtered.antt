@@ -1,5 +1,6 @@
 -- Every accepted frame over the plain list of its elements (01, "Octets"; "Wrong programs that look right": only the first, or only the last, Quiet
 -- element of a beacon is kept): each kind says exactly what the elements in its octets mean. Assumes nothing.
+use Rattle.std.specs.Prelude.{Ok}
 use mathlib.Core.Bool.{Bool, true, false}
 use mathlib.Core.List.{List, [], ◌∷◌}
 use mathlib.Core.Logic.{◌↔◌}
@@ -12,7 +13,7 @@ use lib.Seq.{drop-drop, take-append_seam}
 use Rattle.action.specs.Openings.{fixed_fields, switch_fixed_fields, Opens, switching, with, opens_with}
 use Rattle.answer.proofs.Judged.{never, followed}
 use Rattle.answer.proofs.Yielding.{Yields, of_value, either_way_lem, after_value}
-use Rattle.answer.specs.Checks.{Outcome, accepted, pick}
+use Rattle.answer.specs.Checks.{Outcome, pick}
 use Rattle.answer.specs.Faults.{placed_at, nowhere, placed_past}
 use Rattle.answer.proofs.Placing.{placed_value, past_value}
 use Rattle.beacon.specs.Beacons.{Told, fixed_length, beacon_means}
@@ -47,33 +48,33 @@ use Rattle.claims.proofs.RunItems.{walk_whole}
 -- ---- bodies of one element
 
 -- after the element there are none but vendors' elements
-nothing_left_lem : {A : Type 0} (n : ℕ) (es : Elements) (a b : A) → nothing_left n (passing es) a ≡ accepted b
+nothing_left_lem : {A : Type 0} (n : ℕ) (es : Elements) (a b : A) → nothing_left n (passing es) a ≡ Ok b
     → (vendors : List Item) × (es ≡ walked_as vendors Raw.end) × (of_id vendor_id vendors ≡ vendors) × (a ≡ b)
 unfolding nothing_left passing walked_as of_id
 nothing_left_lem n Raw.end a b e = ([], refl, refl, cc)
 nothing_left_lem {A} n (Raw.cut_header o) a b e = by (eqb o vendor_id) e
   where
-    by : (t : Bool) → nothing_left n (pick t cut_passed cut_header) a ≡ accepted b
+    by : (t : Bool) → nothing_left n (pick t cut_passed cut_header) a ≡ Ok b
         → (vendors : List Item) × (Raw.cut_header o ≡ walked_as vendors Raw.end) × (of_id vendor_id vendors ≡ vendors) × (a ≡ b)
     by true f = absurd (never f)
     by false f = absurd (never f)
 nothing_left_lem {A} n (Raw.cut_contents id) a b e = by (eqb id vendor_id) e
   where
-    by : (t : Bool) → nothing_left n (pick t cut_passed (cut_contents id)) a ≡ accepted b
+    by : (t : Bool) → nothing_left n (pick t cut_passed (cut_contents id)) a ≡ Ok b
         → (vendors : List Item) × (Raw.cut_contents id ≡ walked_as vendors Raw.end) × (of_id vendor_id vendors ≡ vendors) × (a ≡ b)
     by true f = absurd (never f)
     by false f = absurd (never f)
 nothing_left_lem {A} n (Raw.more id c es) a b e = by (eqb id vendor_id) refl e (nothing_left_lem (past_element n c) es a b)
   where
-    by : (t : Bool) → eqb id vendor_id ≡ t → nothing_left n (pick t (passed c (passing es)) (more id c (passing es))) a ≡ accepted b
-        → (nothing_left (past_element n c) (passing es) a ≡ accepted b → (vendors : List Item) × (es ≡ walked_as vendors Raw.end) × (of_id vendor_id vendors ≡ vendors) × (a ≡ b))
+    by : (t : Bool) → eqb id vendor_id ≡ t → nothing_left n (pick t (passed c (passing es)) (more id c (passing es))) a ≡ Ok b
+        → (nothing_left (past_element n c) (passing es) a ≡ Ok b → (vendors : List Item) × (es ≡ walked_as vendors Raw.end) × (of_id vendor_id vendors ≡ vendors) × (a ≡ b))
         → (vendors : List Item) × (Raw.more id c es ≡ walked_as vendors Raw.end) × (of_id vendor_id vendors ≡ vendors) × (a ≡ b)
     by true v f on =
         let r = on f in
         (item id c ∷ r.0, ap (Raw.more id c) r.1, simp v (ap (λ (xs : List Item). item id c ∷ xs) r.2), r.3)
     by false v f on = absurd (never f)
 
-left_nothing : {A : Type 0} (n : ℕ) (vendors : List Item) (a : A) → of_id vendor_id vendors ≡ vendors → nothing_left n (passing (walked_as vendors Raw.end)) a ≡ accepted a
+left_nothing : {A : Type 0} (n : ℕ) (vendors : List Item) (a : A) → of_id vendor_id vendors ≡ vendors → nothing_left n (passing (walked_as vendors Raw.end)) a ≡ Ok a
 unfolding nothing_left passing walked_as
 left_nothing n [] a h = refl
 left_nothing n (x ∷ xs) a h =
@@ -81,7 +82,7 @@ left_nothing n (x ∷ xs) a h =
     simp (eq-eqb x.id vendor_id p.0) (left_nothing (past_element n x.contents) xs a p.1)
 
 module _ {A : Type 0} (n id : ℕ) (means : List ℕ → Outcome A) (run : List ℕ) (a : A) where
-  accepted_alone : single n id means (handed_in run) ≡ accepted a → AloneOf id means run a
+  accepted_alone : single n id means (handed_in run) ≡ Ok a → AloneOf id means run a
   unfolding single walked_as
   accepted_alone e =
       let p = followed (placed_at n (required id (handed_in run))) _ a e in
@@ -89,16 +90,16 @@ module _ {A : Type 0} (n id : ℕ) (means : List ℕ → Outcome A) (run : List 
       let q = followed (placed_at n (means c)) _ a p.2 in
       let w = handed_raw (elements_in run) id c p.0.rest (whole id (handed_in run) p.0 (placed_value n (required id (handed_in run)) p.1)) in
       let l = nothing_left_lem (past_element n c) w.0 q.0 a (ap (λ (hs : Handed). nothing_left (past_element n c) hs q.0) w.2 ∙ q.2) in
-      (c, l.0, (walk_whole run (item id c ∷ l.0)).0 (w.1 ∙ ap (Raw.more id c) l.1), l.2, placed_value n (means c) q.1 ∙ ap accepted l.3)
+      (c, l.0, (walk_whole run (item id c ∷ l.0)).0 (w.1 ∙ ap (Raw.more id c) l.1), l.2, placed_value n (means c) q.1 ∙ ap Ok l.3)
 
-  alone_accepted : AloneOf id means run a → single n id means (handed_in run) ≡ accepted a
+  alone_accepted : AloneOf id means run a → single n id means (handed_in run) ≡ Ok a
   unfolding single handing walked_as
   alone_accepted (c, vendors, e, v, m) =
       let rest = passing (walked_as vendors Raw.end) in
       ap (λ (es : Elements). single n id means (handing es)) ((walk_whole run (item id c ∷ vendors)).1 e)
       ∙ simp (there id c rest, m) (left_nothing (past_element n c) vendors a v)
 
-  pub single_filtered : (single n id means (handed_in run) ≡ accepted a) ↔ AloneOf id means run a
+  pub single_filtered : (single n id means (handed_in run) ≡ Ok a) ↔ AloneOf id means run a
   single_filtered = (accepted_alone, alone_accepted)
 
 -- ---- frames of all seven kinds
@@ -130,13 +131,13 @@ module _ (own ap' : List ℕ) (b : ℕ) (f : List ℕ) where
       (λ k g. of_value _ (of_kind_lem (body_of f) b h.subtype k (past_value header_length (kind_of b h.subtype (body_of f)) g))))
 
   -- an accepted frame says what the elements in its octets mean
-  pub frame_filtered : (s : Sent) → frame_means own ap' b f ≡ accepted s → KindOf b (body_of f) s.kind
+  pub frame_filtered : (s : Sent) → frame_means own ap' b f ≡ Ok s → KindOf b (body_of f) s.kind
   frame_filtered s e = of_frame s e
 
   -- ---- the Quiet elements of a beacon or a probe response
 
   -- those of ID 40 among the elements after the fixed fields, all of them, in their order (`laid_once`: no other elements have these octets)
-  pub every_quiet : (s : Sent) (t : Told) → frame_means own ap' b f ≡ accepted s → Says s.kind t
+  pub every_quiet : (s : Sent) (t : Told) → frame_means own ap' b f ≡ Ok s → Says s.kind t
       → (items : List Item) × (drop (header_length + fixed_length) f ≡ laid items) × ReadAs (quiet_means b) (of_id 40 items) t.quiets
   every_quiet s t e says =
       let n = notice s.kind says (frame_filtered s e) in
@@ -149,7 +150,7 @@ module _ (own ap' : List ℕ) (b : ℕ) (f : List ℕ) where
 
   -- which `frame::read` hands out
   pub handed_out : (v : Received) (s : Sent) (t : Told) → v ≡ frame_laid (frame_means own ap' b f)
-      → frame_means own ap' b f ≡ accepted s → Says s.kind t → take v.count v.quiets ≡ t.quiets
+      → frame_means own ap' b f ≡ Ok s → Says s.kind t → take v.count v.quiets ≡ t.quiets
   handed_out v s t e h says =
       ap (λ (x : Received). take x.count x.quiets) (e ∙ ap frame_laid h) ∙ take-append_seam (quiets_of s.kind) _ ∙ told s.kind says
     where

@@ -1,4 +1,5 @@
 -- A beacon of an IBSS over the plain list of its elements: it is accepted as what they say, and only so. Assumes nothing.
+use Rattle.std.specs.Prelude.{Ok}
 use mathlib.Core.Bool.{Bool, true, false}
 use mathlib.Core.List.{List, [], ◌∷◌, map}
 use mathlib.Core.Logic.{◌↔◌, inl, inr}
@@ -8,7 +9,7 @@ use native.Mathlib.Omega.{arith}
 use borrow.Author.Tests.{eq-eqb, ne_eqb, eqb-true, eqb-false}
 use lib.Dec.{eqb}
 use lib.ListN.{drop}
-use Rattle.answer.specs.Checks.{Outcome, accepted}
+use Rattle.answer.specs.Checks.{Outcome}
 use Rattle.beacon.proofs.InIbss.{sound_read, accepted_sound, accepted_in_01}
 use Rattle.beacon.specs.Beacons.{fixed_length}
 use Rattle.beacon.specs.IbssBeacons.{MaybeDfs, absent, is, ToldInIbss, ibss_beacon_means, besides, NoDfs, OneDfs, DfsSound}
@@ -53,7 +54,7 @@ one_in d (x ∷ xs) h = by (eqb x.id 41) refl h (one_in d xs)
         → OneDfs d (walked_as (x ∷ xs) end)
     by true k h on =
         let e = simp k at h in
-        let first : dfs_means x.contents ≡ accepted d = cc in
+        let first : dfs_means x.contents ≡ Ok d = cc in
         inl (eqb-true x.id 41 k, first, none_in xs (cc))
     by false k h on = inr (eqb-false x.id 41 k, on (simp k at h))
 
@@ -68,7 +69,7 @@ sound_in (is d) xs h = one_in d xs h
 -- ---- a body
 
 module _ (b : ℕ) (body : List ℕ) (t : ToldInIbss) where
-  accepted_notice : ibss_beacon_means b body ≡ accepted t → IbssNoticeOf b body t
+  accepted_notice : ibss_beacon_means b body ≡ Ok t → IbssNoticeOf b body t
   accepted_notice e =
       let n = (beacon_filtered b body t.told).0 (accepted_in_01 b body t e) in
       record {
@@ -76,11 +77,11 @@ module _ (b : ℕ) (body : List ℕ) (t : ToldInIbss) where
         dfs_is = sound_of t.dfs n.items (subst (DfsSound t.dfs) ((walk_whole (drop fixed_length body) n.items).1 n.octets) (accepted_sound b body t e));
       }
 
-  notice_accepted : IbssNoticeOf b body t → ibss_beacon_means b body ≡ accepted t
+  notice_accepted : IbssNoticeOf b body t → ibss_beacon_means b body ≡ Ok t
   notice_accepted n =
       let m = n.notice_is in
       let sound = subst (DfsSound t.dfs) (sym ((walk_whole (drop fixed_length body) m.items).1 m.octets)) (sound_in t.dfs m.items n.dfs_is) in
       sound_read b body t.dfs sound ∙ ap (besides t.dfs) ((beacon_filtered b body t.told).1 m)
 
-  pub ibss_beacon_filtered : (ibss_beacon_means b body ≡ accepted t) ↔ IbssNoticeOf b body t
+  pub ibss_beacon_filtered : (ibss_beacon_means b body ≡ Ok t) ↔ IbssNoticeOf b body t
   ibss_beacon_filtered = (accepted_notice, notice_accepted)

@@ -1,4 +1,5 @@
 -- What an accepted frame says fits the fields that it was read from, where the frame is octets. Assumes nothing.
+use Rattle.std.specs.Prelude.{Ok, Some, None, Option}
 use mathlib.Core.List.{List, [], ◌∷◌, ◌++◌}
 use mathlib.Core.Path.{◌≡◌, subst}
 use Prim.Native.Nat.{ℕ, ◌<◌, ◌^◌}
@@ -7,11 +8,9 @@ use lib.ListN.{drop}
 use Rattle.action.specs.Openings.{fixed_fields, switch_fixed_fields, Opens, switching, with, opens_with}
 use Rattle.answer.proofs.Placing.{placed_value, past_value}
 use Rattle.answer.proofs.Yielding.{Yields, of_refusal, of_value, either_way_lem, after_check, after_all, after_value}
-use Rattle.answer.specs.Checks.{accepted}
 use Rattle.answer.specs.Faults.{placed_at, nowhere, placed_past}
 use Rattle.beacon.specs.Beacons.{Told, tells, opening, fixed_length, element_means, adds, takes, says, beacon_means}
 use Rattle.beacon.specs.Notices.{with_power, with_switch}
-use Rattle.beacon.specs.declared.MaybeSwitch.{MaybeSwitch}
 use Rattle.beacon.specs.declared.elements.Element.{Element}
 use Rattle.element.proofs.FixedLength.{opened}
 use Rattle.element.specs.ChannelSwitch.{switch_means, switch_in, switch_forbids}
@@ -49,9 +48,9 @@ abbrev pub CountFits : ChannelSwitch → Type 0
 CountFits w = w.count < 256
 
 -- so is that of an announcement that may be absent
-abbrev pub SwitchFits : MaybeSwitch → Type 0
-SwitchFits MaybeSwitch.Absent = Unit {0}
-SwitchFits (MaybeSwitch.Is w) = CountFits w
+abbrev pub SwitchFits : Option ChannelSwitch → Type 0
+SwitchFits None = Unit {0}
+SwitchFits (Some w) = CountFits w
 
 -- the count and the period of a Quiet element are one octet each, its duration and its offset two
 abbrev pub NumbersFit : Quiet → Type 0
@@ -85,17 +84,17 @@ KindFits k = FrameFits (frame_of k) (quiets_of k)
 -- ---- an element
 
 -- a Power Constraint that is read is one octet
-power_read_fits : (c : List ℕ) → Octets c → (p : PowerConstraint) → power_means c ≡ accepted p → p.decibels < 256
+power_read_fits : (c : List ℕ) → Octets c → (p : PowerConstraint) → power_means c ≡ Ok p → p.decibels < 256
 unfolding power_means
 power_read_fits c o p e = subst (λ (x : PowerConstraint). x.decibels < 256) (opened 1 power_in _ c p e).1 (o 0)
 
 -- an announcement's count is too
-switch_read_fits : (c : List ℕ) → Octets c → (w : ChannelSwitch) → switch_means c ≡ accepted w → CountFits w
+switch_read_fits : (c : List ℕ) → Octets c → (w : ChannelSwitch) → switch_means c ≡ Ok w → CountFits w
 unfolding switch_means
 switch_read_fits c o w e = subst CountFits (opened 3 switch_in switch_forbids c w e).1 (o 2)
 
 -- the numbers of a Quiet element fit the octets that they are read from
-quiet_read_fits : (b : ℕ) (c : List ℕ) → Octets c → (q : Quiet) → quiet_means b c ≡ accepted q → NumbersFit q
+quiet_read_fits : (b : ℕ) (c : List ℕ) → Octets c → (q : Quiet) → quiet_means b c ≡ Ok q → NumbersFit q
 unfolding quiet_means
 quiet_read_fits b c o q e =
     subst NumbersFit (opened 6 quiet_in (quiet_forbids b) c q e).1 (o 0, o 1, number_bound 2 2 c o, number_bound 2 4 c o)

@@ -1,5 +1,6 @@
 -- Each line of a file's list is what the history of the station that it belongs to says (00, demand 3; 01, "Capture blocks and the evening list").
 -- Assumes nothing.
+use Rattle.std.specs.Prelude.{Ok, Err, Some, None, Option}
 use mathlib.Core.Bool.{Bool, true, false}
 use mathlib.Core.List.{List, [], ◌∷◌, ◌++◌, append-nil}
 use mathlib.Core.Logic.{inl, inr}
@@ -10,11 +11,10 @@ use borrow.Author.Tests.{eqb-false}
 use lib.Dec.{eqb, ltb}
 use lib.ListN.{length, length-append}
 use Rattle.answer.proofs.Booleans.{neither}
-use Rattle.answer.specs.Checks.{Outcome, refused, accepted, pick, checked, and_then}
-use Rattle.answer.specs.Faults.{Placed, verdict_offset}
+use Rattle.answer.specs.Checks.{Outcome, pick, checked, and_then}
+use Rattle.answer.specs.Faults.{Placed, verdict_offset, Verdict}
 use Rattle.answer.specs.Numbers.{answer_number, verdict_number}
 use Rattle.answer.specs.declared.Refusal.{Refusal}
-use Rattle.answer.specs.declared.Verdict.{Verdict}
 use Rattle.capture.specs.Lists as Lists
 use Rattle.block.specs.Blocks.{used_length, is_damaged, used_part, block_means}
 use Rattle.block.specs.declared.Block.{Block}
@@ -31,7 +31,6 @@ use Rattle.station.specs.Clock as Clock
 use Rattle.station.specs.Starting.{start_forbids, start_means}
 use Rattle.station.specs.Stations as Stations
 use Rattle.station.specs.Taking.{taken, take_means, take_of}
-use Rattle.pending.specs.declared.Pending.{Pending}
 use Rattle.station.specs.declared.Station.{Station}
 use Rattle.station.specs.declared.clock.Advanced.{Advanced}
 use Rattle.pen.specs.Lines.{line_of, closing_of}
@@ -44,6 +43,7 @@ use Rattle.claims.specs.Records.{record_from, record_after, Agrees}
 use Rattle.claims.proofs.Agreement.{agrees}
 use Rattle.claims.proofs.Asked.{answered_from}
 use Rattle.claims.proofs.ListedFiles.{numbered_append, blocks_counted}
+use Rattle.pending.specs.declared.Switch.{Switch}
 
 -- the lister follows the station of this history, or none
 Matches : Lister → Followed → Type 0
@@ -52,11 +52,11 @@ Matches l (since s h) = (l.active ≡ true) × (l.station ≡ record_after s h) 
 
 -- ---- what the calls answer
 
-start_refused : (own ap' : List ℕ) (b channel : ℕ) → start_forbids own ap' b channel ≡ true → start_means own ap' b channel ≡ refused Refusal.BadStart
+start_refused : (own ap' : List ℕ) (b channel : ℕ) → start_forbids own ap' b channel ≡ true → start_means own ap' b channel ≡ Err Refusal.BadStart
 unfolding start_means checked
 start_refused own ap' b channel e = simp e
 
-start_accepted : (own ap' : List ℕ) (b channel : ℕ) → start_forbids own ap' b channel ≡ false → start_means own ap' b channel ≡ accepted (Stations.fresh own ap' b channel)
+start_accepted : (own ap' : List ℕ) (b channel : ℕ) → start_forbids own ap' b channel ≡ false → start_means own ap' b channel ≡ Ok (Stations.fresh own ap' b channel)
 unfolding start_means checked
 start_accepted own ap' b channel e = simp e
 
@@ -71,9 +71,9 @@ advance_number r n = by_test_lem (too_far r.clock n)
     by_switch true t channel = refl
     by_switch false t channel = refl
 
-    by_pending : (p : Pending) (t : ℕ) → answer_number (Clock.stepped r (Clock.advanced_to r (Clock.reached t p))).answer ≡ 0
-    by_pending Pending.Nothing t = refl
-    by_pending (Pending.Switch q) t = by_switch (ltb t q.at) t q.channel
+    by_pending : (p : Option Switch) (t : ℕ) → answer_number (Clock.stepped r (Clock.advanced_to r (Clock.reached t p))).answer ≡ 0
+    by_pending None t = refl
+    by_pending (Some q) t = by_switch (ltb t q.at) t q.channel
 
     by_test_lem : (far : Bool) → answer_number (Clock.stepped r (Clock.advanced_to r (pick far Advanced.Refused (Clock.reached (r.clock + n) r.pending)))).answer ≡ pick far 14 0
     by_test_lem true = refl
@@ -87,9 +87,9 @@ take_said : (r : Station) (f : List ℕ) → verdict_said (take_of r f).verdict 
 unfolding take_means
 take_said r f = by_outcome (frame_means r.own r.ap r.interval f) _
   where
-    by_outcome : {A : Type 0} (o : Placed A) (next : A → Station) → verdict_said (taken r (and_then o (λ a. accepted (next a)))).verdict ≡ says_frame o
-    by_outcome (refused x) next = refl
-    by_outcome (accepted a) next = refl
+    by_outcome : {A : Type 0} (o : Placed A) (next : A → Station) → verdict_said (taken r (and_then o (λ a. Ok (next a)))).verdict ≡ says_frame o
+    by_outcome (Err x) next = refl
+    by_outcome (Ok a) next = refl
 
 -- ---- a record
 
@@ -108,8 +108,8 @@ one_malformed l x = record { said = says Word.Record 20; tells = refl; text = re
 module _ (l : Lister) (x : Followed) (s : Settings) where
   one_start : (o : Outcome Station) (forbidden : Bool)
       → refuses_start s ≡ forbidden
-      → (forbidden ≡ true → o ≡ refused Refusal.BadStart)
-      → (forbidden ≡ false → o ≡ accepted (Stations.fresh s.own s.ap s.interval s.channel))
+      → (forbidden ≡ true → o ≡ Err Refusal.BadStart)
+      → (forbidden ≡ false → o ≡ Ok (Stations.fresh s.own s.ap s.interval s.channel))
       → One l x (starting s) (started l o)
   unfolding Matches record_from
   one_start o true f refuses starts =
@@ -119,7 +119,7 @@ module _ (l : Lister) (x : Followed) (s : Settings) where
         tells = ap (λ (b : Bool). says Word.Start (pick b 15 0)) (sym f);
         text = refl;
         line_count = refl;
-        keeps = subst (λ (b : Bool). Matches (started l (refused Refusal.BadStart)).lister (pick b nobody (since s []))) (sym f) refl;
+        keeps = subst (λ (b : Bool). Matches (started l (Err Refusal.BadStart)).lister (pick b nobody (since s []))) (sym f) refl;
       })
   one_start o false f refuses starts =
       subst (λ (p : Outcome Station). One l x (starting s) (started l p)) (sym (starts refl))
@@ -129,7 +129,7 @@ module _ (l : Lister) (x : Followed) (s : Settings) where
         text = refl;
         line_count = refl;
         keeps =
-            subst (λ (b : Bool). Matches (started l (accepted (Stations.fresh s.own s.ap s.interval s.channel))).lister (pick b nobody (since s []))) (sym f)
+            subst (λ (b : Bool). Matches (started l (Ok (Stations.fresh s.own s.ap s.interval s.channel))).lister (pick b nobody (since s []))) (sym f)
             (refl, refl, interval_positive s.own s.ap s.interval s.channel f);
       })
 

@@ -1,9 +1,9 @@
 -- What is read of a frame in an IBSS, as the history's theorems need it (02, Five). Assumes nothing.
+use Rattle.std.specs.Prelude.{Ok}
 use mathlib.Core.List.{List}
 use mathlib.Core.Logic.{◌⊎◌, inl, inr}
 use mathlib.Core.Path.{◌≡◌, sym, ◌∙◌}
 use Prim.Native.Nat.{ℕ, ◌≤◌}
-use Rattle.answer.specs.Checks.{accepted}
 use Rattle.beacon.specs.Beacons.{Told}
 use Rattle.beacon.specs.IbssBeacons.{absent, is}
 use Rattle.capture_record.specs.declared.entry.Settings.{Settings}
@@ -16,7 +16,7 @@ use Rattle.frame.specs.IbssFrames.{SentInIbss}
 use Rattle.member.proofs.Following.{named_recovery}
 use Rattle.claims.specs.Reigns.{read_as}
 
-module _ (s : Settings) (f : List ℕ) (x : SentInIbss) (e : read_as s f ≡ accepted x) where
+module _ (s : Settings) (f : List ℕ) (x : SentInIbss) (e : read_as s f ≡ Ok x) where
   pub read_allowed : KindAllowed s.interval x.sent.kind
   read_allowed = ibss_allowed s.own s.ap s.interval f x e
 

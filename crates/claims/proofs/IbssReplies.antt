@@ -1,5 +1,6 @@
 -- A reply in an IBSS is document 01's reply to the same frame from the AP, refusals too, but that it goes to whoever sent the frame (01, "Replies"; 02, Five).
 -- Assumes nothing.
+use Rattle.std.specs.Prelude.{Ok, Err}
 use mathlib.Core.Bool.{Bool, true, false, not}
 use mathlib.Core.List.{List, [], ◌∷◌, ◌++◌, append_assoc}
 use mathlib.Core.Path.{◌≡◌, refl, sym, ap, ap₂, ◌∙◌}
@@ -7,7 +8,7 @@ use Prim.Native.Nat.{ℕ, ◌+◌}
 use native.Mathlib.Omega.{arith}
 use lib.ListN.{length, drop}
 use lib.Seq.{drop-append-add}
-use Rattle.answer.specs.Checks.{Outcome, refused, accepted, pick, ◌⇒◌, checked, judged, and_then}
+use Rattle.answer.specs.Checks.{Outcome, pick, ◌⇒◌, checked, judged, and_then}
 use Rattle.answer.specs.declared.Refusal.{Refusal}
 use Rattle.element.specs.declared.tpc_report.TpcReport.{TpcReport}
 use Rattle.frame.specs.Actions.{Body, requests, reports, tpc_request, tpc_report, switch}
@@ -30,7 +31,7 @@ use Rattle.claims.specs.IbssReplies.{sent_to}
 
 -- an outcome's octets, sent elsewhere
 abbrev pub elsewhere : List ℕ → Outcome (List ℕ) → Outcome (List ℕ)
-elsewhere to o = and_then o (λ os. accepted (sent_to to os))
+elsewhere to o = and_then o (λ os. Ok (sent_to to os))
 
 module _ (own bss : List ℕ) (six : length bss ≡ 6) where
   -- ---- the octets
@@ -55,12 +56,12 @@ module _ (own bss : List ℕ) (six : length bss ≡ 6) where
     owed_alike : (here there : Body → Outcome (List ℕ)) → ((body : Body) → here body ≡ elsewhere to (there body)) → (x : Owed)
         → owed_to own to bss here x ≡ elsewhere to (owed_to own bss bss there x)
     owed_alike here there same (asks body) = same body
-    owed_alike here there same (breaks body) = ap accepted (frame_alike to (error_return body))
+    owed_alike here there same (breaks body) = ap Ok (frame_alike to (error_return body))
 
     tpc_alike : (report : TpcReport) (body : Body) → tpc_answer_to own to bss report body ≡ elsewhere to (tpc_answer_to own bss bss report body)
     tpc_alike report (requests token rs) = refl
     tpc_alike report (reports token rs) = refl
-    tpc_alike report (tpc_request token) = ap accepted (frame_alike to (tpc_report_body token report))
+    tpc_alike report (tpc_request token) = ap Ok (frame_alike to (tpc_report_body token report))
     tpc_alike report (tpc_report token t) = refl
     tpc_alike report (switch w) = refl
 
@@ -73,27 +74,27 @@ module _ (own bss : List ℕ) (six : length bss ≡ 6) where
             → judged (may ⇒ Refusal.Impossible ∷ []) (frame_to own to bss (body_octets report_sort token (x ∷ [])))
             ≡ elsewhere to (judged (may ⇒ Refusal.Impossible ∷ []) (frame_to own bss bss (body_octets report_sort token (x ∷ []))))
         by_may x true = refl
-        by_may x false = ap accepted (frame_alike to (body_octets report_sort token (x ∷ [])))
+        by_may x false = ap Ok (frame_alike to (body_octets report_sort token (x ∷ [])))
 
         by : (o : Outcome Report)
             → and_then o (λ x. judged (not (report_may x) ⇒ Refusal.Impossible ∷ []) (frame_to own to bss (body_octets report_sort token (x ∷ []))))
             ≡ elsewhere to (and_then o (λ x. judged (not (report_may x) ⇒ Refusal.Impossible ∷ []) (frame_to own bss bss (body_octets report_sort token (x ∷ [])))))
-        by (refused r) = refl
-        by (accepted x) = by_may x (not (report_may x))
+        by (Err r) = refl
+        by (Ok x) = by_may x (not (report_may x))
     measurement_alike clock index readings (reports token rs) = refl
     measurement_alike clock index readings (tpc_request token) = refl
     measurement_alike clock index readings (tpc_report token t) = refl
     measurement_alike clock index readings (switch w) = refl
 
     then_alike : (o : Outcome Owed) (here there : Owed → Outcome (List ℕ)) → ((x : Owed) → here x ≡ elsewhere to (there x)) → and_then o here ≡ elsewhere to (and_then o there)
-    then_alike (refused r) here there same = refl
-    then_alike (accepted x) here there same = same x
+    then_alike (Err r) here there same = refl
+    then_alike (Ok x) here there same = same x
 
   -- ---- the frame
 
   module _ (f : List ℕ) (single : bit 0 (octet 0 (sa f)) ≡ false) where
     abbrev after_body : List ℕ → Head → Outcome Owed
-    after_body body h = pick h.to_all (refused Refusal.NoReplyDue) (by_subtype h.subtype body)
+    after_body body h = pick h.to_all (Err Refusal.NoReplyDue) (by_subtype h.subtype body)
 
     -- what is due to it is what is due to the same frame from the AP
     due_alike : due_in Cell.Ibss own bss f ≡ due_in Cell.Ap own bss (from_ap bss f)

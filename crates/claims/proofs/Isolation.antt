@@ -1,10 +1,10 @@
 -- Isolation (02, Six): "Two runs that agree on the table's start, a station's joining, the advances, the frames to all ones and the frames, questions and readings for
 -- that station, in one order, give it the same answers, replies and row contents until it leaves." The other calls of either run are any at all, and so is which row it
 -- sits in. Assumes nothing.
+use Rattle.std.specs.Prelude.{Ok}
 use mathlib.Core.List.{List, []}
 use mathlib.Core.Path.{◌≡◌, sym, ap, ap₂, ◌∙◌}
 use Prim.Native.Nat.{ℕ}
-use Rattle.answer.specs.Checks.{accepted}
 use Rattle.table.specs.Tables.{station_of}
 use Rattle.table.specs.declared.Table.{Table}
 use Rattle.claims.specs.Histories.{clock_after}
@@ -39,5 +39,5 @@ module _ (ap' : List ℕ) (b : ℕ) (own : List ℕ) (channel : ℕ) where
       pub same_contents : station_of t own ≡ station_of t' own
       same_contents =
           (followed ap' b own channel before after t one).row
-          ∙ ap₂ (λ (m : ℕ) (cs : List TableCall). accepted (kept_after row_means (record_from m (settings_of ap' b own channel) []) cs)) same_moment same-calls
+          ∙ ap₂ (λ (m : ℕ) (cs : List TableCall). Ok (kept_after row_means (record_from m (settings_of ap' b own channel) []) cs)) same_moment same-calls
           ∙ sym (followed ap' b own channel before' after' t' other).row

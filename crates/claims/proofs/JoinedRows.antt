@@ -1,4 +1,5 @@
 -- Rows by how many of them are joined, and by whom. Assumes nothing.
+use Rattle.std.specs.Prelude.{Ok, Err}
 use mathlib.Core.Bool.{Bool, true, false, not, ◌||◌}
 use mathlib.Core.List.{List, [], ◌∷◌}
 use mathlib.Core.Logic.{⊎_elim}
@@ -9,7 +10,7 @@ use lib.Dec.{eqb}
 use lib.ListN.{length}
 use borrow.Author.Tests.{eqb-true, eqb-false, eq-eqb, ne_eqb}
 use Rattle.answer.proofs.Booleans.{clash, either, both, neither, or_go}
-use Rattle.answer.specs.Checks.{Outcome, refused, accepted, pick}
+use Rattle.answer.specs.Checks.{Outcome, pick}
 use Rattle.answer.specs.declared.Refusal.{Refusal}
 use Rattle.header.proofs.Addresses.{same_is}
 use Rattle.header.specs.Headers.{same}
@@ -23,24 +24,24 @@ use Rattle.table.specs.Validity.{Apart}
 -- ---- some row is such exactly if a first one is found
 
 abbrev pub is_in : Outcome Station → Bool
-is_in (refused r) = false
-is_in (accepted s) = true
+is_in (Err r) = false
+is_in (Ok s) = true
 
 pub some_found : (p : Row → Bool) (ws : List Row) → some_row p ws ≡ is_in (first_such p ws)
 unfolding some_row first_such
 some_found p [] = refl
 some_found p (w ∷ ws) = by (p w) (some_found p ws)
   where
-    by : (b : Bool) → some_row p ws ≡ is_in (first_such p ws) → (b || some_row p ws) ≡ is_in (pick b (accepted w.station) (first_such p ws))
+    by : (b : Bool) → some_row p ws ≡ is_in (first_such p ws) → (b || some_row p ws) ≡ is_in (pick b (Ok w.station) (first_such p ws))
     by true rest = refl
     by false rest = rest
 
-pub not_found : (p : Row → Bool) (ws : List Row) → some_row p ws ≡ false → first_such p ws ≡ refused Refusal.NotJoined
+pub not_found : (p : Row → Bool) (ws : List Row) → some_row p ws ≡ false → first_such p ws ≡ Err Refusal.NotJoined
 unfolding some_row first_such
 not_found p [] e = refl
 not_found p (w ∷ ws) e =
     let off = neither (p w) (some_row p ws) e in
-    ap (λ (b : Bool). pick b (accepted w.station) (first_such p ws)) off.0 ∙ not_found p ws off.1
+    ap (λ (b : Bool). pick b (Ok w.station) (first_such p ws)) off.0 ∙ not_found p ws off.1
 
 -- after the only row of an address was freed, none is of it
 pub none_left : (own : List ℕ) (ws : List Row) → Apart ws → some_row (is_of own) (on_first (is_of own) (λ w. free) ws) ≡ false

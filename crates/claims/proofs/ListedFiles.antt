@@ -1,13 +1,13 @@
 -- The list of a file has one line for each record and each damaged block, numbered from 1 without a gap, and the closing line's numbers are those of
 -- the blocks and of the damaged ones (01, "Capture blocks and the evening list"). Assumes nothing.
+use Rattle.std.specs.Prelude.{Ok, Err}
 use mathlib.Core.Bool.{Bool, true, false}
 use mathlib.Core.List.{List, [], ◌∷◌, ◌++◌, append_assoc, append-nil}
 use mathlib.Core.Path.{◌≡◌, refl, sym, ap, ap₂, ◌∙◌, subst}
 use Prim.Native.Nat.{ℕ, ◌+◌}
 use native.Mathlib.Omega.{arith}
 use lib.ListN.{length, length-append}
-use Rattle.answer.specs.Checks.{Outcome, refused, accepted, pick}
-use Rattle.answer.specs.declared.Answer.{Answer}
+use Rattle.answer.specs.Checks.{Outcome, pick}
 use Rattle.answer.specs.declared.Refusal.{Refusal}
 use Rattle.block.specs.Blocks.{used_length, is_damaged, used_part, block_means}
 use Rattle.block.specs.declared.Block.{Block}
@@ -93,8 +93,8 @@ with_or_without l t u a b = by_station l.active
     by_station false = b
 
 started_one : (l : Lister) (o : Outcome Station) → Counted l (started l o) 1 0 0
-started_one l (refused r) = one l (without l) Word.Start (refusal r) refl refl refl
-started_one l (accepted s) = one l (following l s) Word.Start (Response.Call Answer.Accepted) refl refl refl
+started_one l (Err r) = one l (without l) Word.Start (refusal r) refl refl refl
+started_one l (Ok s) = one l (following l s) Word.Start (Response.Call (Ok tt)) refl refl refl
 
 stepped_one : (l : Lister) (x : Stepped) → Counted l (stepped l x) 1 0 0
 stepped_one l x = one l (following l x.station) Word.Advance (Response.Call x.answer) refl refl refl

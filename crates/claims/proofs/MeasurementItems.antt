@@ -1,5 +1,6 @@
 -- Bodies of measurements over the plain list of their elements (01, "Octets": one or more 38, or one or more 39; each is given by its index from 0).
 -- Assumes nothing.
+use Rattle.std.specs.Prelude.{Ok}
 use mathlib.Core.Bool.{Bool, true, false, ◌&&◌, ◌||◌}
 use mathlib.Core.List.{List, [], ◌∷◌, ◌++◌}
 use mathlib.Core.Logic.{◌↔◌}
@@ -10,7 +11,7 @@ use borrow.Author.Tests.{eq-eqb, ne_eqb, eqb-true, eqb-false}
 use lib.Dec.{eqb}
 use lib.ListN.{length, length-append}
 use Rattle.action.specs.Openings.{fixed_fields}
-use Rattle.answer.specs.Checks.{accepted, pick}
+use Rattle.answer.specs.Checks.{pick}
 use Rattle.answer.proofs.Booleans.{clash, neither, and_go}
 use Rattle.measurement_body.proofs.Listing.{onward, lists, ended, not_cut_header, not_cut_contents, not_cut_passed}
 use Rattle.measurement_body.specs.Lists.{Sort, used, repeats, listed, measurements_in}
@@ -160,25 +161,25 @@ module _ {A : Type 0} (s : Sort A) where
       grows : Grows s.means (of_id s.id items) before l
       once : Once l
 
-    read_run : (n : ℕ) (es : Elements) (before l : List A) → Once before → listed s n (passing es) before ≡ accepted l → Listed es before l
+    read_run : (n : ℕ) (es : Elements) (before l : List A) → Once before → listed s n (passing es) before ≡ Ok l → Listed es before l
     unfolding listed passing walked_as of_id not_of_id
     read_run n Raw.end before l o e =
         let p = ended s n before l e in
         record { items = []; walk = refl; own = refl; grows = subst (Grows s.means [] before) p.1 (grows_none s.means before); once = subst Once p.1 o }
     read_run n (Raw.cut_header i) before l o e = by (eqb i vendor_id) e
       where
-        by : (t : Bool) → listed s n (pick t cut_passed cut_header) before ≡ accepted l → Listed (Raw.cut_header i) before l
+        by : (t : Bool) → listed s n (pick t cut_passed cut_header) before ≡ Ok l → Listed (Raw.cut_header i) before l
         by true f = absurd (not_cut_passed s n before l f)
         by false f = absurd (not_cut_header s n before l f)
     read_run n (Raw.cut_contents id) before l o e = by (eqb id vendor_id) e
       where
-        by : (t : Bool) → listed s n (pick t cut_passed (cut_contents id)) before ≡ accepted l → Listed (Raw.cut_contents id) before l
+        by : (t : Bool) → listed s n (pick t cut_passed (cut_contents id)) before ≡ Ok l → Listed (Raw.cut_contents id) before l
         by true f = absurd (not_cut_passed s n before l f)
         by false f = absurd (not_cut_contents s n id before l f)
     read_run n (Raw.more id c es) before l o e = by (eqb id vendor_id) refl e (read_run (past_element n c) es)
       where
-        by : (t : Bool) → eqb id vendor_id ≡ t → listed s n (pick t (passed c (passing es)) (more id c (passing es))) before ≡ accepted l
-            → ((b k : List A) → Once b → listed s (past_element n c) (passing es) b ≡ accepted k → Listed es b k) → Listed (Raw.more id c es) before l
+        by : (t : Bool) → eqb id vendor_id ≡ t → listed s n (pick t (passed c (passing es)) (more id c (passing es))) before ≡ Ok l
+            → ((b k : List A) → Once b → listed s (past_element n c) (passing es) b ≡ Ok k → Listed es b k) → Listed (Raw.more id c es) before l
         by true v f on =
             let r = on before l o f in
             let p = vendor_first s.id not-vendor (item id c) r.items v in
@@ -203,18 +204,18 @@ module _ {A : Type 0} (s : Sort A) where
 
     module _ (l : List A) (o : Once l) where
       run_read : (n : ℕ) (xs : List Item) (before : List A) → 0 < length before → of_id s.id xs ≡ not_of_id vendor_id xs → Grows s.means (of_id s.id xs) before l
-          → listed s n (passing (walked_as xs Raw.end)) before ≡ accepted l
+          → listed s n (passing (walked_as xs Raw.end)) before ≡ Ok l
       unfolding listed passing walked_as
       run_read n [] before some own g =
           let none : of_id s.id [] ≡ [] = unfold of_id in refl in
           let same = grew_none s.means (subst (λ (xs : List Item). Grows s.means xs before l) none g) in
-          simp (ne_eqb (length before) 0 (λ z. omega arith)) (ap accepted (sym same))
+          simp (ne_eqb (length before) 0 (λ z. omega arith)) (ap Ok (sym same))
       run_read n (x ∷ xs) before some own g = by (eqb x.id vendor_id) refl (run_read (past_element n x.contents) xs)
         where
           by : (t : Bool) → eqb x.id vendor_id ≡ t
               → ((b : List A) → 0 < length b → of_id s.id xs ≡ not_of_id vendor_id xs → Grows s.means (of_id s.id xs) b l
-              → listed s (past_element n x.contents) (passing (walked_as xs Raw.end)) b ≡ accepted l)
-              → listed s n (pick t (passed x.contents (passing (walked_as xs Raw.end))) (more x.id x.contents (passing (walked_as xs Raw.end)))) before ≡ accepted l
+              → listed s (past_element n x.contents) (passing (walked_as xs Raw.end)) b ≡ Ok l)
+              → listed s n (pick t (passed x.contents (passing (walked_as xs Raw.end))) (more x.id x.contents (passing (walked_as xs Raw.end)))) before ≡ Ok l
           by true v on =
               let p = vendor_first s.id not-vendor x xs v in
               on before some (sym p.0 ∙ own ∙ p.1) (subst (λ (ys : List Item). Grows s.means ys before l) p.0 g)
@@ -231,7 +232,7 @@ module _ {A : Type 0} (s : Sort A) where
     -- ---- a run is accepted as what its elements mean, and only so
 
     module _ (run : List ℕ) (l : List A) where
-      from_first : (es : Elements) → elements_in run ≡ es → listed s fixed_fields (handing es) [] ≡ accepted l → ListOf s run l
+      from_first : (es : Elements) → elements_in run ≡ es → listed s fixed_fields (handing es) [] ≡ Ok l → ListOf s run l
       unfolding handing of_token walked_as
       from_first Raw.end w e = clash (ended s fixed_fields [] l e).0
       from_first (Raw.cut_header i) w e = absurd (not_cut_header s fixed_fields [] l e)
@@ -250,11 +251,11 @@ module _ {A : Type 0} (s : Sort A) where
             once_each = r.once;
           }
 
-      accepted_list : measurements_in s run ≡ accepted l → ListOf s run l
+      accepted_list : measurements_in s run ≡ Ok l → ListOf s run l
       unfolding measurements_in
       accepted_list e = from_first (elements_in run) refl e
 
-      list_accepted : ListOf s run l → measurements_in s run ≡ accepted l
+      list_accepted : ListOf s run l → measurements_in s run ≡ Ok l
       unfolding measurements_in handing walked_as
       list_accepted r =
           let rest = passing (walked_as r.others Raw.end) in
@@ -264,5 +265,5 @@ module _ {A : Type 0} (s : Sort A) where
           ∙ onward s fixed_fields (more s.id r.first rest) (record { contents = r.first; rest = rest }) (there s.id r.first rest) [] q.1 new
           ∙ run_read l r.once_each (past_element fixed_fields r.first) r.others (q.0 ∷ []) (omega arith) r.all_own q.2
 
-      pub list_filtered : (measurements_in s run ≡ accepted l) ↔ ListOf s run l
+      pub list_filtered : (measurements_in s run ≡ Ok l) ↔ ListOf s run l
       list_filtered = (accepted_list, list_accepted)

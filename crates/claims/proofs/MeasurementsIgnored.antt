@@ -1,4 +1,5 @@
 -- Measurement bodies that differ in reserved bits alone are read the same (01, "Octets": "Reserved bits are ignored when read"). Assumes nothing.
+use Rattle.std.specs.Prelude.{Ok, Err, Result}
 use mathlib.Core.Bool.{Bool, true, false, not}
 use mathlib.Core.List.{List, [], ◌∷◌, ◌++◌}
 use mathlib.Core.Path.{◌≡◌, refl, sym, ap, subst, ◌∙◌}
@@ -11,7 +12,7 @@ use Rattle.action.specs.Openings.{token_field, fixed_fields, Opens, with, forbid
 use Rattle.answer.proofs.Booleans.{clash}
 use Rattle.answer.proofs.Judged.{kept}
 use Rattle.answer.proofs.Judged as Judged
-use Rattle.answer.specs.Checks.{Result, Outcome, refused, accepted, pick, ◌⇒◌, checked, judged, and_then}
+use Rattle.answer.specs.Checks.{Outcome, pick, ◌⇒◌, checked, judged, and_then}
 use Rattle.answer.specs.Faults.{fault_at, Placed, placed_at}
 use Rattle.answer.specs.declared.Refusal.{Refusal}
 use Rattle.frame.specs.Actions.{after_opening, action_means, requests, reports}
@@ -29,21 +30,21 @@ use Rattle.claims.proofs.RunItems.{walk_front}
 -- ---- elements one after the other
 
 -- what follows a value, where that is what counts
-pub then_alike : {R A B : Type 0} (o : Result R A) (f g : A → Result R B) → ((a : A) → o ≡ accepted a → f a ≡ g a) → and_then o f ≡ and_then o g
-then_alike (refused r) f g h = refl
-then_alike (accepted a) f g h = h a refl
+pub then_alike : {R A B : Type 0} (o : Result A R) (f g : A → Result B R) → ((a : A) → o ≡ Ok a → f a ≡ g a) → and_then o f ≡ and_then o g
+then_alike (Err r) f g h = refl
+then_alike (Ok a) f g h = h a refl
 
 module _ {A : Type 0} (s : Sort A) where
   -- the element in front, by whether it is of the ID, and what its contents mean
   abbrev pub next_by : Bool → Outcome A → List A → Outcome A
-  next_by own o before = pick own (and_then o (λ a. judged (repeats s a before ⇒ Refusal.Repeated ∷ []) a)) (refused Refusal.OtherElement)
+  next_by own o before = pick own (and_then o (λ a. judged (repeats s a before ⇒ Refusal.Repeated ∷ []) a)) (Err Refusal.OtherElement)
 
   pub next_is : (id : ℕ) (c : List ℕ) (hs : Handed) (before : List A) → next_in s (more id c hs) before ≡ next_by (eqb id s.id) (s.means c) before
   unfolding next_in required checked
   next_is id c hs before = by (eqb id s.id)
     where
       by : (own : Bool)
-          → and_then {A = Standing} (checked (not own ⇒ Refusal.OtherElement ∷ []) (accepted (record { contents = c; rest = hs })))
+          → and_then {A = Standing} (checked (not own ⇒ Refusal.OtherElement ∷ []) (Ok (record { contents = c; rest = hs })))
           (λ e. and_then (s.means e.contents) (λ a. judged (repeats s a before ⇒ Refusal.Repeated ∷ []) a))
           ≡ next_by own (s.means c) before
       by true = refl
@@ -146,8 +147,8 @@ opened action token run h =
 
 after_alike : (action token : ℕ) (run other : List ℕ) → action ≤ 1 → RunsAlike run other
     → after_opening (0 ∷ action ∷ token ∷ run) (with action token) ≡ after_opening (0 ∷ action ∷ token ∷ other) (with action token)
-after_alike zero token run other h r = ap (λ o. and_then o (λ l. accepted (requests token l))) (measurements_ignored Kind.Requests run other r)
-after_alike (suc zero) token run other h r = ap (λ o. and_then o (λ l. accepted (reports token l))) (measurements_ignored Kind.Reports run other r)
+after_alike zero token run other h r = ap (λ o. and_then o (λ l. Ok (requests token l))) (measurements_ignored Kind.Requests run other r)
+after_alike (suc zero) token run other h r = ap (λ o. and_then o (λ l. Ok (reports token l))) (measurements_ignored Kind.Reports run other r)
 after_alike (suc (suc n)) token run other h r = absurd (omega arith)
 
 module _ (body other : List ℕ) (m : MeasurementsAlike body other) where
@@ -160,7 +161,7 @@ module _ (body other : List ℕ) (m : MeasurementsAlike body other) where
       ap (λ (x : List ℕ). and_then (opens_with x) (after_opening x)) e
       ∙ ap (λ (o : Placed Opens). and_then o (after_opening (with_run run))) (opened m.action m.token run m.measures)
 
-  after : (o : Opens) → opening m.action m.token ≡ accepted o → after_opening (with_run m.run) o ≡ after_opening (with_run m.other_run) o
+  after : (o : Opens) → opening m.action m.token ≡ Ok o → after_opening (with_run m.run) o ≡ after_opening (with_run m.other_run) o
   after o e =
       subst (λ (x : Opens). after_opening (with_run m.run) x ≡ after_opening (with_run m.other_run) x) (kept _ (Judged.passed _ _ _ e).1)
       (after_alike m.action m.token m.run m.other_run m.measures m.alike)

@@ -1,22 +1,20 @@
 -- Demand 3 for a station of an IBSS, of the code: whatever calls were made after an accepted start, refused ones among them, the record is the one that the history
 -- speaks of, owner, interval, count and flag included, and each frame and each question is answered as the history says (02, Five). Assumes nothing.
+use Rattle.std.specs.Prelude.{Ok, Err, Some, None, Option}
 use mathlib.Core.List.{List, [], ◌∷◌}
 use mathlib.Core.Logic.{inl, inr, ◌↔◌}
 use mathlib.Core.Path.{◌≡◌, refl, sym, ap, ap₂, ◌∙◌, subst}
 use Prim.Native.Nat.{ℕ, ◌≤◌}
 use native.Mathlib.Omega.{arith}
-use Rattle.answer.specs.Checks.{refused, accepted, pick}
-use Rattle.answer.specs.Faults.{Placed}
-use Rattle.answer.specs.declared.Answer.{Answer}
+use Rattle.answer.specs.Checks.{pick, Answer}
+use Rattle.answer.specs.Faults.{Placed, Verdict}
 use Rattle.answer.specs.declared.Fault.{Fault}
 use Rattle.answer.specs.declared.Refusal.{Refusal}
-use Rattle.answer.specs.declared.Verdict.{Verdict}
 use Rattle.capture_record.specs.declared.entry.Settings.{Settings}
 use Rattle.element.specs.declared.channel_switch.ChannelSwitch.{ChannelSwitch}
 use Rattle.member.specs.Members.{member_of, member_takes, taken, take_of, advance_of}
 use Rattle.member.specs.Validity.{ValidMember}
 use Rattle.member.specs.declared.Member.{Member}
-use Rattle.pending.specs.declared.Pending.{Pending}
 use Rattle.station.specs.Asking.{permission_number}
 use Rattle.station.specs.declared.asking.Permission.{Permission}
 use Rattle.claims.specs.Histories.{Call, History, too_far, clock_after, Latest, Throughout}
@@ -36,6 +34,7 @@ use Rattle.claims.proofs.MemberMeans.{recorded, takes_means, advances_means, ask
 use Rattle.claims.proofs.OneRecord.{alike, same_station}
 use Rattle.claims.proofs.OwnersNamed.{none_obeyed}
 use Rattle.claims.proofs.RunsMeant.{as_meant}
+use Rattle.pending.specs.declared.Switch.{Switch}
 
 module _ (s : Settings) where
   module _ (ms : List (Made Call Said)) (m : Member) (ran : Ran member s ms m) where
@@ -83,16 +82,16 @@ module _ (s : Settings) where
     judged f v next x = (takes_means x).0 ∙ ap (λ (y : Member). (take_of y f).verdict) arrives.0 ∙ verdict_as s f h
 
     -- each advance is answered as the history says: 14 where it goes too far, else 0
-    pub stepped : (n : ℕ) (r : Answer) (next : Member) → MemberAdvances m n r next → r ≡ pick (too_far (clock_after h) n) (Answer.Refused Refusal.PastClock) Answer.Accepted
+    pub stepped : (n : ℕ) (r : Answer) (next : Member) → MemberAdvances m n r next → r ≡ pick (too_far (clock_after h) n) (Err Refusal.PastClock) (Ok tt)
     stepped n r next x = (advances_means x).0 ∙ ap (λ (y : Member). (advance_of y n).answer) arrives.0 ∙ step_as s n h
 
     -- a frame that is refused, with whatever number, changes nothing
-    pub refused_same : (f : List ℕ) (q : Fault) (next : Member) → MemberTakes m f (Verdict.Refused q) next → next ≡ m
+    pub refused_same : (f : List ℕ) (q : Fault) (next : Member) → MemberTakes m f (Err q) next → next ≡ m
     refused_same f q next x = let w = takes_means x in w.1 ∙ by (member_takes m f) (sym w.0)
       where
-        by : (o : Placed Member) → (taken m o).verdict ≡ Verdict.Refused q → (taken m o).member ≡ m
-        by (refused y) e = refl
-        by (accepted y) e = absurd (let z : ◌≡◌ {A = ℕ} 0 1 = cc in omega arith)
+        by : (o : Placed Member) → (taken m o).verdict ≡ Err q → (taken m o).member ≡ m
+        by (Err y) e = refl
+        by (Ok y) e = absurd (let z : ◌≡◌ {A = ℕ} 0 1 = cc in omega arith)
 
   -- one history has one record
   pub one_member : 1 ≤ s.interval → (h : History) (m m' : Member) → ValidMember m → ValidMember m' → MemberAgrees s h m → MemberAgrees s h m' → m ≡ m'
@@ -122,7 +121,7 @@ module _ (s : Settings) where
   never_switched (c ∷ h) n none (inl (w, x, e)) = never_switches c h w none x
   never_switched (c ∷ h) n none (inr x) = never_switched h n none.1 x.1
 
-  pub never_obeys : (ms : List (Made Call Said)) (m : Member) → Ran member s ms m → NeverNamed s (calls_of ms) → (m.station.channel ≡ s.channel) × (m.station.pending ≡ Pending.Nothing)
+  pub never_obeys : (ms : List (Made Call Said)) (m : Member) → Ran member s ms m → NeverNamed s (calls_of ms) → (m.station.channel ≡ s.channel) × (m.station.pending ≡ None)
   never_obeys ms m ran none =
       let a = (agreed ms m ran).as_heard in
       (by_channel a.channel_told, by_pending m.station.pending a.pending_told)
@@ -131,6 +130,6 @@ module _ (s : Settings) where
       by_channel (inl x) = x.1
       by_channel (inr x) = absurd (never_switched (calls_of ms) m.station.channel none x)
 
-      by_pending : (p : Pending) → PendingIs (ibss_listener s) (calls_of ms) p → p ≡ Pending.Nothing
-      by_pending Pending.Nothing x = refl
-      by_pending (Pending.Switch q) (w, x, mode, channel) = absurd (never_announced (calls_of ms) q.at w none x.0)
+      by_pending : (p : Option Switch) → PendingIs (ibss_listener s) (calls_of ms) p → p ≡ None
+      by_pending None x = refl
+      by_pending (Some q) (w, x, mode, channel) = absurd (never_announced (calls_of ms) q.at w none x.0)

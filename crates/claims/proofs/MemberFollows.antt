@@ -1,5 +1,6 @@
 -- A station of an IBSS hears what its reader accepts, but for announcements by any but the owner; its record follows what it hears, and its owner what the history
 -- tells (02, Five). Assumes nothing.
+use Rattle.std.specs.Prelude.{Ok, Err, Some, None, Option}
 use mathlib.Core.Bool.{Bool, true, false, not, ◌&&◌}
 use mathlib.Core.List.{List, [], ◌∷◌}
 use mathlib.Core.Logic.{◌⊎◌, inl, inr}
@@ -9,11 +10,9 @@ use native.Mathlib.Omega.{arith}
 use lib.Dec.{ltb}
 use Rattle.answer.proofs.Booleans.{clash}
 use Rattle.answer.proofs.Judged.{never}
-use Rattle.answer.specs.Checks.{Outcome, refused, accepted, pick, ◌⇒◌, checked, and_then}
+use Rattle.answer.specs.Checks.{Outcome, pick, ◌⇒◌, checked, and_then}
 use Rattle.answer.specs.Faults.{Placed, fault_nowhere}
-use Rattle.answer.specs.declared.Answer.{Answer}
 use Rattle.answer.specs.declared.Refusal.{Refusal}
-use Rattle.answer.specs.declared.Verdict.{Verdict}
 use Rattle.beacon.specs.Beacons.{Told}
 use Rattle.beacon.specs.IbssBeacons.{MaybeDfs, absent, is}
 use Rattle.beacon.specs.Notices.{has_switch}
@@ -27,7 +26,6 @@ use Rattle.member.specs.declared.Member.{Member}
 use Rattle.owner.specs.Owners.{heard_from, past_tbtts}
 use Rattle.owner.specs.Tbtts.{tbtts_in}
 use Rattle.owner.specs.declared.Owner.{Owner}
-use Rattle.pending.specs.declared.Pending.{Pending}
 use Rattle.station.specs.Clock as Clock
 use Rattle.station.specs.Clock.{reached, clock_advance, advanced_to, advance_means}
 use Rattle.station.specs.Taking.{heard}
@@ -41,6 +39,7 @@ use Rattle.claims.proofs.IbssReadings.{read_allowed, recovery_some, beacons_only
 use Rattle.station.proofs.KeptThroughout.{KeptThroughout, kept_by, heard_keeps, heard_clock, advance_keeps}
 use Rattle.claims.proofs.OwnersTold.{Lasting, units_last, units_told, owns_told, naming_told, heard_told, naming_lasts, hearing_lasts}
 use Rattle.claims.proofs.Same.{accepted_once}
+use Rattle.pending.specs.declared.Switch.{Switch}
 
 -- ---- what it hears
 
@@ -56,14 +55,14 @@ module _ (s : Settings) where
   hears_or_not : (c : Call) (h : History) → ((k : Kind) × Heard c h k) ⊎ ((k : Kind) → Heard c h k → ⊥)
   hears_or_not (frame f) h = by_outcome (read_as s f) refl
     where
-      by_test_lem : (x : SentInIbss) → read_as s f ≡ accepted x → (foreign : Bool) → foreign_to (clock_after h) (reigning s h) x ≡ foreign
+      by_test_lem : (x : SentInIbss) → read_as s f ≡ Ok x → (foreign : Bool) → foreign_to (clock_after h) (reigning s h) x ≡ foreign
           → ((k : Kind) × Heard (frame f) h k) ⊎ ((k : Kind) → Heard (frame f) h k → ⊥)
       by_test_lem x e true y = inr (λ k z. clash (sym y ∙ ap (foreign_to (clock_after h) (reigning s h)) (accepted_once (sym e ∙ z.1.0)) ∙ z.1.1))
       by_test_lem x e false y = inl (x.sent.kind, (x, (e, y), refl))
 
       by_outcome : (o : Placed SentInIbss) → read_as s f ≡ o → ((k : Kind) × Heard (frame f) h k) ⊎ ((k : Kind) → Heard (frame f) h k → ⊥)
-      by_outcome (refused q) e = inr (λ k z. never (sym e ∙ z.1.0))
-      by_outcome (accepted x) e = by_test_lem x e (foreign_to (clock_after h) (reigning s h) x) refl
+      by_outcome (Err q) e = inr (λ k z. never (sym e ∙ z.1.0))
+      by_outcome (Ok x) e = by_test_lem x e (foreign_to (clock_after h) (reigning s h) x) refl
   hears_or_not (advance n) h = inr (λ k z. z.1)
   hears_or_not (ask n) h = inr (λ k z. z.1)
 
@@ -91,15 +90,15 @@ module _ (m : Member) (n : ℕ) where
 
   abbrev AdvancesBy : Bool → Outcome Station → Type 0
   AdvancesBy far o =
-      ((stepped m (and_then o (λ next. accepted (member_of next (owner_past m n))))).member
+      ((stepped m (and_then o (λ next. Ok (member_of next (owner_past m n))))).member
       ≡ member_of (Clock.stepped r o).station (pick far m.owner (owner_past m n)))
       × ((Clock.stepped r o).station.clock ≡ pick far r.clock (r.clock + n))
-      × ((stepped m (and_then o (λ next. accepted (member_of next (owner_past m n))))).answer ≡ pick far (Answer.Refused Refusal.PastClock) Answer.Accepted)
+      × ((stepped m (and_then o (λ next. Ok (member_of next (owner_past m n))))).answer ≡ pick far (Err Refusal.PastClock) (Ok tt))
 
   advance_parts :
       ((advance_of m n).member ≡ member_of (Clock.advance_of r n).station (pick (too_far r.clock n) m.owner (owner_past m n)))
       × ((Clock.advance_of r n).station.clock ≡ pick (too_far r.clock n) r.clock (r.clock + n))
-      × ((advance_of m n).answer ≡ pick (too_far r.clock n) (Answer.Refused Refusal.PastClock) Answer.Accepted)
+      × ((advance_of m n).answer ≡ pick (too_far r.clock n) (Err Refusal.PastClock) (Ok tt))
   unfolding member_advances advance_means clock_advance
   advance_parts = by_test_lem (too_far r.clock n)
     where
@@ -107,9 +106,9 @@ module _ (m : Member) (n : ℕ) where
       by_switch true channel = (refl, refl, refl)
       by_switch false channel = (refl, refl, refl)
 
-      by_pending : (p : Pending) → AdvancesBy false (advanced_to r (reached (r.clock + n) p))
-      by_pending Pending.Nothing = (refl, refl, refl)
-      by_pending (Pending.Switch q) = by_switch (ltb (r.clock + n) q.at) q.channel
+      by_pending : (p : Option Switch) → AdvancesBy false (advanced_to r (reached (r.clock + n) p))
+      by_pending None = (refl, refl, refl)
+      by_pending (Some q) = by_switch (ltb (r.clock + n) q.at) q.channel
 
       by_test_lem : (far : Bool) → AdvancesBy far (advanced_to r (pick far Advanced.Refused (reached (r.clock + n) r.pending)))
       by_test_lem true = (refl, refl, refl)
@@ -124,21 +123,21 @@ abbrev hearing : Member → SentInIbss → Bool → Member
 hearing m x foreign =
     pick foreign m (member_of (heard m.station x.sent.kind) (heard_by (named_by m.owner x.dfs) x.sender x.sent.kind))
 
-leaves_read : (m : Member) (x : SentInIbss) → leaves m (accepted x) ≡ hearing m x (foreign_announcement (named_by m.owner x.dfs) x)
+leaves_read : (m : Member) (x : SentInIbss) → leaves m (Ok x) ≡ hearing m x (foreign_announcement (named_by m.owner x.dfs) x)
 unfolding checked
 leaves_read m x = by (foreign_announcement (named_by m.owner x.dfs) x)
   where
     next : Member
     next = member_of (heard m.station x.sent.kind) (heard_by (named_by m.owner x.dfs) x.sender x.sent.kind)
 
-    by : (foreign : Bool) → (taken m (checked (foreign ⇒ fault_nowhere Refusal.ForeignAnnouncement ∷ []) (accepted next))).member ≡ pick foreign m next
+    by : (foreign : Bool) → (taken m (checked (foreign ⇒ fault_nowhere Refusal.ForeignAnnouncement ∷ []) (Ok next))).member ≡ pick foreign m next
     by true = refl
     by false = refl
 
 -- the verdict on it
 verdict_read : (m : Member) (x : SentInIbss)
-    → (taken m (and_then (accepted x) (follows m))).verdict
-    ≡ pick (foreign_announcement (named_by m.owner x.dfs) x) (Verdict.Refused (fault_nowhere Refusal.ForeignAnnouncement)) Verdict.Accepted
+    → (taken m (and_then (Ok x) (follows m))).verdict
+    ≡ pick (foreign_announcement (named_by m.owner x.dfs) x) (Err (fault_nowhere Refusal.ForeignAnnouncement)) (Ok tt)
 unfolding checked
 verdict_read m x = by (foreign_announcement (named_by m.owner x.dfs) x)
   where
@@ -146,8 +145,8 @@ verdict_read m x = by (foreign_announcement (named_by m.owner x.dfs) x)
     next = member_of (heard m.station x.sent.kind) (heard_by (named_by m.owner x.dfs) x.sender x.sent.kind)
 
     by : (foreign : Bool)
-        → (taken m (checked (foreign ⇒ fault_nowhere Refusal.ForeignAnnouncement ∷ []) (accepted next))).verdict
-        ≡ pick foreign (Verdict.Refused (fault_nowhere Refusal.ForeignAnnouncement)) Verdict.Accepted
+        → (taken m (checked (foreign ⇒ fault_nowhere Refusal.ForeignAnnouncement ∷ []) (Ok next))).verdict
+        ≡ pick foreign (Err (fault_nowhere Refusal.ForeignAnnouncement)) (Ok tt)
     by true = refl
     by false = refl
 
@@ -203,7 +202,7 @@ module _ (s : Settings) where
     unheard : member_after s (frame f ∷ h) ≡ m → reigning s (frame f ∷ h) ≡ w → Tells (frame f ∷ h)
     unheard e g = leaving m w e g refl refl t.lasting t.owner
 
-    module _ (x : SentInIbss) (e : read_as s f ≡ accepted x) where
+    module _ (x : SentInIbss) (e : read_as s f ≡ Ok x) where
       -- the owner by which the announcement is judged, and whether it is foreign
       named_as : named_by m.owner x.dfs ≡ owner_told s.interval (clock_after h) (naming_at (clock_after h) x.dfs w)
       named_as = ap (λ (o : Owner). named_by o x.dfs) t.owner ∙ sym (naming_told s.interval (clock_after h) w x.dfs)
@@ -214,10 +213,10 @@ module _ (s : Settings) where
           ∙ ap (λ (b : Bool). has_switch (announcement_in x.sent.kind) && not b) (sym (owns_told s.interval (clock_after h) (naming_at (clock_after h) x.dfs w) x.sender))
 
       heard_as : (foreign : Bool) → foreign_to (clock_after h) w x ≡ foreign → member_after s (frame f ∷ h) ≡ hearing m x foreign
-      heard_as foreign y = taken_as_lem (accepted x) e ∙ leaves_read m x ∙ ap (hearing m x) (same_test ∙ y)
+      heard_as foreign y = taken_as_lem (Ok x) e ∙ leaves_read m x ∙ ap (hearing m x) (same_test ∙ y)
 
       reigning_as : (foreign : Bool) → foreign_to (clock_after h) w x ≡ foreign → reigning s (frame f ∷ h) ≡ pick foreign w (after_kind (clock_after h) x x.sent.kind w)
-      reigning_as foreign y = reigns_as (accepted x) e ∙ ap (λ (b : Bool). pick b w (after_kind (clock_after h) x x.sent.kind w)) y
+      reigning_as foreign y = reigns_as (Ok x) e ∙ ap (λ (b : Bool). pick b w (after_kind (clock_after h) x x.sent.kind w)) y
 
       naming_lasting : (d : MaybeDfs) → x.dfs ≡ d → Lasting (naming_at (clock_after h) d w) (clock_after h)
       naming_lasting absent y = t.lasting
@@ -246,8 +245,8 @@ module _ (s : Settings) where
             (kind_lasting x.sent.kind) (kind_owner x.sent.kind refl)
 
     by_outcome : (o : Placed SentInIbss) → read_as s f ≡ o → Tells (frame f ∷ h)
-    by_outcome (refused q) e = unheard (taken_as_lem (refused q) e) (reigns_as (refused q) e)
-    by_outcome (accepted x) e = by_test_lem x e (beacons_only s f x e) (foreign_to (clock_after h) w x) refl
+    by_outcome (Err q) e = unheard (taken_as_lem (Err q) e) (reigns_as (Err q) e)
+    by_outcome (Ok x) e = by_test_lem x e (beacons_only s f x e) (foreign_to (clock_after h) w x) refl
 
   -- ---- an advance
 
@@ -302,10 +301,10 @@ module _ (s : Settings) where
 
   -- ---- an advance is refused exactly where it goes too far
 
-  pub step_as : (n : ℕ) (h : History) → (advance_of (member_after s h) n).answer ≡ pick (too_far (clock_after h) n) (Answer.Refused Refusal.PastClock) Answer.Accepted
+  pub step_as : (n : ℕ) (h : History) → (advance_of (member_after s h) n).answer ≡ pick (too_far (clock_after h) n) (Err Refusal.PastClock) (Ok tt)
   step_as n h =
       (advance_parts (member_after s h) n).2
-      ∙ ap (λ (u : ℕ). pick (too_far u n) (Answer.Refused Refusal.PastClock) Answer.Accepted) (tells h).clock
+      ∙ ap (λ (u : ℕ). pick (too_far u n) (Err Refusal.PastClock) (Ok tt)) (tells h).clock
 
   -- ---- the verdict on a frame is the one that the history tells of
 
@@ -316,24 +315,24 @@ module _ (s : Settings) where
       ∙ by (read_as s f) refl
     where
       by : (o : Placed SentInIbss) → read_as s f ≡ o → (taken (member_after s h) (and_then o (follows (member_after s h)))).verdict ≡ verdict_told (clock_after h) (reigning s h) o
-      by (refused q) e = refl
-      by (accepted x) e =
+      by (Err q) e = refl
+      by (Ok x) e =
           verdict_read (member_after s h) x
-          ∙ ap (λ (b : Bool). pick b (Verdict.Refused (fault_nowhere Refusal.ForeignAnnouncement)) Verdict.Accepted) (same_test f h (tells h) x e)
+          ∙ ap (λ (b : Bool). pick b (Err (fault_nowhere Refusal.ForeignAnnouncement)) (Ok tt)) (same_test f h (tells h) x e)
 
   -- ---- the record follows what is heard
 
   ignored : (f : List ℕ) (h : History) → ((k : Kind) → Heard s (frame f) h k → ⊥) → (member_after s (frame f ∷ h)).station ≡ (member_after s h).station
   ignored f h none = by_outcome' (read_as s f) refl
     where
-      by_test' : (x : SentInIbss) → read_as s f ≡ accepted x → (foreign : Bool) → foreign_to (clock_after h) (reigning s h) x ≡ foreign
+      by_test' : (x : SentInIbss) → read_as s f ≡ Ok x → (foreign : Bool) → foreign_to (clock_after h) (reigning s h) x ≡ foreign
           → (member_after s (frame f ∷ h)).station ≡ (member_after s h).station
       by_test' x e true y = ap (λ (m : Member). m.station) (heard_as f h (tells h) x e true y)
       by_test' x e false y = absurd (none x.sent.kind (x, (e, y), refl))
 
       by_outcome' : (o : Placed SentInIbss) → read_as s f ≡ o → (member_after s (frame f ∷ h)).station ≡ (member_after s h).station
-      by_outcome' (refused q) e = ap (λ (m : Member). m.station) (taken_as_lem f h (tells h) (refused q) e)
-      by_outcome' (accepted x) e = by_test' x e (foreign_to (clock_after h) (reigning s h) x) refl
+      by_outcome' (Err q) e = ap (λ (m : Member). m.station) (taken_as_lem f h (tells h) (Err q) e)
+      by_outcome' (Ok x) e = by_test' x e (foreign_to (clock_after h) (reigning s h) x) refl
 
   taking : (f : List ℕ) (h : History) (k : Kind) → Heard s (frame f) h k → (member_after s (frame f ∷ h)).station ≡ heard (member_after s h).station k
   taking f h k (x, (e, y), is_kind) =

@@ -1,4 +1,5 @@
 -- What a call of a station of an IBSS answers and leaves, by its meaning, and so any calls of a run (02, Five). Assumes nothing.
+use Rattle.std.specs.Prelude.{Ok, Err}
 use mathlib.Core.Bool.{Bool, true, false, not}
 use mathlib.Core.List.{List, [], ◌∷◌}
 use mathlib.Core.Path.{◌≡◌, refl, sym, ap, ◌∙◌, subst}
@@ -6,10 +7,8 @@ use Prim.Native.Nat.{ℕ, zero, suc, ◌+◌}
 use native.Mathlib.Omega.{arith}
 use lib.Dec.{leb}
 use Rattle.answer.proofs.Booleans.{clash}
-use Rattle.answer.specs.Checks.{Outcome, refused, accepted, pick, and_then}
-use Rattle.answer.specs.Faults.{Placed}
-use Rattle.answer.specs.declared.Answer.{Answer}
-use Rattle.answer.specs.declared.Verdict.{Verdict}
+use Rattle.answer.specs.Checks.{Outcome, pick, and_then, Answer}
+use Rattle.answer.specs.Faults.{Placed, Verdict}
 use Rattle.capture_record.specs.declared.entry.Settings.{Settings}
 use Rattle.frame.specs.IbssFrames.{SentInIbss, ibss_frame_means}
 use Rattle.frame.specs.IbssLaid.{ibss_laid}
@@ -31,7 +30,6 @@ use Rattle.station.specs.Starting.{start_means}
 use Rattle.station.specs.Validity.{Valid}
 use Rattle.station.specs.declared.Station.{Station}
 use Rattle.station.specs.declared.asking.Permission.{Permission}
-use Rattle.station_record.specs.declared.Asked.{Asked}
 use Rattle.claims.specs.Histories.{Call, frame, advance, ask, History}
 use Rattle.claims.specs.MemberRecords.{member_after}
 use Rattle.claims.specs.MemberRuns.{MemberStarts, MemberTakes, MemberAdvances, MemberAsks, MemberDoes, member}
@@ -45,7 +43,7 @@ use Rattle.claims.proofs.StationMeans.{valid_advance as station_advance, is_fres
 abbrev said_by : Member → Call → Said
 said_by m (frame f) = judged (take_of m f).verdict
 said_by m (advance n) = answered (advance_of m n).answer
-said_by m (ask n) = asked (Asked.Is (permission_of m.station n))
+said_by m (ask n) = asked (Ok (permission_of m.station n))
 
 abbrev left_by : Member → Call → Member
 left_by m (frame f) = (take_of m f).member
@@ -91,9 +89,9 @@ module _ (m : Member) (v : ValidMember m) where
   unfolding member_advances
   valid_advance n = by (advance_means m.station n) (station_advance m.station v.station_valid n)
     where
-      by : (o : Outcome Station) → Valid (station_stepped m.station o).station → ValidMember (stepped m (and_then o (λ s. accepted (member_of s (owner_past m n))))).member
-      by (refused q) w = v
-      by (accepted t) w = record { station_valid = w; owner_fits = past_fits (tbtts_in m.station.interval m.station.clock n) m.owner v.owner_fits }
+      by : (o : Outcome Station) → Valid (station_stepped m.station o).station → ValidMember (stepped m (and_then o (λ s. Ok (member_of s (owner_past m n))))).member
+      by (Err q) w = v
+      by (Ok t) w = record { station_valid = w; owner_fits = past_fits (tbtts_in m.station.interval m.station.clock n) m.owner v.owner_fits }
 
   pub valid_take : (f : List ℕ) → ValidMember (take_of m f).member
   unfolding member_takes
@@ -113,7 +111,7 @@ module _ (m : Member) (v : ValidMember m) where
 
 -- ---- what each promise allows
 
-pub valid_start : (s : Settings) (r : Station) → start_means s.own s.ap s.interval s.channel ≡ accepted r → ValidMember (member_of r unknown)
+pub valid_start : (s : Settings) (r : Station) → start_means s.own s.ap s.interval s.channel ≡ Ok r → ValidMember (member_of r unknown)
 valid_start s r e = record { station_valid = (is_fresh s r e).1; owner_fits = unknown_fits }
 
 pub starts_means : (s : Settings) (m : Member) → MemberStarts s m → Exactly ValidMember m (member_after s [])
@@ -124,9 +122,9 @@ starts_means s m (κs, a, x, e, promise, (own, bssid, interval, channel, accepts
       subst ValidMember result (promise.1 accepts),
     )
   where
-    by : (o : Outcome Station) → start_means s.own s.ap s.interval s.channel ≡ o → (member_started o).answer ≡ Answer.Accepted → (member_started o).member ≡ member_after s []
-    by (refused q) given says = absurd (let z : ◌≡◌ {A = ℕ} 0 1 = cc in omega arith)
-    by (accepted t) given says = ap (λ (r : Station). member_of r unknown) (is_fresh s t given).0
+    by : (o : Outcome Station) → start_means s.own s.ap s.interval s.channel ≡ o → (member_started o).answer ≡ Ok tt → (member_started o).member ≡ member_after s []
+    by (Err q) given says = absurd (let z : ◌≡◌ {A = ℕ} 0 1 = cc in omega arith)
+    by (Ok t) given says = ap (λ (r : Station). member_of r unknown) (is_fresh s t given).0
 
 pub takes_means : {before m : Member} {f : List ℕ} {v : Verdict} → MemberTakes before f v m → (v ≡ (take_of before f).verdict) × (m ≡ (take_of before f).member) × ValidMember m
 takes_means {before} {m} {f} (κs, a, x, e, promise, (self, octets, verdict, result)) =
@@ -144,7 +142,7 @@ asks_means (κs, a, x, e, promise, (self, units, result)) = sym result ∙ rw (�
 pub does_means : (m : Member) (c : Call) (x : Said) (next : Member) → ValidMember m → MemberDoes m c x next → Meant member_means ValidMember m c x next
 does_means m c x next v (MemberDoes.takes y) = let w = takes_means y in record { answers = ap judged w.0; leaves = w.1; valid = w.2 }
 does_means m c x next v (MemberDoes.advances y) = let w = advances_means y in record { answers = ap answered w.0; leaves = w.1; valid = w.2 }
-does_means m c x next v (MemberDoes.asks y) = record { answers = ap (λ (p : Permission). asked (Asked.Is p)) (asks_means y); leaves = refl; valid = v }
+does_means m c x next v (MemberDoes.asks y) = record { answers = ap (λ (p : Permission). asked (Ok p)) (asks_means y); leaves = refl; valid = v }
 
 pub member_meets : (s : Settings) → Meets member member_means (Exactly ValidMember) s (member_after s [])
 member_meets s = meets_exactly member member_means ValidMember does_means s (member_after s []) (starts_means s)

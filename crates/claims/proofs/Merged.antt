@@ -1,11 +1,12 @@
 -- Advancing twice is advancing once (02, Seven), of whatever goes on by units that add up. Assumes nothing.
+use Rattle.std.specs.Prelude.{Ok}
 use mathlib.Core.List.{List, [], ◌∷◌}
 use mathlib.Core.Path.{◌≡◌, sym, ap, ◌∙◌, subst}
 use Prim.Native.Nat.{ℕ, ◌+◌, ◌≤◌}
 use native.Mathlib.Omega.{arith}
-use Rattle.answer.specs.declared.Answer.{Answer}
 use Rattle.station.specs.Stations.{clock_limit, unit_limit}
 use Rattle.claims.specs.Merging.{sum, NoneTooLong, AllMade, AllAccepted, Merges}
+use Rattle.answer.specs.Checks.{Answer}
 
 module _ {S : Type 0} (StepsTo : S → ℕ → Answer → S → Type 0) (ValidOf : S → Type 0) (clock_of : S → ℕ) where
   pub record AddsUp : Type 0 where
@@ -15,8 +16,8 @@ module _ {S : Type 0} (StepsTo : S → ℕ → Answer → S → Type 0) (ValidOf
     pub stays : (s : S) → ValidOf s → gone s 0 ≡ s
     pub clock_gone : (s : S) (n : ℕ) → clock_of (gone s n) ≡ clock_of s + n
     -- an advance goes so far exactly where it is not too far
-    pub accepted_goes : (s next : S) (n : ℕ) → ValidOf s → StepsTo s n Answer.Accepted next → (n ≤ unit_limit) × (clock_of s + n ≤ clock_limit) × (next ≡ gone s n) × ValidOf next
-    pub near_accepted : (s next : S) (n : ℕ) (r : Answer) → ValidOf s → n ≤ unit_limit → clock_of s + n ≤ clock_limit → StepsTo s n r next → (r ≡ Answer.Accepted) × (next ≡ gone s n)
+    pub accepted_goes : (s next : S) (n : ℕ) → ValidOf s → StepsTo s n (Ok tt) next → (n ≤ unit_limit) × (clock_of s + n ≤ clock_limit) × (next ≡ gone s n) × ValidOf next
+    pub near_accepted : (s next : S) (n : ℕ) (r : Answer) → ValidOf s → n ≤ unit_limit → clock_of s + n ≤ clock_limit → StepsTo s n r next → (r ≡ Ok tt) × (next ≡ gone s n)
 
   module _ (g : AddsUp) where
     clock_next : (s next : S) (n : ℕ) → next ≡ g.gone s n → clock_of next ≡ clock_of s + n

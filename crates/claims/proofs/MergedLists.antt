@@ -1,13 +1,13 @@
 -- The list of a capture in which two advances were merged (02, Seven). Assumes nothing.
+use Rattle.std.specs.Prelude.{Ok, Err}
 use mathlib.Core.Bool.{Bool, true, false}
 use mathlib.Core.List.{List, [], ◌∷◌, ◌++◌, append_assoc, append-nil}
 use mathlib.Core.Path.{◌≡◌, refl, sym, ap, ap₂, ◌∙◌, subst}
 use Prim.Native.Nat.{ℕ, suc, ◌+◌, ◌≤◌}
 use native.Mathlib.Omega.{arith}
 use lib.ListN.{length, length-append}
-use Rattle.answer.specs.Checks.{Outcome, refused, accepted, pick}
+use Rattle.answer.specs.Checks.{Outcome, pick, Answer}
 use Rattle.answer.specs.Numbers.{answer_number}
-use Rattle.answer.specs.declared.Answer.{Answer}
 use Rattle.answer.specs.declared.Refusal.{Refusal}
 use Rattle.block.specs.Blocks.{used_length, is_damaged, used_part, block_means}
 use Rattle.block.specs.declared.Block.{Block}
@@ -80,8 +80,8 @@ module _ (l : Lister) where
   bad_spoken = spoken_line (without l) Word.Record (refusal Refusal.RecordMalformed)
 
   start_spoken : (o : Outcome Station) → Spoken (λ n. started (with_lines l n) o)
-  start_spoken (refused r) = spoken_line (without l) Word.Start (refusal r)
-  start_spoken (accepted s) = spoken_line (following l s) Word.Start (Response.Call Answer.Accepted)
+  start_spoken (Err r) = spoken_line (without l) Word.Start (refusal r)
+  start_spoken (Ok s) = spoken_line (following l s) Word.Start (Response.Call (Ok tt))
 
   none_spoken : (word : Word) → Spoken (λ n. no_station (with_lines l n) word)
   none_spoken word = spoken_line l word (refusal Refusal.NoStation)
@@ -141,8 +141,8 @@ noted_one l malformed = refl
 noted_one l (starting s) = by (start_means s.own s.ap s.interval s.channel)
   where
     by : (o : Outcome Station) → length (start_spoken l o).said ≡ 1
-    by (refused r) = refl
-    by (accepted x) = refl
+    by (Err r) = refl
+    by (Ok x) = refl
 noted_one l (advancing m) =
     let x = advance_of l.station m in
     one_of l.active (following l x.station) l Word.Advance Word.Advance (Response.Call x.answer) (refusal Refusal.NoStation)
@@ -173,8 +173,8 @@ block_many b l = by (is_damaged b)
 abbrev Went : Lister → ℕ → ℕ → Type 0
 Went l a b =
     (l.active ≡ true)
-    × ((advance_of l.station a).answer ≡ Answer.Accepted)
-    × ((advance_of (advance_of l.station a).station b).answer ≡ Answer.Accepted)
+    × ((advance_of l.station a).answer ≡ Ok tt)
+    × ((advance_of (advance_of l.station a).station b).answer ≡ Ok tt)
 
 -- what is told of both, and of the one
 pub record Merged (tell tell' : ℕ → Told) (many : ℕ) : Type 0 where
@@ -192,7 +192,7 @@ pub record TellsMerged (reach : Lister → Lister) (l : Lister) (a b : ℕ) (tel
   pub lists : Went at a b → Merged tell tell' many
 
 -- an advance that is accepted
-adv_tells : (l : Lister) (m : ℕ) → l.active ≡ true → (advance_of l.station m).answer ≡ Answer.Accepted → (n : ℕ)
+adv_tells : (l : Lister) (m : ℕ) → l.active ≡ true → (advance_of l.station m).answer ≡ Ok tt → (n : ℕ)
     → noted (with_lines l n) (advancing m) ≡ told_from (following l (advance_of l.station m).station) (went_on ∷ []) n
 unfolding noted
 adv_tells l m active allowed n =
@@ -201,7 +201,7 @@ adv_tells l m active allowed n =
     ∙ line_tells (following l x.station) Word.Advance (Response.Call x.answer) n
     ∙ ap (λ (r : Answer). told_from (following l x.station) (says Word.Advance (answer_number r) ∷ []) n) allowed
 
-adv_spoken : (l : Lister) (m : ℕ) → l.active ≡ true → (advance_of l.station m).answer ≡ Answer.Accepted → Spoken (λ n. noted (with_lines l n) (advancing m))
+adv_spoken : (l : Lister) (m : ℕ) → l.active ≡ true → (advance_of l.station m).answer ≡ Ok tt → Spoken (λ n. noted (with_lines l n) (advancing m))
 adv_spoken l m active allowed = record { said = went_on ∷ []; base = following l (advance_of l.station m).station; tells = adv_tells l m active allowed }
 
 -- a record that is not malformed

@@ -1,4 +1,5 @@
 -- Advancing twice is advancing once (02, Seven) for document 01's station, for a station of an IBSS and for a table, over the code's own results. Assumes nothing.
+use Rattle.std.specs.Prelude.{Ok, Err, Some, None, Option}
 use mathlib.Core.Bool.{Bool, true, false, ◌||◌}
 use mathlib.Core.List.{List, [], ◌∷◌, map}
 use mathlib.Core.Logic.{⊎_elim}
@@ -8,8 +9,7 @@ use native.Mathlib.Omega.{arith}
 use borrow.Author.Tests.{ltb-false, lt-ltb, le-ltb}
 use lib.Dec.{ltb}
 use Rattle.answer.proofs.Booleans.{either, neither, or_go}
-use Rattle.answer.specs.Checks.{Outcome, refused, accepted, pick, and_then, checked}
-use Rattle.answer.specs.declared.Answer.{Answer}
+use Rattle.answer.specs.Checks.{Outcome, pick, and_then, checked, Answer}
 use Rattle.answer.specs.declared.Refusal.{Refusal}
 use Rattle.member.specs.Members.{member_of, owner_past, member_advances, stepped as member_stepped, advance_of as member_advance}
 use Rattle.member.specs.Validity.{ValidMember}
@@ -19,7 +19,6 @@ use Rattle.owner.proofs.CountingUnits.{passed_tbtts}
 use Rattle.owner.specs.Owners.{at_tbtt, past_tbtts}
 use Rattle.owner.specs.Tbtts.{tbtts_in}
 use Rattle.owner.specs.declared.Owner.{Owner}
-use Rattle.pending.specs.declared.Pending.{Pending}
 use Rattle.row.specs.Rows.{seated, All, row_ticked, ticked}
 use Rattle.row.specs.declared.Row.{Row}
 use Rattle.station.specs.Clock.{stepped, reached, clock_advance, advanced_to, advance_means, advance_of}
@@ -47,6 +46,7 @@ use Rattle.claims.proofs.Merged.{AddsUp, merges}
 use Rattle.claims.proofs.StationMeans.{advances_means}
 use Rattle.claims.proofs.TableMeans.{answered_once, does_means}
 use Rattle.claims.proofs.TableStays.{reaches}
+use Rattle.pending.specs.declared.Switch.{Switch}
 
 -- an advance that is too far
 abbrev too_far : ℕ → ℕ → Bool
@@ -61,7 +61,7 @@ not_far t n few within = or_go (ltb unit_limit n) (le-ltb unit_limit n few) ∙ 
 -- ---- document 01's station
 
 -- after so many units, whatever the limits
-abbrev gone_to : Station → ℕ → Pending → Station
+abbrev gone_to : Station → ℕ → Option Switch → Station
 gone_to s t p = (stepped s (advanced_to s (reached t p))).station
 
 abbrev gone : Station → ℕ → Station
@@ -75,22 +75,22 @@ by_far : (s : Station) (n : ℕ) → advance_means s n ≡ means_by s n (too_far
 unfolding advance_means clock_advance means_by
 by_far s n = refl
 
-far_refused : (s : Station) (n : ℕ) → too_far s.clock n ≡ true → advance_means s n ≡ refused Refusal.PastClock
+far_refused : (s : Station) (n : ℕ) → too_far s.clock n ≡ true → advance_means s n ≡ Err Refusal.PastClock
 unfolding means_by
 far_refused s n y = by_far s n ∙ ap (means_by s n) y
 
-near_gone : (s : Station) (n : ℕ) → too_far s.clock n ≡ false → advance_means s n ≡ accepted (gone s n)
+near_gone : (s : Station) (n : ℕ) → too_far s.clock n ≡ false → advance_means s n ≡ Ok (gone s n)
 unfolding means_by
 near_gone s n e = by_far s n ∙ ap (means_by s n) e ∙ by_pending s.pending
   where
     by : (b : Bool) (t channel : ℕ) → advanced_to s (pick b (Advanced.Goes t) (Advanced.Switches t channel))
-        ≡ accepted (stepped s (advanced_to s (pick b (Advanced.Goes t) (Advanced.Switches t channel)))).station
+        ≡ Ok (stepped s (advanced_to s (pick b (Advanced.Goes t) (Advanced.Switches t channel)))).station
     by true t channel = refl
     by false t channel = refl
 
-    by_pending : (p : Pending) → advanced_to s (reached (s.clock + n) p) ≡ accepted (gone_to s (s.clock + n) p)
-    by_pending Pending.Nothing = refl
-    by_pending (Pending.Switch x) = by (ltb (s.clock + n) x.at) (s.clock + n) x.channel
+    by_pending : (p : Option Switch) → advanced_to s (reached (s.clock + n) p) ≡ Ok (gone_to s (s.clock + n) p)
+    by_pending None = refl
+    by_pending (Some x) = by (ltb (s.clock + n) x.at) (s.clock + n) x.channel
 
 gone_clock : (s : Station) (n : ℕ) → (gone s n).clock ≡ s.clock + n
 gone_clock s n = by_pending s.pending
@@ -99,9 +99,9 @@ gone_clock s n = by_pending s.pending
     by true channel = refl
     by false channel = refl
 
-    by_pending : (p : Pending) → (gone_to s (s.clock + n) p).clock ≡ s.clock + n
-    by_pending Pending.Nothing = refl
-    by_pending (Pending.Switch x) = by (ltb (s.clock + n) x.at) x.channel
+    by_pending : (p : Option Switch) → (gone_to s (s.clock + n) p).clock ≡ s.clock + n
+    by_pending None = refl
+    by_pending (Some x) = by (ltb (s.clock + n) x.at) x.channel
 
 gone_interval : (s : Station) (n : ℕ) → (gone s n).interval ≡ s.interval
 gone_interval s n = by_pending s.pending
@@ -110,9 +110,9 @@ gone_interval s n = by_pending s.pending
     by true channel = refl
     by false channel = refl
 
-    by_pending : (p : Pending) → (gone_to s (s.clock + n) p).interval ≡ s.interval
-    by_pending Pending.Nothing = refl
-    by_pending (Pending.Switch x) = by (ltb (s.clock + n) x.at) x.channel
+    by_pending : (p : Option Switch) → (gone_to s (s.clock + n) p).interval ≡ s.interval
+    by_pending None = refl
+    by_pending (Some x) = by (ltb (s.clock + n) x.at) x.channel
 
 -- the moment of the second advance, with what the first one left
 gone_adds : (s : Station) (a b : ℕ) → gone (gone s a) b ≡ gone s (a + b)
@@ -124,17 +124,17 @@ gone_adds s a b = by_pending s.pending refl ∙ ap (λ (t : ℕ). gone_to s t s.
     u : ℕ
     u = s.clock + a + b
 
-    by_pending : (p : Pending) → s.pending ≡ p → gone (gone s a) b ≡ gone_to s u s.pending
-    by_pending Pending.Nothing e =
-        ap (λ (p : Pending). gone (gone_to s t p) b) e ∙ ap (gone_to (with_clock s t) u) e ∙ ap (gone_to s u) (sym e)
-    by_pending (Pending.Switch x) e =
+    by_pending : (p : Option Switch) → s.pending ≡ p → gone (gone s a) b ≡ gone_to s u s.pending
+    by_pending None e =
+        ap (λ (p : Option Switch). gone (gone_to s t p) b) e ∙ ap (gone_to (with_clock s t) u) e ∙ ap (gone_to s u) (sym e)
+    by_pending (Some x) e =
         ⊎_elim
         (λ (y : ltb t x.at ≡ true).
-        ap (λ (p : Pending). gone (gone_to s t p) b) e
+        ap (λ (p : Option Switch). gone (gone_to s t p) b) e
         ∙ ap (λ (c : Bool). gone (stepped s (advanced_to s (pick c (Advanced.Goes t) (Advanced.Switches t x.channel)))).station b) y
         ∙ ap (gone_to (with_clock s t) u) e ∙ same_switch (ltb u x.at) ∙ ap (gone_to s u) (sym e))
         (λ (n : ltb t x.at ≡ false).
-        ap (λ (p : Pending). gone (gone_to s t p) b) e
+        ap (λ (p : Option Switch). gone (gone_to s t p) b) e
         ∙ ap (λ (c : Bool). gone (stepped s (advanced_to s (pick c (Advanced.Goes t) (Advanced.Switches t x.channel)))).station b) n
         ∙ ap (λ (c : Bool). (stepped s (advanced_to s (pick c (Advanced.Goes u) (Advanced.Switches u x.channel)))).station)
         (sym (le-ltb u x.at (let l = ltb-false t x.at n in omega (arith, l))))
@@ -150,23 +150,23 @@ gone_adds s a b = by_pending s.pending refl ∙ ap (λ (t : ℕ). gone_to s t s.
 gone_nowhere : (s : Station) → Valid s → gone s 0 ≡ s
 gone_nowhere s v = ap (λ (t : ℕ). gone_to s t s.pending) (let e : s.clock + 0 ≡ s.clock = omega arith in e) ∙ by s.pending v.pending_fits
   where
-    by : (p : Pending) → PendingFits s.clock p → gone_to s s.clock p ≡ s
-    by Pending.Nothing fits = refl
-    by (Pending.Switch x) fits =
+    by : (p : Option Switch) → PendingFits s.clock p → gone_to s s.clock p ≡ s
+    by None fits = refl
+    by (Some x) fits =
         ap (λ (c : Bool). (stepped s (advanced_to s (pick c (Advanced.Goes s.clock) (Advanced.Switches s.clock x.channel)))).station) (lt-ltb s.clock x.at fits.0)
 
 -- what is accepted is not too far
-refused_never : {A : Type 0} {r : Refusal} → Answer.Refused r ≡ Answer.Accepted → A
+refused_never : {A : Type 0} {r : Refusal} → Err r ≡ Ok tt → A
 refused_never {A} {r} z = absurd (let f : ◌≡◌ {A = ℕ} 0 1 = cc in omega arith)
 
-accepted_near : (t n : ℕ) (answer : Answer) → (too_far t n ≡ true → answer ≡ Answer.Refused Refusal.PastClock) → answer ≡ Answer.Accepted → too_far t n ≡ false
+accepted_near : (t n : ℕ) (answer : Answer) → (too_far t n ≡ true → answer ≡ Err Refusal.PastClock) → answer ≡ Ok tt → too_far t n ≡ false
 accepted_near t n answer far e =
     ⊎_elim
     (λ (y : too_far t n ≡ true). refused_never (sym (far y) ∙ e))
     (λ (m : too_far t n ≡ false). m)
     (either (too_far t n))
 
-advance_near : (s : Station) (n : ℕ) → (advance_of s n).answer ≡ Answer.Accepted → too_far s.clock n ≡ false
+advance_near : (s : Station) (n : ℕ) → (advance_of s n).answer ≡ Ok tt → too_far s.clock n ≡ false
 advance_near s n e = accepted_near s.clock n (advance_of s n).answer (λ y. ap (λ (o : Outcome Station). (stepped s o).answer) (far_refused s n y)) e
 
 station_goes : AddsUp Advances Valid (λ s. s.clock)
@@ -190,7 +190,7 @@ pub station_merges : Merges Advances Valid (λ s. s.clock)
 station_merges = merges Advances Valid (λ s. s.clock) station_goes
 
 -- the meanings alone, where both advances are accepted
-pub advance_merged : (s : Station) (a b : ℕ) → (advance_of s a).answer ≡ Answer.Accepted → (advance_of (advance_of s a).station b).answer ≡ Answer.Accepted → a + b ≤ 65535
+pub advance_merged : (s : Station) (a b : ℕ) → (advance_of s a).answer ≡ Ok tt → (advance_of (advance_of s a).station b).answer ≡ Ok tt → a + b ≤ 65535
     → advance_of s (a + b) ≡ advance_of (advance_of s a).station b
 advance_merged s a b one two few =
     let close = advance_near s a one in
@@ -198,7 +198,7 @@ advance_merged s a b one two few =
     let close' = advance_near (gone s a) b (ap (λ (x : Station). (advance_of x b).answer) (sym mid) ∙ two) in
     let within = (near (gone s a).clock b close').1 in
     ap (stepped s) (near_gone s (a + b) (not_far s.clock (a + b) few (omega (arith, within, gone_clock s a))))
-    ∙ ap (λ (x : Station). record { answer = Answer.Accepted; station = x }) (sym (gone_adds s a b))
+    ∙ ap (λ (x : Station). record { answer = Ok tt; station = x }) (sym (gone_adds s a b))
     ∙ sym (ap (stepped (gone s a)) (near_gone (gone s a) b close')) ∙ ap (λ (x : Station). advance_of x b) (sym mid)
 
 -- ---- a station of an IBSS: the TBTTs of both advances are those of the one
@@ -230,9 +230,9 @@ unfolding tbtts_in past_tbtts
 no_tbtts b t o = refl
 
 member_by : (m : Member) (n : ℕ) (o : Outcome Station) → advance_means m.station n ≡ o
-    → member_advance m n ≡ member_stepped m (and_then o (λ s. accepted (member_of s (owner_past m n))))
+    → member_advance m n ≡ member_stepped m (and_then o (λ s. Ok (member_of s (owner_past m n))))
 unfolding member_advances
-member_by m n o e = ap (λ (x : Outcome Station). member_stepped m (and_then x (λ s. accepted (member_of s (owner_past m n))))) e
+member_by m n o e = ap (λ (x : Outcome Station). member_stepped m (and_then x (λ s. Ok (member_of s (owner_past m n))))) e
 
 member_goes : AddsUp MemberAdvances ValidMember (λ m. m.station.clock)
 member_goes = record {
@@ -312,17 +312,17 @@ module _ (t : Table) where
       by false e = ap (λ (c : Bool). pick c (seated (advance_of w.station n).station) w) e ∙ ap (λ (c : Bool). pick c (seated (gone w.station n)) w) (sym e)
 
   tick_by : ℕ → Bool → TableStepped
-  tick_by n far = table_stepped t (pick far (refused Refusal.PastClock) (accepted (ticked_table t n)))
+  tick_by n far = table_stepped t (pick far (Err Refusal.PastClock) (Ok (ticked_table t n)))
 
   by_tick : (n : ℕ) → tick_of t n ≡ tick_by n (too_far t.clock n)
   unfolding tick_means checked tick_by
   by_tick n = refl
 
-  tick_far : (n : ℕ) → too_far t.clock n ≡ true → (tick_of t n).answer ≡ Answer.Refused Refusal.PastClock
+  tick_far : (n : ℕ) → too_far t.clock n ≡ true → (tick_of t n).answer ≡ Err Refusal.PastClock
   unfolding tick_by
   tick_far n y = ap (λ (x : TableStepped). x.answer) (by_tick n ∙ ap (tick_by n) y)
 
-  tick_near : ValidTable t → (n : ℕ) → too_far t.clock n ≡ false → ((tick_of t n).answer ≡ Answer.Accepted) × ((tick_of t n).table ≡ table_gone t n)
+  tick_near : ValidTable t → (n : ℕ) → too_far t.clock n ≡ false → ((tick_of t n).answer ≡ Ok tt) × ((tick_of t n).table ≡ table_gone t n)
   unfolding tick_by
   tick_near v n e =
       let all = by_tick n ∙ ap (tick_by n) e in (
@@ -340,7 +340,7 @@ table_goes = record {
       ap₂ (λ (c : ℕ) (ws : List Row). record { ap = t.ap; interval = t.interval; clock = c; rows = ws }) (let e : t.clock + 0 ≡ t.clock = omega arith in e) (rows_stay t t.rows v.each);
   clock_gone = λ t n. refl;
   accepted_goes = λ t next n v does.
-      let m = does_means t (tick n) (answered Answer.Accepted) next v does in
+      let m = does_means t (tick n) (answered (Ok tt)) next v does in
       let close = accepted_near t.clock n (tick_of t n).answer (tick_far t n) (answered_once (sym m.answers)) in
       let w = near t.clock n close in
       (w.0, w.1, m.leaves ∙ (tick_near t v n close).1, m.valid);
@@ -366,19 +366,19 @@ clock_within t (advance n ∷ h) within = by (too_far (clock_from t h) n) refl (
     by true e rest = rest
     by false e rest = (near (clock_from t h) n e).1
 
-pub station_zero : (s : Settings) (ms : List (Made Call Said)) (x : Station) → Ran station s ms x → (r : Answer) (next : Station) → Advances x 0 r next → (r ≡ Answer.Accepted) × (next ≡ x)
+pub station_zero : (s : Settings) (ms : List (Made Call Said)) (x : Station) → Ran station s ms x → (r : Answer) (next : Station) → Advances x 0 r next → (r ≡ Ok tt) × (next ≡ x)
 station_zero s ms x ran r next step =
     let w = arrives s ms x ran in
     let clock = (agreed s ms x ran).as_heard.same_clock in
     station_merges.zero_nothing x w.1 (subst (λ (n : ℕ). n ≤ clock_limit) (sym clock) (clock_within 0 (calls_of ms) (omega arith))) r next step
 
-pub member_zero : (s : Settings) (ms : List (Made Call Said)) (x : Member) → Ran member s ms x → (r : Answer) (next : Member) → MemberAdvances x 0 r next → (r ≡ Answer.Accepted) × (next ≡ x)
+pub member_zero : (s : Settings) (ms : List (Made Call Said)) (x : Member) → Ran member s ms x → (r : Answer) (next : Member) → MemberAdvances x 0 r next → (r ≡ Ok tt) × (next ≡ x)
 member_zero s ms x ran r next step =
     let w = member_arrives s ms x ran in
     let clock = (member_agreed s ms x ran).as_heard.same_clock in
     member_merges.zero_nothing x w.1 (subst (λ (n : ℕ). n ≤ clock_limit) (sym clock) (clock_within 0 (calls_of ms) (omega arith))) r next step
 
-pub table_zero : (ap' : List ℕ) (b : ℕ) (ms : List TableMade) (t : Table) → Ran table (started_with ap' b) ms t → (r : Answer) (next : Table) → TableTicks t 0 r next → (r ≡ Answer.Accepted) × (next ≡ t)
+pub table_zero : (ap' : List ℕ) (b : ℕ) (ms : List TableMade) (t : Table) → Ran table (started_with ap' b) ms t → (r : Answer) (next : Table) → TableTicks t 0 r next → (r ≡ Ok tt) × (next ≡ t)
 table_zero ap' b ms t ran r next step =
     let w = reaches ap' b ms t ran in
     table_merges.zero_nothing t w.valid (subst (λ (n : ℕ). n ≤ clock_limit) (sym w.its_clock) (clock_within 0 (advances_of (calls_of ms)) (omega arith))) r next step

@@ -1,4 +1,5 @@
 -- What a beacon or a probe response says, field by field. Assumes nothing.
+use Rattle.std.specs.Prelude.{Some, None, Option}
 use mathlib.Core.List.{List}
 use mathlib.Core.Path.{◌≡◌, refl, ap}
 use Prim.Native.Nat.{ℕ}
@@ -7,46 +8,46 @@ use lib.ListN.{length}
 use Rattle.answer.specs.Checks.{pick}
 use Rattle.beacon.specs.Beacons.{Told, tells}
 use Rattle.beacon.specs.Notices.{has_power, has_report, has_switch}
-use Rattle.beacon.specs.declared.MaybePower.{MaybePower}
-use Rattle.beacon.specs.declared.MaybeReport.{MaybeReport}
-use Rattle.beacon.specs.declared.MaybeSwitch.{MaybeSwitch}
 use Rattle.element.specs.declared.quiet.Quiet.{Quiet}
 use Rattle.claims.specs.FilteredFrames.{any_power, any_report, any_switch}
+use Rattle.element.specs.declared.power_constraint.PowerConstraint.{PowerConstraint}
+use Rattle.element.specs.declared.tpc_report.TpcReport.{TpcReport}
+use Rattle.element.specs.declared.channel_switch.ChannelSwitch.{ChannelSwitch}
 
 -- what there may be one of is a list of none or one, by whether it is there
-pub one_power : (m : MaybePower) → length (any_power m) ≡ pick (has_power m) 1 0
-one_power MaybePower.Absent = refl
-one_power (MaybePower.Is p) = refl
+pub one_power : (m : Option PowerConstraint) → length (any_power m) ≡ pick (has_power m) 1 0
+one_power None = refl
+one_power (Some p) = refl
 
-pub one_report : (m : MaybeReport) → length (any_report m) ≡ pick (has_report m) 1 0
-one_report MaybeReport.Absent = refl
-one_report (MaybeReport.Is t) = refl
+pub one_report : (m : Option TpcReport) → length (any_report m) ≡ pick (has_report m) 1 0
+one_report None = refl
+one_report (Some t) = refl
 
-pub one_switch : (m : MaybeSwitch) → length (any_switch m) ≡ pick (has_switch m) 1 0
-one_switch MaybeSwitch.Absent = refl
-one_switch (MaybeSwitch.Is s) = refl
+pub one_switch : (m : Option ChannelSwitch) → length (any_switch m) ≡ pick (has_switch m) 1 0
+one_switch None = refl
+one_switch (Some s) = refl
 
 -- and that list tells it
-same_power : (m n : MaybePower) → any_power m ≡ any_power n → m ≡ n
-same_power MaybePower.Absent MaybePower.Absent e = refl
-same_power MaybePower.Absent (MaybePower.Is p) e = absurd (let z : ◌≡◌ {A = ℕ} 0 1 = cc in omega arith)
-same_power (MaybePower.Is p) MaybePower.Absent e = absurd (let z : ◌≡◌ {A = ℕ} 0 1 = cc in omega arith)
-same_power (MaybePower.Is p) (MaybePower.Is q) e = ap MaybePower.Is (cc)
+same_power : (m n : Option PowerConstraint) → any_power m ≡ any_power n → m ≡ n
+same_power None None e = refl
+same_power None (Some p) e = absurd (let z : ◌≡◌ {A = ℕ} 0 1 = cc in omega arith)
+same_power (Some p) None e = absurd (let z : ◌≡◌ {A = ℕ} 0 1 = cc in omega arith)
+same_power (Some p) (Some q) e = ap Some (cc)
 
-same_report : (m n : MaybeReport) → any_report m ≡ any_report n → m ≡ n
-same_report MaybeReport.Absent MaybeReport.Absent e = refl
-same_report MaybeReport.Absent (MaybeReport.Is p) e = absurd (let z : ◌≡◌ {A = ℕ} 0 1 = cc in omega arith)
-same_report (MaybeReport.Is p) MaybeReport.Absent e = absurd (let z : ◌≡◌ {A = ℕ} 0 1 = cc in omega arith)
-same_report (MaybeReport.Is p) (MaybeReport.Is q) e = ap MaybeReport.Is (cc)
+same_report : (m n : Option TpcReport) → any_report m ≡ any_report n → m ≡ n
+same_report None None e = refl
+same_report None (Some p) e = absurd (let z : ◌≡◌ {A = ℕ} 0 1 = cc in omega arith)
+same_report (Some p) None e = absurd (let z : ◌≡◌ {A = ℕ} 0 1 = cc in omega arith)
+same_report (Some p) (Some q) e = ap Some (cc)
 
-same_switch : (m n : MaybeSwitch) → any_switch m ≡ any_switch n → m ≡ n
-same_switch MaybeSwitch.Absent MaybeSwitch.Absent e = refl
-same_switch MaybeSwitch.Absent (MaybeSwitch.Is p) e = absurd (let z : ◌≡◌ {A = ℕ} 0 1 = cc in omega arith)
-same_switch (MaybeSwitch.Is p) MaybeSwitch.Absent e = absurd (let z : ◌≡◌ {A = ℕ} 0 1 = cc in omega arith)
-same_switch (MaybeSwitch.Is p) (MaybeSwitch.Is q) e = ap MaybeSwitch.Is (cc)
+same_switch : (m n : Option ChannelSwitch) → any_switch m ≡ any_switch n → m ≡ n
+same_switch None None e = refl
+same_switch None (Some p) e = absurd (let z : ◌≡◌ {A = ℕ} 0 1 = cc in omega arith)
+same_switch (Some p) None e = absurd (let z : ◌≡◌ {A = ℕ} 0 1 = cc in omega arith)
+same_switch (Some p) (Some q) e = ap Some (cc)
 
 -- what is said is told by its fields
-abbrev told_of : ℕ → ℕ → MaybePower → MaybeReport → MaybeSwitch → List Quiet → Told
+abbrev told_of : ℕ → ℕ → Option PowerConstraint → Option TpcReport → Option ChannelSwitch → List Quiet → Told
 told_of timestamp capability power report switch quiets =
     tells (record { timestamp = timestamp; capability = capability; power = power; report = report; switch = switch }) quiets
 
@@ -63,13 +64,13 @@ same_told s t i c p r w q =
 
 -- ---- with one field changed
 
-abbrev pub power_as : Told → MaybePower → Told
+abbrev pub power_as : Told → Option PowerConstraint → Told
 power_as t m = told_of t.notice.timestamp t.notice.capability m t.notice.report t.notice.switch t.quiets
 
-abbrev pub report_as : Told → MaybeReport → Told
+abbrev pub report_as : Told → Option TpcReport → Told
 report_as t m = told_of t.notice.timestamp t.notice.capability t.notice.power m t.notice.switch t.quiets
 
-abbrev pub switch_as : Told → MaybeSwitch → Told
+abbrev pub switch_as : Told → Option ChannelSwitch → Told
 switch_as t m = told_of t.notice.timestamp t.notice.capability t.notice.power t.notice.report m t.quiets
 
 abbrev pub quiets_as : Told → List Quiet → Told

@@ -1,16 +1,15 @@
 -- Where all frames come from one address and each announcement stands in a beacon that names it as the owner, a station of an IBSS answers as document 01's station does,
 -- given the same bodies (02, Five). Assumes nothing.
+use Rattle.std.specs.Prelude.{Ok, Err}
 use mathlib.Core.Bool.{Bool, true, false, not, ◌&&◌}
 use mathlib.Core.List.{List, [], ◌∷◌}
 use mathlib.Core.Path.{◌≡◌, refl, sym, ap, ap₂, ◌∙◌, subst}
 use Prim.Native.Nat.{ℕ}
 use lib.ListN.{length}
 use Rattle.answer.proofs.Judged.{never}
-use Rattle.answer.specs.Checks.{Outcome, refused, accepted, pick, and_then}
-use Rattle.answer.specs.Faults.{Placed, fault_nowhere}
-use Rattle.answer.specs.declared.Answer.{Answer}
+use Rattle.answer.specs.Checks.{Outcome, pick, and_then, Answer}
+use Rattle.answer.specs.Faults.{Placed, fault_nowhere, Verdict}
 use Rattle.answer.specs.declared.Refusal.{Refusal}
-use Rattle.answer.specs.declared.Verdict.{Verdict}
 use Rattle.beacon.specs.IbssBeacons.{MaybeDfs, is}
 use Rattle.beacon.specs.Notices.{has_switch}
 use Rattle.capture_record.specs.declared.entry.Settings.{Settings}
@@ -61,9 +60,9 @@ step_answer : (m : Member) (n : ℕ) → (Members.advance_of m n).answer ≡ (ad
 unfolding member_advances
 step_answer m n = by (advance_means m.station n)
   where
-    by : (o : Outcome Station) → (Members.stepped m (and_then o (λ x. accepted (Members.member_of x (Members.owner_past m n))))).answer ≡ (stepped m.station o).answer
-    by (refused r) = refl
-    by (accepted x) = refl
+    by : (o : Outcome Station) → (Members.stepped m (and_then o (λ x. Ok (Members.member_of x (Members.owner_past m n))))).answer ≡ (stepped m.station o).answer
+    by (Err r) = refl
+    by (Ok x) = refl
 
 module _ (s : Settings) where
   started : (member_after s []).station ≡ record_after s []
@@ -76,18 +75,18 @@ module _ (s : Settings) where
   by_ap f = frame_means s.own s.ap s.interval (from_ap s.ap f)
 
   abbrev verdict_of : Placed Sent → Verdict
-  verdict_of (refused q) = Verdict.Refused q
-  verdict_of (accepted x) = Verdict.Accepted
+  verdict_of (Err q) = Err q
+  verdict_of (Ok x) = Ok tt
 
   station_verdict : (h : History) (f : List ℕ) → (take_of (record_after s h) f).verdict ≡ verdict_of (frame_means s.own s.ap s.interval f)
   unfolding take_means
   station_verdict h f =
-      ap (λ (z : KeptThroughout). (taken (record_after s h) (and_then (frame_means z.0 z.1 z.2 f) (λ x. accepted (heard (record_after s h) x.kind)))).verdict) (kept 0 s h)
+      ap (λ (z : KeptThroughout). (taken (record_after s h) (and_then (frame_means z.0 z.1 z.2 f) (λ x. Ok (heard (record_after s h) x.kind)))).verdict) (kept 0 s h)
       ∙ by (frame_means s.own s.ap s.interval f)
     where
-      by : (o : Placed Sent) → (taken (record_after s h) (and_then o (λ x. accepted (heard (record_after s h) x.kind)))).verdict ≡ verdict_of o
-      by (refused q) = refl
-      by (accepted x) = refl
+      by : (o : Placed Sent) → (taken (record_after s h) (and_then o (λ x. Ok (heard (record_after s h) x.kind)))).verdict ≡ verdict_of o
+      by (Err q) = refl
+      by (Ok x) = refl
 
   module _ (a : List ℕ) (single : bit 0 (octet 0 a) ≡ false) (six : length s.ap ≡ 6) where
     -- ---- a frame from the address
@@ -96,11 +95,11 @@ module _ (s : Settings) where
       abbrev sent_by : Sent → SentInIbss
       sent_by x = record { sender = sa f; sent = x; dfs = one.dfs }
 
-      read_alike : read_as s f ≡ and_then (by_ap f) (λ x. accepted (sent_by x))
+      read_alike : read_as s f ≡ and_then (by_ap f) (λ x. Ok (sent_by x))
       read_alike = sound_from_ap s.own s.ap six s.interval f one.dfs (subst (λ (z : List ℕ). bit 0 (octet 0 z) ≡ false) (sym one.from) single) one.sound
 
       -- it is never foreign
-      ours : (t : ℕ) (w : Reigning) (x : Sent) → by_ap f ≡ accepted x → foreign_to t w (sent_by x) ≡ false
+      ours : (t : ℕ) (w : Reigning) (x : Sent) → by_ap f ≡ Ok x → foreign_to t w (sent_by x) ≡ false
       ours t w x e = by (has_switch (announcement_in x.kind)) refl
         where
           by : (b : Bool) → has_switch (announcement_in x.kind) ≡ b → (b && not (owns (naming_at t one.dfs w) (sa f))) ≡ false
@@ -115,11 +114,11 @@ module _ (s : Settings) where
       verdict_alike h g = station_verdict g (from_ap s.ap f) ∙ by (by_ap f) refl ∙ sym (verdict_as s f h)
         where
           by : (o : Placed Sent) → by_ap f ≡ o → verdict_of o ≡ verdict_told (clock_after h) (reigning s h) (read_as s f)
-          by (refused q) e =
-              ap (verdict_told (clock_after h) (reigning s h)) (sym (read_alike ∙ ap (λ (o : Placed Sent). and_then o (λ x. accepted (sent_by x))) e))
-          by (accepted x) e =
-              ap (λ (b : Bool). pick b (Verdict.Refused (fault_nowhere Refusal.ForeignAnnouncement)) Verdict.Accepted) (sym (ours (clock_after h) (reigning s h) x e))
-              ∙ ap (verdict_told (clock_after h) (reigning s h)) (sym (read_alike ∙ ap (λ (o : Placed Sent). and_then o (λ x. accepted (sent_by x))) e))
+          by (Err q) e =
+              ap (verdict_told (clock_after h) (reigning s h)) (sym (read_alike ∙ ap (λ (o : Placed Sent). and_then o (λ x. Ok (sent_by x))) e))
+          by (Ok x) e =
+              ap (λ (b : Bool). pick b (Err (fault_nowhere Refusal.ForeignAnnouncement)) (Ok tt)) (sym (ours (clock_after h) (reigning s h) x e))
+              ∙ ap (verdict_told (clock_after h) (reigning s h)) (sym (read_alike ∙ ap (λ (o : Placed Sent). and_then o (λ x. Ok (sent_by x))) e))
 
       -- and so is what they leave
       left_alike : (h g : History) → (member_after s h).station ≡ record_after s g
@@ -127,11 +126,11 @@ module _ (s : Settings) where
       left_alike h g same = by (by_ap f) refl
         where
           by : (o : Placed Sent) → by_ap f ≡ o → (member_after s (frame f ∷ h)).station ≡ record_after s (frame (from_ap s.ap f) ∷ g)
-          by (refused q) e =
-              let unread : read_as s f ≡ refused q = read_alike ∙ ap (λ (o : Placed Sent). and_then o (λ x. accepted (sent_by x))) e in
+          by (Err q) e =
+              let unread : read_as s f ≡ Err q = read_alike ∙ ap (λ (o : Placed Sent). and_then o (λ x. Ok (sent_by x))) e in
               (member_follows s).ignores f h (λ k z. never (sym unread ∙ z.1.0)) ∙ same ∙ sym ((follows 0 s).ignores (from_ap s.ap f) g (λ k z. never (sym e ∙ z.1)))
-          by (accepted x) e =
-              let read : read_as s f ≡ accepted (sent_by x) = read_alike ∙ ap (λ (o : Placed Sent). and_then o (λ y. accepted (sent_by y))) e in
+          by (Ok x) e =
+              let read : read_as s f ≡ Ok (sent_by x) = read_alike ∙ ap (λ (o : Placed Sent). and_then o (λ y. Ok (sent_by y))) e in
               (member_follows s).takes f h x.kind (sent_by x, (read, ours (clock_after h) (reigning s h) x e), refl)
               ∙ ap (λ (r : Station). heard r x.kind) same ∙ sym ((follows 0 s).takes (from_ap s.ap f) g x.kind (x.to_all, e))
 

@@ -6,7 +6,6 @@ use borrow.Fn.Kinds.{Dens, res_t, ended_of}
 use contract.Lifetimes.{Lfts}
 use denote.Triple.Clauses.{AtExit}
 use Rattle.answer.specs.Outcomes.{OneResult}
-use Rattle.answer.specs.declared.Verdict.{Verdict}
 use Rattle.apart.proofs.Apart.hear as Hear
 use Rattle.apart.proofs.Apart.nobody as Nobody
 use Rattle.apart.proofs.Apart.of as Of
@@ -24,6 +23,7 @@ use Rattle.station.proofs.changing.Rest.switched as RestSwitched
 use Rattle.station.proofs.is_at_once as IsAtOnce
 use Rattle.station.proofs.later as Later
 use Rattle.claims.proofs.Same.{once}
+use Rattle.answer.specs.Faults.{Verdict}
 
 -- ---- what a station hears
 

@@ -1,4 +1,5 @@
 -- Each promise of the leaves, `answer`, `octets`, `channel` and `fraction`, leaves one outcome. Assumes nothing.
+use Rattle.std.specs.Prelude.{Ok, Err}
 use mathlib.Core.Path.{◌≡◌, refl}
 use Prim.Native.Nat.{ℕ}
 use Rattle.answer.proofs.Answer.number as AnswerNumber
@@ -7,14 +8,12 @@ use Rattle.answer.proofs.Fault.nowhere as FaultNowhere
 use Rattle.answer.proofs.Refusal.number as RefusalNumber
 use Rattle.answer.proofs.Verdict.number as VerdictNumber
 use Rattle.answer.proofs.Verdict.offset as VerdictOffset
-use Rattle.answer.specs.Checks.{Outcome, refused, accepted}
+use Rattle.answer.specs.Checks.{Outcome}
 use Rattle.channel.proofs.centre as Centre
 use Rattle.channel.specs.Centres as Centres
-use Rattle.channel.specs.declared.Frequency.{Frequency}
 use Rattle.fraction.proofs.busy_fraction as BusyFraction
 use Rattle.fraction.proofs.rpi_densities as RpiDensities
 use Rattle.fraction.specs.Fractions as Fractions
-use Rattle.fraction.specs.declared.Fraction.{Fraction}
 use Rattle.octets.proofs.address_at as AddressAt
 use Rattle.octets.proofs.number16 as Number16
 use Rattle.octets.proofs.number32 as Number32
@@ -78,26 +77,26 @@ pub from_signed : OneResult 0 FromSigned.Kinds.ps FromSigned.Kinds.r FromSigned.
 from_signed κs a e f x y p q = once p q
 
 -- the answer that an outcome stands for
-frequency : Outcome ℕ → Frequency
-frequency (refused r) = Frequency.Refused r
-frequency (accepted n) = Frequency.Megahertz n
+frequency : Outcome ℕ → Outcome ℕ
+frequency (Err r) = Err r
+frequency (Ok n) = Ok n
 
-frequency_told : (x : Frequency) → frequency (Centres.centre_told x) ≡ x
+frequency_told : (x : Outcome ℕ) → frequency (Centres.centre_told x) ≡ x
 unfolding frequency
-frequency_told (Frequency.Refused r) = refl
-frequency_told (Frequency.Megahertz n) = refl
+frequency_told (Err r) = refl
+frequency_told (Ok n) = refl
 
 pub centre : OneResult 0 Centre.Kinds.ps Centre.Kinds.r Centre.Reads.Post
 centre κs a e f x y p q = told_once Centres.centre_told frequency frequency_told p q
 
-share : Outcome ℕ → Fraction
-share (refused r) = Fraction.Refused r
-share (accepted n) = Fraction.Is n
+share : Outcome ℕ → Outcome ℕ
+share (Err r) = Err r
+share (Ok n) = Ok n
 
-share_told : (x : Fraction) → share (Fractions.fraction_told x) ≡ x
+share_told : (x : Outcome ℕ) → share (Fractions.fraction_told x) ≡ x
 unfolding share
-share_told (Fraction.Refused r) = refl
-share_told (Fraction.Is n) = refl
+share_told (Err r) = refl
+share_told (Ok n) = refl
 
 pub busy_fraction : OneResult 0 BusyFraction.Kinds.ps BusyFraction.Kinds.r BusyFraction.Reads.Post
 busy_fraction κs a e f x y p q = told_once Fractions.fraction_told share share_told p q

@@ -11,7 +11,6 @@ use denote.Triple.Clauses.{AtExit}
 use denote.Triple.Entry.{Args, Res}
 use Rattle.lent.specs.contracts.advance as LentAdvance
 use Rattle.lent.specs.contracts.ask as LentAsk
-use Rattle.answer.specs.declared.Answer.{Answer}
 use Rattle.station.specs.Asking.{permission_of}
 use Rattle.station.specs.Clock.{advance_of}
 use Rattle.station.specs.Validity.{Valid}
@@ -19,6 +18,7 @@ use Rattle.station.specs.declared.Station.{Station}
 use Rattle.station.specs.declared.asking.Permission.{Permission}
 use Rattle.claims.specs.StationRuns.{Advances, Asks}
 use Rattle.claims.proofs.StationMeans.{advances_means, asks_means}
+use Rattle.answer.specs.Checks.{Answer}
 
 module _ {M : Type 1} {𝓤 : Ura M} (𝓛 : Logic 𝓤) (at_mem : Memory → SProp 𝓤) (run : Routine → Fun 𝓤) (κs : Lfts 1) where
   pub lent_advance : (a : Args (LentAdvance.ended).signature κs) (r : Res (LentAdvance.ended).signature κs) (e : AtExit LentAdvance.ended κs)

@@ -31,7 +31,6 @@ use Rattle.table.proofs.Table.reply_to_tpc_request as Tpc
 use Rattle.table.proofs.Table.start as Start
 use Rattle.table.proofs.Table.take as Take
 use Rattle.table.proofs.Table.tick as Tick
-use Rattle.table.specs.Tables.{asked_told}
 use Rattle.claims.proofs.Replies.{replied_once}
 use Rattle.claims.proofs.Same.{once, told_once}
 use Rattle.claims.proofs.TableMeans.{asked_as, asked_told_lem}
@@ -93,7 +92,7 @@ pub table_take : OneResult 1 Take.Kinds.ps Take.Kinds.r Take.Reads.Post
 table_take κs a e f x y p q = once p.0 q.0
 
 pub table_ask : OneResult 0 Ask.Kinds.ps Ask.Kinds.r Ask.Reads.Post
-table_ask κs a e f x y p q = told_once asked_told asked_as asked_told_lem p q
+table_ask κs a e f x y p q = told_once asked_as asked_told_lem p q
 
 pub asked_number_lem : OneResult 0 Number.Kinds.ps Number.Kinds.r Number.Reads.Post
 asked_number_lem κs a e f x y p q = once p q

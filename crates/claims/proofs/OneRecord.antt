@@ -1,4 +1,5 @@
 -- The history says everything: there is one valid record that agrees with it. Assumes nothing.
+use Rattle.std.specs.Prelude.{Option}
 use mathlib.Core.List.{List, [], ◌∷◌}
 use mathlib.Core.Logic.{inl, inr}
 use mathlib.Core.Path.{◌≡◌, refl, sym, ap, ap₂, ◌∙◌, subst}
@@ -6,9 +7,7 @@ use Prim.Native.Nat.{ℕ, ◌≤◌}
 use native.Mathlib.Omega.{arith}
 use lib.ListN.{length}
 use Rattle.beacon.specs.Beacons.{Told}
-use Rattle.beacon.specs.declared.MaybePower.{MaybePower}
 use Rattle.element.specs.declared.quiet.Quiet.{Quiet}
-use Rattle.pending.specs.declared.Pending.{Pending}
 use Rattle.schedule.specs.declared.Schedule.{Schedule}
 use Rattle.station.specs.Stations.{in_use, slotted}
 use Rattle.station.proofs.InUse.{in_use_length, in_use_slotted}
@@ -22,6 +21,8 @@ use Rattle.claims.proofs.CountingTbtts.{one_moment}
 use Rattle.claims.proofs.Following.{Sound}
 use Rattle.claims.proofs.OneSaying.{counts_one, channel_one, power_one, pending_one}
 use Rattle.claims.proofs.StationFollows.{sound}
+use Rattle.element.specs.declared.power_constraint.PowerConstraint.{PowerConstraint}
+use Rattle.pending.specs.declared.Switch.{Switch}
 
 abbrev schedule_of : ℕ → ℕ → ℕ → Schedule
 schedule_of start period duration = record { start = start; period = period; duration = duration }
@@ -31,7 +32,7 @@ same_schedule x y a b c =
     let same : schedule_of x.start x.period x.duration ≡ schedule_of y.start y.period y.duration = rw (a, b, c) in
     same
 
-abbrev station_of : List ℕ → List ℕ → ℕ → ℕ → ℕ → MaybePower → Pending → List Schedule → ℕ → ℕ → Station
+abbrev station_of : List ℕ → List ℕ → ℕ → ℕ → ℕ → Option PowerConstraint → Option Switch → List Schedule → ℕ → ℕ → Station
 station_of own ap' interval clock channel power pending schedules count until =
     record {
       own = own;

@@ -1,17 +1,15 @@
 -- A call says one thing only: the kind, what it tells and what it announces; and so does a history. Assumes nothing.
+use Rattle.std.specs.Prelude.{Some, None, Option}
 use mathlib.Core.List.{[], ◌∷◌}
 use mathlib.Core.Logic.{inl, inr}
 use mathlib.Core.Path.{◌≡◌, refl, sym, ap, ◌∙◌, subst}
 use Prim.Native.Nat.{ℕ, ◌≤◌}
 use native.Mathlib.Omega.{arith}
 use Rattle.beacon.specs.Beacons.{Told}
-use Rattle.beacon.specs.declared.MaybePower.{MaybePower}
-use Rattle.beacon.specs.declared.MaybeSwitch.{MaybeSwitch}
 use Rattle.element.specs.declared.channel_switch.ChannelSwitch.{ChannelSwitch}
 use Rattle.element.specs.declared.power_constraint.PowerConstraint.{PowerConstraint}
 use Rattle.frame.specs.Announcements.{announcement_in}
 use Rattle.frame.specs.Frames.{Kind, beacon, probe_response, action}
-use Rattle.pending.specs.declared.Pending.{Pending}
 use Rattle.pending.specs.declared.Switch.{Switch}
 use Rattle.claims.specs.Histories.{Call, frame, advance, ask, History, clock_from, Listener, clock_of, Says, Tells, Announces, Constrains, Latest, Throughout}
 use Rattle.claims.specs.Standing.{NoAnnouncement, LastAnnounced, Switches, at_once_lem, reached, NoSwitch, Counts, ChannelIs, LastConstrained, PowerIs, PendingIs}
@@ -19,16 +17,16 @@ use Rattle.claims.specs.Tbtts.{CountedTo}
 use Rattle.claims.proofs.CountingTbtts.{one_moment}
 use Rattle.claims.proofs.Following.{Sound}
 
-is_switch : {w v : ChannelSwitch} → MaybeSwitch.Is w ≡ MaybeSwitch.Is v → w ≡ v
+is_switch : {w v : ChannelSwitch} → Some w ≡ Some v → w ≡ v
 is_switch e = cc
 
-pub no_switch_said : {A : Type 0} {w : ChannelSwitch} → MaybeSwitch.Absent ≡ MaybeSwitch.Is w → A
+pub no_switch_said : {A : Type 0} {w : ChannelSwitch} → None ≡ Some w → A
 no_switch_said e = absurd (let z : ◌≡◌ {A = ℕ} 0 1 = cc in omega arith)
 
-pub is_power : {p q : PowerConstraint} → MaybePower.Is p ≡ MaybePower.Is q → p ≡ q
+pub is_power : {p q : PowerConstraint} → Some p ≡ Some q → p ≡ q
 is_power e = cc
 
-pub no_power_said : {A : Type 0} {p : PowerConstraint} → MaybePower.Absent ≡ MaybePower.Is p → A
+pub no_power_said : {A : Type 0} {p : PowerConstraint} → None ≡ Some p → A
 no_power_said e = absurd (let z : ◌≡◌ {A = ℕ} 0 1 = cc in omega arith)
 
 abbrev switch_of : ℕ → ℕ → ℕ → Switch
@@ -142,19 +140,19 @@ module _ (l : Listener) (sound : Sound l) (pos : 1 ≤ l.interval) where
     channel_one m n (inr x) (inl (y, f)) = absurd (never_switched m y x)
     channel_one m n (inr x) (inr y) = switched_one m n x y
 
-    pub power_one : (p q : MaybePower) → PowerIs l h p → PowerIs l h q → p ≡ q
-    power_one MaybePower.Absent MaybePower.Absent x y = refl
-    power_one MaybePower.Absent (MaybePower.Is q) x y = absurd (x q y)
-    power_one (MaybePower.Is p) MaybePower.Absent x y = absurd (y p x)
-    power_one (MaybePower.Is p) (MaybePower.Is q) x y = ap MaybePower.Is (constrained_one h p q x y)
+    pub power_one : (p q : Option PowerConstraint) → PowerIs l h p → PowerIs l h q → p ≡ q
+    power_one None None x y = refl
+    power_one None (Some q) x y = absurd (x q y)
+    power_one (Some p) None x y = absurd (y p x)
+    power_one (Some p) (Some q) x y = ap Some (constrained_one h p q x y)
 
-    pub pending_one : (p q : Pending) → PendingIs l h p → PendingIs l h q → p ≡ q
-    pending_one Pending.Nothing Pending.Nothing x y = refl
-    pending_one Pending.Nothing (Pending.Switch q) x (w, y, e, f) = absurd (x q.at w y)
-    pending_one (Pending.Switch p) Pending.Nothing (w, x, e, f) y = absurd (y p.at w x)
-    pending_one (Pending.Switch p) (Pending.Switch q) (w, x, e, f) (v, y, e', f') =
+    pub pending_one : (p q : Option Switch) → PendingIs l h p → PendingIs l h q → p ≡ q
+    pending_one None None x y = refl
+    pending_one None (Some q) x (w, y, e, f) = absurd (x q.at w y)
+    pending_one (Some p) None (w, x, e, f) y = absurd (y p.at w x)
+    pending_one (Some p) (Some q) (w, x, e, f) (v, y, e', f') =
         let same = announced_one h (p.at, w) (q.at, v) x.0 y.0 in
         let one : w ≡ v = ap (λ (z : ℕ × ChannelSwitch). z.1) same in
-        ap Pending.Switch
+        ap Some
         (same_switch p q (ap (λ (z : ℕ × ChannelSwitch). z.0) same)
         (sym e ∙ ap (λ (z : ChannelSwitch). z.mode) one ∙ e') (sym f ∙ ap (λ (z : ChannelSwitch). z.channel) one ∙ f'))

@@ -1,10 +1,10 @@
 -- Channel, constraint and schedules after one call more, by whether it brings a switch. Assumes nothing.
+use Rattle.std.specs.Prelude.{Some, None, Option}
 use mathlib.Core.List.{List, [], ◌∷◌}
 use mathlib.Core.Logic.{inl, inr}
 use mathlib.Core.Path.{◌≡◌, refl, sym, ap, ◌∙◌}
 use Prim.Native.Nat.{ℕ}
 use Rattle.beacon.specs.Beacons.{Told}
-use Rattle.beacon.specs.declared.MaybePower.{MaybePower}
 use Rattle.element.specs.declared.channel_switch.ChannelSwitch.{ChannelSwitch}
 use Rattle.element.specs.declared.power_constraint.PowerConstraint.{PowerConstraint}
 use Rattle.schedule.specs.declared.Schedule.{Schedule}
@@ -21,7 +21,7 @@ module _ (l : Listener) (c : Call) (h : History) where
     unfolding Latest
     channel_changes = inr (inl (w, x, refl))
 
-    pub power_gone : PowerIs l (c ∷ h) MaybePower.Absent
+    pub power_gone : PowerIs l (c ∷ h) None
     unfolding Latest
     power_gone p (inl (y, never)) = never w x
     power_gone p (inr ((y, never), last)) = never w x
@@ -43,14 +43,14 @@ module _ (l : Listener) (c : Call) (h : History) where
     channel_stays n (inr last) = inr (inr (calm, last))
 
     module _ (silent : (p : PowerConstraint) → Constrains l c h p → ⊥) where
-      pub power_stays : (m : MaybePower) → PowerIs l h m → PowerIs l (c ∷ h) m
+      pub power_stays : (m : Option PowerConstraint) → PowerIs l h m → PowerIs l (c ∷ h) m
       unfolding Latest
-      power_stays MaybePower.Absent f = none
+      power_stays None f = none
         where
           none : (p : PowerConstraint) → LastConstrained l (c ∷ h) p → ⊥
           none p (inl (y, z)) = silent p y
           none p (inr (y, last)) = f p last
-      power_stays (MaybePower.Is p) last = inr ((silent, calm), last)
+      power_stays (Some p) last = inr ((silent, calm), last)
 
     module _ (silent : (said : Told) → Tells l c h said → ⊥) where
       pub schedules_stay : (xs : List Schedule) → SchedulesAre l h xs → SchedulesAre l (c ∷ h) xs
@@ -64,11 +64,11 @@ module _ (l : Listener) (c : Call) (h : History) where
 
     -- a beacon or a probe response
     module _ (said : Told) (tells : Tells l c h said) where
-      pub power_kept : (p : PowerConstraint) → said.notice.power ≡ MaybePower.Is p → PowerIs l (c ∷ h) (MaybePower.Is p)
+      pub power_kept : (p : PowerConstraint) → said.notice.power ≡ Some p → PowerIs l (c ∷ h) (Some p)
       unfolding Latest
       power_kept p e = inl ((said, tells, e), calm)
 
-      pub no_constraint : Sound l → said.notice.power ≡ MaybePower.Absent → (p : PowerConstraint) → Constrains l c h p → ⊥
+      pub no_constraint : Sound l → said.notice.power ≡ None → (p : PowerConstraint) → Constrains l c h p → ⊥
       no_constraint sound e p (other, y, z) = no_power_said (sym e ∙ ap (λ (x : Told). x.notice.power) (tells_one l sound c h said other tells y) ∙ z)
 
       pub schedules_replaced : (xs : List Schedule) → SetsEach l (clock_of l h) said.quiets xs → SchedulesAre l (c ∷ h) xs

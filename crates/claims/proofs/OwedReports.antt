@@ -1,5 +1,6 @@
 -- The report that is owed for an element of a Measurement Request: its fields fit their types, it has the request's token and type, and where it is
 -- measured it carries the caller's readings. Assumes nothing.
+use Rattle.std.specs.Prelude.{Ok, Err}
 use mathlib.Core.Bool.{Bool, true, false, not, ◌&&◌, ◌||◌}
 use mathlib.Core.List.{List}
 use mathlib.Core.Path.{◌≡◌, refl, sym, ap, ◌∙◌, subst₂}
@@ -11,7 +12,7 @@ use lib.ListN.{length, length-map}
 use Rattle.answer.proofs.Booleans.{both, neither}
 use Rattle.answer.proofs.Judged.{passed, kept}
 use Rattle.answer.proofs.Yielding.{Yields, of_refusal, of_value, after_value}
-use Rattle.answer.specs.Checks.{Outcome, refused, accepted, pick}
+use Rattle.answer.specs.Checks.{Outcome, pick}
 use Rattle.answer.specs.declared.Refusal.{Refusal}
 use Rattle.fraction.specs.Fractions.{fraction_of, busy_of, densities_of}
 use Rattle.measured_report.specs.Reports.{plain, found, is_late, begun, by_matter, report_for}
@@ -32,7 +33,7 @@ use Rattle.claims.specs.PossibleReadings.{AsAsked, basic, cca, rpi, Possible, in
 use Rattle.claims.specs.RepliesRead.{CarriesReadings}
 
 -- as many densities as times
-densities_length : (duration : ℕ) (times ds : List ℕ) → densities_of duration times ≡ accepted ds → length ds ≡ length times
+densities_length : (duration : ℕ) (times ds : List ℕ) → densities_of duration times ≡ Ok ds → length ds ≡ length times
 unfolding densities_of
 densities_length duration times ds e = ap length (sym (kept _ (passed _ _ _ e).1)) ∙ length-map times (fraction_of duration)
 
@@ -99,10 +100,10 @@ module _ (clock token kind : ℕ) (finding : Finding) (times : List ℕ) where
           }
 
     -- only where the type asks for it
-    for_type : (type : ℕ) (o : Outcome Report) → (kind ≡ type → Yields P o) → Yields P (pick (eqb kind type) o (refused Refusal.Impossible))
+    for_type : (type : ℕ) (o : Outcome Report) → (kind ≡ type → Yields P o) → Yields P (pick (eqb kind type) o (Err Refusal.Impossible))
     for_type type o h = by (eqb kind type) refl
       where
-        by : (t : Bool) → eqb kind type ≡ t → Yields P (pick t o (refused Refusal.Impossible))
+        by : (t : Bool) → eqb kind type ≡ t → Yields P (pick t o (Err Refusal.Impossible))
         by true e = h (eqb-true kind type e)
         by false e = of_refusal P Refusal.Impossible
 
@@ -117,7 +118,7 @@ module _ (clock token kind : ℕ) (finding : Finding) (times : List ℕ) where
         (λ k. after_value P (densities_of s.duration times) _ (λ ds d. of_value P (measured _ _ (λ eight. densities_length _ _ _ d ∙ eight) (λ may. rw (k, e) (rpi d)))))
 
     by_late : (t : Bool) → is_late clock s ≡ t
-        → Yields P (pick t (accepted (plain token kind (Says.Matter.NotMeasured Reason.Late))) (found token kind (begun clock s) finding times))
+        → Yields P (pick t (Ok (plain token kind (Says.Matter.NotMeasured Reason.Late))) (found token kind (begun clock s) finding times))
     by_late true e = of_value P (unmeasured (Asks.Matter.Measure s) Reason.Late (late refl e))
     by_late false e = by_finding finding refl
 
@@ -126,6 +127,6 @@ module _ (clock token kind : ℕ) (finding : Finding) (times : List ℕ) where
   by_asks (Asks.Matter.Measure s) = by_late s (is_late clock s) refl
   by_asks Asks.Matter.Uninterpreted = of_value _ (unmeasured Asks.Matter.Uninterpreted Reason.Incapable (incapable refl))
 
-pub owed : (clock : ℕ) (readings : Readings) (request : Request) (report : Report) → report_for clock readings request ≡ accepted report
+pub owed : (clock : ℕ) (readings : Readings) (request : Request) (report : Report) → report_for clock readings request ≡ Ok report
     → Owed clock readings request report
 owed clock readings request report e = by_asks clock request.token request.kind readings.finding readings.times request.matter report e

@@ -1,11 +1,12 @@
 -- Exactly who owns: whom the latest accepted beacon with element 41 named, if it was not given up since; and exactly from when its misses are counted (02, Five). Assumes nothing.
+use Rattle.std.specs.Prelude.{Ok, Err}
 use mathlib.Core.Bool.{Bool, true, false}
 use mathlib.Core.List.{List, [], ◌∷◌}
 use mathlib.Core.Logic.{◌⊎◌, inl, inr, ⊎_elim, ◌↔◌}
 use mathlib.Core.Path.{◌≡◌, refl, sym, ap, ap₂, ◌∙◌, subst}
 use Prim.Native.Nat.{ℕ, zero, suc, ◌+◌}
 use Rattle.answer.proofs.Booleans.{clash}
-use Rattle.answer.specs.Checks.{refused, accepted, pick}
+use Rattle.answer.specs.Checks.{pick}
 use Rattle.answer.specs.Faults.{Placed}
 use Rattle.beacon.specs.Beacons.{Told}
 use Rattle.beacon.specs.IbssBeacons.{MaybeDfs, absent, is}
@@ -84,9 +85,9 @@ module _ (s : Settings) (f : List ℕ) (h : History) where
   unfolding reigning
   read_leaves o e = ap (λ (z : Placed SentInIbss). after_frame t z w) e
 
-  module _ (x : SentInIbss) (e : read_as s f ≡ accepted x) where
+  module _ (x : SentInIbss) (e : read_as s f ≡ Ok x) where
     pub accepted_leaves : foreign_to t w x ≡ false → reigning s (frame f ∷ h) ≡ after_kind t x x.sent.kind w
-    accepted_leaves ours = read_leaves (accepted x) e ∙ ap (λ (b : Bool). pick b w (after_kind t x x.sent.kind w)) ours
+    accepted_leaves ours = read_leaves (Ok x) e ∙ ap (λ (b : Bool). pick b w (after_kind t x x.sent.kind w)) ours
 
     beacon_leaves : foreign_to t w x ≡ false → (told : Told) → x.sent.kind ≡ beacon told → reigning s (frame f ∷ h) ≡ heard_at t x.sender (naming_at t x.dfs w)
     beacon_leaves ours told y = accepted_leaves ours ∙ ap (λ (k : Kind). after_kind t x k w) y
@@ -95,27 +96,27 @@ module _ (s : Settings) (f : List ℕ) (h : History) where
   Leaves : Type 0
   Leaves =
       (reigning s (frame f ∷ h) ≡ w)
-      ⊎ ((x : SentInIbss) × (told : Told) × (read_as s f ≡ accepted x) × (foreign_to t w x ≡ false) × (x.sent.kind ≡ beacon told))
+      ⊎ ((x : SentInIbss) × (told : Told) × (read_as s f ≡ Ok x) × (foreign_to t w x ≡ false) × (x.sent.kind ≡ beacon told))
 
   leaves : Leaves
   unfolding Leaves
   leaves = by_outcome (read_as s f) refl
     where
-      by_kind : (x : SentInIbss) → read_as s f ≡ accepted x → foreign_to t w x ≡ false → (k : Kind) → x.sent.kind ≡ k
-          → (reigning s (frame f ∷ h) ≡ w) ⊎ ((y : SentInIbss) × (told : Told) × (read_as s f ≡ accepted y) × (foreign_to t w y ≡ false) × (y.sent.kind ≡ beacon told))
+      by_kind : (x : SentInIbss) → read_as s f ≡ Ok x → foreign_to t w x ≡ false → (k : Kind) → x.sent.kind ≡ k
+          → (reigning s (frame f ∷ h) ≡ w) ⊎ ((y : SentInIbss) × (told : Told) × (read_as s f ≡ Ok y) × (foreign_to t w y ≡ false) × (y.sent.kind ≡ beacon told))
       by_kind x e ours (beacon told) y = inr (x, told, e, ours, y)
       by_kind x e ours (probe_response told) y = inl (accepted_leaves x e ours ∙ ap (λ (k : Kind). after_kind t x k w) y)
       by_kind x e ours (action body) y = inl (accepted_leaves x e ours ∙ ap (λ (k : Kind). after_kind t x k w) y)
 
-      by_test_lem : (x : SentInIbss) → read_as s f ≡ accepted x → (b : Bool) → foreign_to t w x ≡ b
-          → (reigning s (frame f ∷ h) ≡ w) ⊎ ((y : SentInIbss) × (told : Told) × (read_as s f ≡ accepted y) × (foreign_to t w y ≡ false) × (y.sent.kind ≡ beacon told))
-      by_test_lem x e true y = inl (read_leaves (accepted x) e ∙ ap (λ (b : Bool). pick b w (after_kind t x x.sent.kind w)) y)
+      by_test_lem : (x : SentInIbss) → read_as s f ≡ Ok x → (b : Bool) → foreign_to t w x ≡ b
+          → (reigning s (frame f ∷ h) ≡ w) ⊎ ((y : SentInIbss) × (told : Told) × (read_as s f ≡ Ok y) × (foreign_to t w y ≡ false) × (y.sent.kind ≡ beacon told))
+      by_test_lem x e true y = inl (read_leaves (Ok x) e ∙ ap (λ (b : Bool). pick b w (after_kind t x x.sent.kind w)) y)
       by_test_lem x e false y = by_kind x e y x.sent.kind refl
 
       by_outcome : (o : Placed SentInIbss) → read_as s f ≡ o
-          → (reigning s (frame f ∷ h) ≡ w) ⊎ ((y : SentInIbss) × (told : Told) × (read_as s f ≡ accepted y) × (foreign_to t w y ≡ false) × (y.sent.kind ≡ beacon told))
-      by_outcome (refused q) e = inl (read_leaves (refused q) e)
-      by_outcome (accepted x) e = by_test_lem x e (foreign_to t w x) refl
+          → (reigning s (frame f ∷ h) ≡ w) ⊎ ((y : SentInIbss) × (told : Told) × (read_as s f ≡ Ok y) × (foreign_to t w y ≡ false) × (y.sent.kind ≡ beacon told))
+      by_outcome (Err q) e = inl (read_leaves (Err q) e)
+      by_outcome (Ok x) e = by_test_lem x e (foreign_to t w x) refl
 
   -- ---- the owner
 
@@ -148,14 +149,14 @@ module _ (s : Settings) (f : List ℕ) (h : History) where
   unfolding Leaves
   unnamed_same none p = by leaves
     where
-      by_dfs : (x : SentInIbss) (told : Told) → read_as s f ≡ accepted x → foreign_to t w x ≡ false → x.sent.kind ≡ beacon told → (d : MaybeDfs) → x.dfs ≡ d
+      by_dfs : (x : SentInIbss) (told : Told) → read_as s f ≡ Ok x → foreign_to t w x ≡ false → x.sent.kind ≡ beacon told → (d : MaybeDfs) → x.dfs ≡ d
           → OwnerOf (heard_at t x.sender (naming_at t d w)) p ↔ OwnerOf w p
       by_dfs x told e ours y absent g = heard_same x.sender w p
       by_dfs x told e ours y (is d) g =
           absurd
           (none d.owner d.recovery (record { sent = x; accepts = (e, ours); told = told; in_beacon = y; dfs = d; has_dfs_lem = g; owner = refl; interval = refl }))
 
-      by : (reigning s (frame f ∷ h) ≡ w) ⊎ ((x : SentInIbss) × (told : Told) × (read_as s f ≡ accepted x) × (foreign_to t w x ≡ false) × (x.sent.kind ≡ beacon told))
+      by : (reigning s (frame f ∷ h) ≡ w) ⊎ ((x : SentInIbss) × (told : Told) × (read_as s f ≡ Ok x) × (foreign_to t w x ≡ false) × (x.sent.kind ≡ beacon told))
           → OwnerOf (reigning s (frame f ∷ h)) p ↔ OwnerOf w p
       by (inl e) = (subst (λ (v : Reigning). OwnerOf v p) e, subst (λ (v : Reigning). OwnerOf v p) (sym e))
       by (inr (x, told, e, ours, y)) =
@@ -215,13 +216,13 @@ module _ (s : Settings) (f : List ℕ) (h : History) where
   unfolding Leaves
   calm_same none p = by leaves
     where
-      away : (x : SentInIbss) (told : Told) → read_as s f ≡ accepted x → foreign_to t w x ≡ false → x.sent.kind ≡ beacon told
+      away : (x : SentInIbss) (told : Told) → read_as s f ≡ Ok x → foreign_to t w x ≡ false → x.sent.kind ≡ beacon told
           → (b : Bool) → owns (naming_at t x.dfs w) x.sender ≡ b → b ≡ false
       away x told e ours y true g =
           absurd (none x.sender true (record { sent = x; accepts = (e, ours); told = told; in_beacon = y; how = inl (refl, refl, g) }))
       away x told e ours y false g = refl
 
-      known : (x : SentInIbss) (told : Told) → read_as s f ≡ accepted x → foreign_to t w x ≡ false → x.sent.kind ≡ beacon told → (d : Dfs) → x.dfs ≡ is d
+      known : (x : SentInIbss) (told : Told) → read_as s f ≡ Ok x → foreign_to t w x ≡ false → x.sent.kind ≡ beacon told → (d : Dfs) → x.dfs ≡ is d
           → owns (naming_at t x.dfs w) x.sender ≡ false → (b : Bool) → owns w d.owner ≡ b → b ≡ true
       known x told e ours y d has off true g = refl
       known x told e ours y d has off false g =
@@ -235,12 +236,12 @@ module _ (s : Settings) (f : List ℕ) (h : History) where
             how = inr (refl, (d, has, refl), g, sym (another_owns d w x.sender g) ∙ sym (ap (λ (z : MaybeDfs). owns (naming_at t z w) x.sender) has) ∙ off);
           }))
 
-      by_dfs : (x : SentInIbss) (told : Told) → read_as s f ≡ accepted x → foreign_to t w x ≡ false → x.sent.kind ≡ beacon told
+      by_dfs : (x : SentInIbss) (told : Told) → read_as s f ≡ Ok x → foreign_to t w x ≡ false → x.sent.kind ≡ beacon told
           → owns (naming_at t x.dfs w) x.sender ≡ false → (d : MaybeDfs) → x.dfs ≡ d → MarkOf (naming_at t d w) p ↔ MarkOf w p
       by_dfs x told e ours y off absent g = (λ o. o, λ o. o)
       by_dfs x told e ours y off (is d) g = same_mark d w (let k = known x told e ours y d g off (owns w d.owner) refl in k) p
 
-      by : (reigning s (frame f ∷ h) ≡ w) ⊎ ((x : SentInIbss) × (told : Told) × (read_as s f ≡ accepted x) × (foreign_to t w x ≡ false) × (x.sent.kind ≡ beacon told))
+      by : (reigning s (frame f ∷ h) ≡ w) ⊎ ((x : SentInIbss) × (told : Told) × (read_as s f ≡ Ok x) × (foreign_to t w x ≡ false) × (x.sent.kind ≡ beacon told))
           → MarkOf (reigning s (frame f ∷ h)) p ↔ MarkOf w p
       by (inl e) = (subst (λ (v : Reigning). MarkOf v p) e, subst (λ (v : Reigning). MarkOf v p) (sym e))
       by (inr (x, told, e, ours, y)) =

@@ -1,5 +1,6 @@
 -- Who reigns was named by the latest accepted beacon with element 41, and where none is ever heard nobody does, so that no announcement is obeyed (02, Five). Assumes
 -- nothing.
+use Rattle.std.specs.Prelude.{Ok, Err}
 use mathlib.Core.Bool.{Bool, true, false, not, ◌&&◌}
 use mathlib.Core.List.{List, [], ◌∷◌}
 use mathlib.Core.Logic.{◌⊎◌, inl, inr}
@@ -9,7 +10,7 @@ use native.Mathlib.Omega.{arith}
 use lib.Dec.{leb}
 use Rattle.answer.proofs.Booleans.{clash}
 use Rattle.answer.proofs.Judged.{never}
-use Rattle.answer.specs.Checks.{refused, accepted, pick}
+use Rattle.answer.specs.Checks.{pick}
 use Rattle.answer.specs.Faults.{Placed}
 use Rattle.answer.specs.declared.Fault.{Fault}
 use Rattle.beacon.specs.Beacons.{Told}
@@ -69,15 +70,15 @@ module _ (s : Settings) where
   -- ---- what a frame was read as
 
   module _ (f : List ℕ) (h : History) where
-    one_reading : (x y : SentInIbss) → read_as s f ≡ accepted x → read_as s f ≡ accepted y → x ≡ y
+    one_reading : (x y : SentInIbss) → read_as s f ≡ Ok x → read_as s f ≡ Ok y → x ≡ y
     one_reading x y e g = accepted_once (sym e ∙ g)
 
     -- a frame that was refused names nobody
-    refused_nameless : (q : Fault) → read_as s f ≡ refused q → (a : List ℕ) (n : ℕ) → Names s (frame f) h a n → ⊥
+    refused_nameless : (q : Fault) → read_as s f ≡ Err q → (a : List ℕ) (n : ℕ) → Names s (frame f) h a n → ⊥
     refused_nameless q e a n x = never (sym e ∙ x.accepts.0)
 
     -- nor one that was read as something else than a beacon with element 41, or refused for its announcement
-    module _ (x : SentInIbss) (e : read_as s f ≡ accepted x) where
+    module _ (x : SentInIbss) (e : read_as s f ≡ Ok x) where
       foreign_nameless : foreign_to (clock_after h) (reigning s h) x ≡ true → (a : List ℕ) (n : ℕ) → Names s (frame f) h a n → ⊥
       foreign_nameless y a n z =
           clash (sym y ∙ ap (foreign_to (clock_after h) (reigning s h)) (one_reading x z.sent e z.accepts.0) ∙ z.accepts.1)
@@ -99,7 +100,7 @@ module _ (s : Settings) where
       unfolding Latest
       passes none o = inr (none, before o)
 
-      module _ (x : SentInIbss) (e : read_as s f ≡ accepted x) where
+      module _ (x : SentInIbss) (e : read_as s f ≡ Ok x) where
         by_dfs : (told : Told) → x.sent.kind ≡ beacon told → foreign_to (clock_after h) (reigning s h) x ≡ false → (d : MaybeDfs) → x.dfs ≡ d
             → OwnerOf (naming_at (clock_after h) d (reigning s h)) p → LastNamed s (frame f ∷ h) p.0 p.1
         unfolding Latest
@@ -121,8 +122,8 @@ module _ (s : Settings) where
         by_test_lem false y o = by_kind x.sent.kind refl y o
 
       by_outcome : (o : Placed SentInIbss) → read_as s f ≡ o → OwnerOf (after_frame (clock_after h) o (reigning s h)) p → LastNamed s (frame f ∷ h) p.0 p.1
-      by_outcome (refused q) e o = passes (refused_nameless q e) o
-      by_outcome (accepted x) e o = by_test_lem x e (foreign_to (clock_after h) (reigning s h) x) refl o
+      by_outcome (Err q) e o = passes (refused_nameless q e) o
+      by_outcome (Ok x) e o = by_test_lem x e (foreign_to (clock_after h) (reigning s h) x) refl o
 
   -- ---- whatever the calls
 

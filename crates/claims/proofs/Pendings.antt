@@ -1,4 +1,5 @@
 -- The pending switch after one call more, and whether that call brings a switch. Assumes nothing.
+use Rattle.std.specs.Prelude.{Some, None, Option}
 use mathlib.Core.List.{◌∷◌}
 use mathlib.Core.Logic.{inl, inr}
 use mathlib.Core.Path.{◌≡◌, refl, ap, ◌∙◌, subst}
@@ -6,7 +7,6 @@ use Prim.Native.Nat.{ℕ, ◌/◌, ◌<◌, ◌≤◌}
 use native.Mathlib.Omega.{arith}
 use Rattle.element.specs.declared.channel_switch.ChannelSwitch.{ChannelSwitch}
 use Rattle.pending.specs.Waiting.{pending_by}
-use Rattle.pending.specs.declared.Pending.{Pending}
 use Rattle.station.proofs.StaysValid.{moment_after}
 use Rattle.claims.specs.Histories.{Call, History, Listener, clock_of, Announces, Latest}
 use Rattle.claims.specs.Standing.{NoAnnouncement, Awaits, Switches, at_once_lem, reached, NoSwitch, PendingIs}
@@ -14,6 +14,7 @@ use Rattle.claims.specs.Tbtts.{CountedTo}
 use Rattle.claims.proofs.CountingTbtts.{counting}
 use Rattle.claims.proofs.Following.{Sound}
 use Rattle.claims.proofs.OneSaying.{announces_one, announced_one}
+use Rattle.pending.specs.declared.Switch.{Switch}
 
 module _ (l : Listener) (sound : Sound l) (pos : 1 ≤ l.interval) (c : Call) (h : History) where
   -- ---- where the clock stands still
@@ -28,20 +29,20 @@ module _ (l : Listener) (sound : Sound l) (pos : 1 ≤ l.interval) (c : Call) (h
       pub no_switch : NoSwitch l c h
       no_switch w x = none w (switch_in_frame w x).0
 
-      pub pending_stays : (p : Pending) → PendingIs l h p → PendingIs l (c ∷ h) p
+      pub pending_stays : (p : Option Switch) → PendingIs l h p → PendingIs l (c ∷ h) p
       unfolding Latest
-      pending_stays Pending.Nothing f = not_awaited
+      pending_stays None f = not_awaited
         where
           not_awaited : (at : ℕ) (w : ChannelSwitch) → Awaits l (c ∷ h) at w → ⊥
           not_awaited at w (inl (a, m), come) = none w a
           not_awaited at w (inr (x, last), come) = f at w (last, omega arith)
-      pending_stays (Pending.Switch x) (w, (last, come), m, n) = (w, (inr (none, last), omega arith), m, n)
+      pending_stays (Some x) (w, (last, come), m, n) = (w, (inr (none, last), omega arith), m, n)
 
     module _ (w : ChannelSwitch) (says : Announces l c h w) where
       same_count : (v : ChannelSwitch) → Announces l c h v → v.count ≡ w.count
       same_count v a = ap (λ (x : ChannelSwitch). x.count) (announces_one l sound c h v w a says)
 
-      pub pending_gone : w.count ≡ 0 → PendingIs l (c ∷ h) Pending.Nothing
+      pub pending_gone : w.count ≡ 0 → PendingIs l (c ∷ h) None
       unfolding Latest CountedTo
       pending_gone e at v (inl (a, m), come) =
           let now : at ≡ clock_of l h = subst (λ (n : ℕ). CountedTo l.interval (clock_of l h) n at) (same_count v a ∙ e) m in
@@ -72,10 +73,10 @@ module _ (l : Listener) (sound : Sound l) (pos : 1 ≤ l.interval) (c : Call) (h
     earlier at w (inl (a, m), come) = absurd (none w a)
     earlier at w (inr (x, last), come) = (last, omega arith)
 
-    pub still_nothing : PendingIs l h Pending.Nothing → PendingIs l (c ∷ h) Pending.Nothing
+    pub still_nothing : PendingIs l h None → PendingIs l (c ∷ h) None
     still_nothing f at w x = f at w (earlier at w x)
 
-    pub nothing_reached : PendingIs l h Pending.Nothing → NoSwitch l c h
+    pub nothing_reached : PendingIs l h None → NoSwitch l c h
     nothing_reached f w (at_once_lem a e) = none w a
     nothing_reached f w (reached at x le) = f at w x
 
@@ -92,5 +93,5 @@ module _ (l : Listener) (sound : Sound l) (pos : 1 ≤ l.interval) (c : Call) (h
         not_reached v (at_once_lem a e) = none v a
         not_reached v (reached at' y le) = omega (arith, same_moment at' v y)
 
-      pub no_longer : at ≤ clock_of l (c ∷ h) → PendingIs l (c ∷ h) Pending.Nothing
+      pub no_longer : at ≤ clock_of l (c ∷ h) → PendingIs l (c ∷ h) None
       no_longer le at' v y = omega (arith, same_moment at' v (earlier at' v y), y.1)

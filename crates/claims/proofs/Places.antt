@@ -1,4 +1,5 @@
 -- The refusal of a frame has its place exactly where it is one of 5 to 12, 21 and 22 (02, One). Assumes nothing.
+use Rattle.std.specs.Prelude.{Ok, Err}
 use mathlib.Core.List.{List}
 use mathlib.Core.Logic.{inl, inr}
 use mathlib.Core.Path.{◌≡◌, refl}
@@ -7,7 +8,7 @@ use native.Mathlib.Omega.{arith}
 use lib.ListN.{length, length-drop}
 use Rattle.answer.proofs.Placing.{nowhere_value}
 use Rattle.answer.proofs.Refusing.{Refuses, by_value, by_refusal, by_check, by_none, by_then}
-use Rattle.answer.specs.Checks.{Outcome, refused, accepted}
+use Rattle.answer.specs.Checks.{Outcome}
 use Rattle.answer.specs.Faults.{Placed, nowhere, fault_past, placed_past}
 use Rattle.answer.specs.declared.Fault.{Fault}
 use Rattle.beacon.specs.Beacons.{beacon_means}
@@ -76,16 +77,16 @@ module _ (f : List ℕ) (long : header_length ≤ length f) where
   kind_lies b Subtype.Action = by_then Lies (action_means (body_of f)) _ action_lies (λ a e. by_value Lies _)
 
   past_lies : {A : Type 0} (o : Placed A) → Refuses Lies o → Refuses (FaultIn f) (placed_past header_length o)
-  past_lies (refused x) h = by_refusal (FaultIn f) (h x refl)
-  past_lies (accepted a) h = by_value (FaultIn f) a
+  past_lies (Err x) h = by_refusal (FaultIn f) (h x refl)
+  past_lies (Ok a) h = by_value (FaultIn f) a
 
 nowhere_lies : {A : Type 0} (f : List ℕ) (o : Outcome A) → Refuses BrokenNowhere o → Refuses (FaultIn f) (nowhere o)
-nowhere_lies f (refused r) h = by_refusal (FaultIn f) (h r refl)
-nowhere_lies f (accepted a) h = by_value (FaultIn f) a
+nowhere_lies f (Err r) h = by_refusal (FaultIn f) (h r refl)
+nowhere_lies f (Ok a) h = by_value (FaultIn f) a
 
 -- ---- a frame
 
-pub fault_placed : (own ap' : List ℕ) (b : ℕ) (f : List ℕ) (x : Fault) → frame_means own ap' b f ≡ refused x → FaultIn f x
+pub fault_placed : (own ap' : List ℕ) (b : ℕ) (f : List ℕ) (x : Fault) → frame_means own ap' b f ≡ Err x → FaultIn f x
 unfolding frame_means
 fault_placed own ap' b f =
     by_then (FaultIn f) (nowhere (header_means Cell.Ap own ap' f)) _ (nowhere_lies f (header_means Cell.Ap own ap' f) (header_nowhere own ap' f))

@@ -1,4 +1,5 @@
 -- What elements are read as: none, one, the one at an index, and one after the other. Assumes nothing.
+use Rattle.std.specs.Prelude.{Ok}
 use mathlib.Core.Bool.{Bool, true, false}
 use mathlib.Core.List.{List, [], ◌∷◌, ◌++◌, map, append-nil}
 use mathlib.Core.Logic.{◌↔◌}
@@ -7,7 +8,7 @@ use Prim.Native.Nat.{ℕ, zero, suc, ◌≤◌}
 use native.Mathlib.Omega.{arith}
 use lib.ListN.{length, length-append}
 use lib.Seq.{append_snoc}
-use Rattle.answer.specs.Checks.{Outcome, accepted, pick, and_then}
+use Rattle.answer.specs.Checks.{Outcome, pick, and_then}
 use Rattle.measurement_body.specs.Lists.{nth}
 use Rattle.claims.specs.Filters.{Item, ReadAs}
 
@@ -21,10 +22,10 @@ module _ {A : Type 0} (means : List ℕ → Outcome A) where
       there (y ∷ ys) r = absurd (let z : ◌≡◌ {A = ℕ} 0 1 = cc in omega arith)
 
   -- there is one value where there is one element, and it is what the contents of that element mean
-  pub one_read : (xs : List Item) (a : A) → ReadAs means xs (a ∷ []) ↔ ((x : Item) × (xs ≡ x ∷ []) × (means x.contents ≡ accepted a))
+  pub one_read : (xs : List Item) (a : A) → ReadAs means xs (a ∷ []) ↔ ((x : Item) × (xs ≡ x ∷ []) × (means x.contents ≡ Ok a))
   one_read xs a = (there xs, λ (x, e, m). ap (map (λ (y : Item). means y.contents)) e ∙ ap (λ (o : Outcome A). o ∷ []) m)
     where
-      there : (ys : List Item) → ReadAs means ys (a ∷ []) → (x : Item) × (ys ≡ x ∷ []) × (means x.contents ≡ accepted a)
+      there : (ys : List Item) → ReadAs means ys (a ∷ []) → (x : Item) × (ys ≡ x ∷ []) × (means x.contents ≡ Ok a)
       there [] r = absurd (let z : ◌≡◌ {A = ℕ} 0 1 = cc in omega arith)
       there (y ∷ ys) r = (y, ap (λ (l : List Item). y ∷ l) ((none_read ys).0 (cc)), cc)
 
@@ -63,15 +64,15 @@ module _ {A : Type 0} (means : List ℕ → Outcome A) where
   grew_all {xs} g = subst (ReadAs means xs) (sym g.joined) g.read
 
   module _ (x : Item) (xs : List Item) {before after : List A} where
-    pub grows_first : {a : A} → means x.contents ≡ accepted a → Grows xs (before ++ (a ∷ [])) after → Grows (x ∷ xs) before after
+    pub grows_first : {a : A} → means x.contents ≡ Ok a → Grows xs (before ++ (a ∷ [])) after → Grows (x ∷ xs) before after
     grows_first {a} m g =
         record { values = a ∷ g.values; read = ap₂ ◌∷◌ m g.read; joined = g.joined ∙ append_snoc before a g.values }
 
-    pub grew_first : Grows (x ∷ xs) before after → (a : A) × (means x.contents ≡ accepted a) × Grows xs (before ++ (a ∷ [])) after
+    pub grew_first : Grows (x ∷ xs) before after → (a : A) × (means x.contents ≡ Ok a) × Grows xs (before ++ (a ∷ [])) after
     grew_first g = by g.values g.read g.joined
       where
         by : (vs : List A) → ReadAs means (x ∷ xs) vs → after ≡ before ++ vs
-            → (a : A) × (means x.contents ≡ accepted a) × Grows xs (before ++ (a ∷ [])) after
+            → (a : A) × (means x.contents ≡ Ok a) × Grows xs (before ++ (a ∷ [])) after
         by [] r e = absurd (let z : ◌≡◌ {A = ℕ} 0 1 = cc in omega arith)
         by (v ∷ vs) r e = (v, cc, record { values = vs; read = cc; joined = e ∙ sym (append_snoc before v vs) })
 
@@ -86,13 +87,13 @@ module _ {A M : Type 0} (means : List ℕ → Outcome A) (any : M → List A) (h
       by [] e = refl
       by (a ∷ l) e = absurd (omega arith)
 
-  pub the_one : (m : M) {a : A} {after : List A} → has m ≡ false → means x.contents ≡ accepted a → Grows means xs (a ∷ []) after
+  pub the_one : (m : M) {a : A} {after : List A} → has m ≡ false → means x.contents ≡ Ok a → Grows means xs (a ∷ []) after
       → Grows means (x ∷ xs) (any m) after
   the_one m {a} {after} h e g =
       grows_first means x xs e (subst (λ (l : List A). Grows means xs (l ++ (a ∷ [])) after) (sym (free m h)) g)
 
   pub was_the_one : (m next : M) → Grows means (x ∷ xs) (any m) (any next)
-      → (has m ≡ false) × ((a : A) × (means x.contents ≡ accepted a) × Grows means xs (a ∷ []) (any next))
+      → (has m ≡ false) × ((a : A) × (means x.contents ≡ Ok a) × Grows means xs (a ∷ []) (any next))
   was_the_one m next g =
       let p = grew_first means x xs g in
       let h = unused p.0 p.2 in

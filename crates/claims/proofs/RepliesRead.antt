@@ -1,5 +1,6 @@
 -- A reply, read from the other side, is the record that was meant, with what the caller has found (01, "Replies"). Nothing is asked of the two addresses: a
 -- frame that is due a reply has them in it. Assumes nothing.
+use Rattle.std.specs.Prelude.{Ok}
 use mathlib.Core.Bool.{true, false}
 use mathlib.Core.List.{List, [], ◌∷◌}
 use mathlib.Core.Logic.{◌⊎◌, inl, inr}
@@ -7,7 +8,6 @@ use mathlib.Core.Path.{◌≡◌, refl, ap, ◌∙◌, subst₂}
 use Prim.Native.Nat.{ℕ, ◌≤◌, ◌<◌, ◌^◌}
 use native.Mathlib.Omega.{arith}
 use lib.ListN.{length}
-use Rattle.answer.specs.Checks.{accepted}
 use Rattle.element.specs.TpcReport.{TpcReportFits, tpc_report_octets}
 use Rattle.element.specs.declared.tpc_report.TpcReport.{TpcReport}
 use Rattle.frame.proofs.ActionTrip.{action_trip}
@@ -55,23 +55,23 @@ module _ (f os : List ℕ) (one : to_all f ≡ false) (short : length os ≤ lon
   unfolding foreign_address
   from_ap_lem = rw (same_self (sa f), same_self (da f))
 
-  headed : header_means Cell.Ap (da f) (sa f) heard ≡ accepted (record { subtype = Subtype.Action; to_all = false })
+  headed : header_means Cell.Ap (da f) (sa f) heard ≡ Ok (record { subtype = Subtype.Action; to_all = false })
   headed = heard_as Cell.Ap (da f) (sa f) heard Subtype.Action false (omega arith) (omega arith) not_foreign from_ap_lem refl to_one_lem
 
-  framed : (b : ℕ) (k : Body) → action_means os ≡ accepted k → frame_means (da f) (sa f) b heard ≡ accepted (record { to_all = false; kind = action k })
+  framed : (b : ℕ) (k : Body) → action_means os ≡ Ok k → frame_means (da f) (sa f) b heard ≡ Ok (record { to_all = false; kind = action k })
   unfolding frame_means
   framed b k e = rw (headed, e)
 
 module _ (own ap' f : List ℕ) where
-  heard_from_ap : (asked : Body) → due_means own ap' f ≡ accepted (asks asked) → (os : List ℕ) (b : ℕ) (k : Body) → length os ≤ longest_reply_body → action_means os ≡ accepted k
-      → frame_means own ap' b (exchanged (reply_frame own ap' os)) ≡ accepted (record { to_all = false; kind = action k })
+  heard_from_ap : (asked : Body) → due_means own ap' f ≡ Ok (asks asked) → (os : List ℕ) (b : ℕ) (k : Body) → length os ≤ longest_reply_body → action_means os ≡ Ok k
+      → frame_means own ap' b (exchanged (reply_frame own ap' os)) ≡ Ok (record { to_all = false; kind = action k })
   heard_from_ap asked d os b k short e =
       let a = owed_by_station own ap' f (asks asked) d in
-      subst₂ (λ (o m : List ℕ). frame_means o m b (exchanged (reply_frame o m os)) ≡ accepted (record { to_all = false; kind = action k })) a.to_station a.from_ap
+      subst₂ (λ (o m : List ℕ). frame_means o m b (exchanged (reply_frame o m os)) ≡ Ok (record { to_all = false; kind = action k })) a.to_station a.from_ap
       (framed f os a.to_one short b k e)
 
   -- every reply to a TPC Request reads back as the report with the request's token; any other is an error return
-  pub tpc_reply_read : (os : List ℕ) (report : TpcReport) → TpcReportFits report → tpc_reply own ap' report f ≡ accepted os
+  pub tpc_reply_read : (os : List ℕ) (report : TpcReport) → TpcReportFits report → tpc_reply own ap' report f ≡ Ok os
       → TpcReadsBack own ap' f report os ⊎ ReturnsBody own ap' f os
   unfolding tpc_report_octets action_may action_octets ActionFits
   tpc_reply_read os report fits e = by (tpc_parts own ap' f os report e)
@@ -89,7 +89,7 @@ module _ (own ap' f : List ℕ) where
           })
       by (inr p) = inr (returns_body own ap' f os p)
 
-  one_report : (token : ℕ) (x : Report) → ReportFits x → report_may x ≡ true → action_means (body token x) ≡ accepted (reports token (x ∷ []))
+  one_report : (token : ℕ) (x : Report) → ReportFits x → report_may x ≡ true → action_means (body token x) ≡ Ok (reports token (x ∷ []))
   unfolding action_may action_octets ActionFits may_list may_all
   one_report token x fits m = action_trip.there (reports token (x ∷ [])) (fits, tt) (rw m)
 
@@ -121,7 +121,7 @@ module _ (own ap' f : List ℕ) where
   -- every reply to an element of a Measurement Request reads back as the report that is owed for it; any other is an error return. `clock` is of 32 bits
   -- and the times are eight, as in the code
   pub measurement_reply_read : (os : List ℕ) (clock index : ℕ) (readings : Readings) → Octets f → clock < 2 ^ 32 → length readings.times ≡ 8
-      → measurement_reply own ap' clock index readings f ≡ accepted os → ReadsBack own ap' f clock index readings os ⊎ ReturnsBody own ap' f os
+      → measurement_reply own ap' clock index readings f ≡ Ok os → ReadsBack own ap' f clock index readings os ⊎ ReturnsBody own ap' f os
   measurement_reply_read os clock index readings octets within eight e = by (measurement_parts own ap' f os clock index readings e)
     where
       by : MeasurementParts own ap' f os clock index readings ⊎ ReturnParts own ap' f os → ReadsBack own ap' f clock index readings os ⊎ ReturnsBody own ap' f os

@@ -1,5 +1,6 @@
 -- Frames that differ in reserved bits alone, and in what else of a header is not looked at, are read the same, refused ones too (01, "Octets": "Reserved
 -- bits are ignored when read"). Assumes nothing.
+use Rattle.std.specs.Prelude.{Ok}
 use mathlib.Core.Bool.{Bool, false, not, ◌||◌}
 use mathlib.Core.List.{List, [], ◌∷◌}
 use mathlib.Core.Logic.{◌⊎◌, inl, inr}
@@ -12,7 +13,7 @@ use lib.ListN.{length, take, replicate, length-append, take-append-drop}
 use lib.Seq.{get_or-take}
 use Rattle.answer.proofs.Judged.{passed, kept, followed}
 use Rattle.answer.proofs.Placing.{nowhere_value}
-use Rattle.answer.specs.Checks.{Outcome, accepted, ◌⇒◌, judged, and_then}
+use Rattle.answer.specs.Checks.{Outcome, ◌⇒◌, judged, and_then}
 use Rattle.answer.specs.Faults.{Placed, nowhere, placed_past}
 use Rattle.answer.specs.declared.Refusal.{Refusal}
 use Rattle.frame.specs.Actions.{Body}
@@ -119,12 +120,12 @@ module _ (f g : List ℕ) (a : FramesAlike f g) where
     same_header : header_means Cell.Ap own ap' f ≡ header_means Cell.Ap own ap' g
     unfolding header_means
     same_header =
-        ap₂ (λ (m : Outcome Subtype) (o : Outcome Bool). and_then m (λ s. and_then o (λ t. accepted (head_of s t)))) same_management same_address
+        ap₂ (λ (m : Outcome Subtype) (o : Outcome Bool). and_then m (λ s. and_then o (λ t. Ok (head_of s t)))) same_management same_address
 
     -- ---- the body
 
     -- an accepted header has the subtype of the frame
-    subtype_is : (h : Head) → header_means Cell.Ap own ap' g ≡ accepted h → subtype_of (subtype g) ≡ h.subtype
+    subtype_is : (h : Head) → header_means Cell.Ap own ap' g ≡ Ok h → subtype_of (subtype g) ≡ h.subtype
     unfolding header_means management_means
     subtype_is h e =
         let p = followed (management_means g) _ h e in
@@ -133,7 +134,7 @@ module _ (f g : List ℕ) (a : FramesAlike f g) where
         kept _ r.1 ∙ ap (λ (x : Head). x.subtype) (let is : head_of p.0 q.0 ≡ h = accepted_once q.2 in is)
 
     module _ (b : ℕ) where
-      same_kind : (h : Head) → header_means Cell.Ap own ap' g ≡ accepted h → kind_of b h.subtype (body_of f) ≡ kind_of b h.subtype (body_of g)
+      same_kind : (h : Head) → header_means Cell.Ap own ap' g ≡ Ok h → kind_of b h.subtype (body_of f) ≡ kind_of b h.subtype (body_of g)
       same_kind h e = by a.bodies
         where
           by : (body_of f ≡ body_of g) ⊎ ((subtype f ≡ 13) × MeasurementsAlike (body_of f) (body_of g))
@@ -142,7 +143,7 @@ module _ (f g : List ℕ) (a : FramesAlike f g) where
           by (inr (is, m)) =
               subst (λ (s : Subtype). kind_of b s (body_of f) ≡ kind_of b s (body_of g))
               (ap subtype_of (sym is ∙ ap (λ (o : ℕ). o / 16) same_first) ∙ subtype_is h e)
-              (ap (λ (o : Placed Body). and_then o (λ x. accepted (action x))) (action_ignored (body_of f) (body_of g) m))
+              (ap (λ (o : Placed Body). and_then o (λ x. Ok (action x))) (action_ignored (body_of f) (body_of g) m))
 
       -- read the same
       pub frame_ignored : frame_means own ap' b f ≡ frame_means own ap' b g

@@ -1,4 +1,5 @@
 -- Each relation of runs has runs: after a start that is not forbidden any calls can be made, on a station by value, lent and on octets. Assumes nothing.
+use Rattle.std.specs.Prelude.{Ok, Err}
 use mathlib.Core.Bool.{Bool, false}
 use mathlib.Core.List.{List, [], ◌∷◌}
 use mathlib.Core.Path.{◌≡◌, refl, sym, ap, ◌∙◌, subst}
@@ -15,7 +16,7 @@ use denote.Ref.{Bor, MutBor}
 use denote.Triple.Clauses.{at_exit}
 use lib.Dec.{ltb}
 use lib.ListN.{length}
-use Rattle.answer.specs.Checks.{Outcome, refused, accepted, pick, checked, and_then, answer_of}
+use Rattle.answer.specs.Checks.{Outcome, pick, checked, and_then, answer_of}
 use Rattle.answer.specs.Faults.{nowhere, verdict_of}
 use Rattle.answer.specs.declared.Refusal.{Refusal}
 use Rattle.capture_record.specs.declared.entry.Settings.{Settings}
@@ -35,7 +36,6 @@ use Rattle.station_record.proofs.start as RecordStart
 use Rattle.station_record.proofs.take as RecordTake
 use Rattle.station_record.specs.Calls.{relaid, started_in, taken_in, advanced_in}
 use Rattle.station_record.specs.Records.{size}
-use Rattle.station_record.specs.declared.Asked.{Asked}
 use Rattle.claims.specs.EitherWays.{EitherDoes, either_way, SettingsFit, RecordStarts, OctetsIn, RecordDoes, in_octets}
 use Rattle.claims.specs.Histories.{Call, frame, advance, ask, History}
 use Rattle.claims.specs.Records.{record_from, record_after}
@@ -97,7 +97,7 @@ lent_mut x = record { ref_ptr = (0, 0); ghost_name = 0; now = x }
 -- ---- document 01's station
 
 module _ (s : Settings) (may : start_forbids s.own s.ap s.interval s.channel ≡ false) where
-  pub accepts : start_means s.own s.ap s.interval s.channel ≡ accepted (record_after s [])
+  pub accepts : start_means s.own s.ap s.interval s.channel ≡ Ok (record_after s [])
   unfolding start_means checked record_from
   accepts = simp may
 
@@ -186,9 +186,9 @@ record_can os r h (ask n) such = (
   RecordDoes.asks (
     ([], tt),
     (lent os, (n, tt)),
-    Asked.Is (permission_of r n),
+    Ok (permission_of r n),
     at_exit (ended_of 1 RecordAsk.Kinds.ps RecordAsk.Kinds.r) ([], tt) (lent os, (n, tt)) (tt, (tt, tt)),
-    sym (ap (λ (o : Outcome Station). and_then o (λ y. accepted (permission_of y n))) h.held),
+    sym (ap (λ (o : Outcome Station). and_then o (λ y. Ok (permission_of y n))) h.held),
     (refl, refl, refl),
   ),
 )
@@ -197,11 +197,11 @@ module _ (s : Settings) (may : start_forbids s.own s.ap s.interval s.channel ≡
   laid : Outcome Station
   laid = started_in s.own s.ap s.interval s.channel entry
 
-  lays : laid ≡ accepted (record_after s [])
+  lays : laid ≡ Ok (record_after s [])
   unfolding laid started_in checked
   lays =
-      ap (λ (o : Outcome Station). and_then o (λ t. pick (ltb (length entry) size) (refused Refusal.BufferShort) (accepted t))) (accepts s may)
-      ∙ ap (λ (short : Bool). pick short (refused Refusal.BufferShort) (accepted (record_after s []))) (le-ltb (length entry) size room)
+      ap (λ (o : Outcome Station). and_then o (λ t. pick (ltb (length entry) size) (Err Refusal.BufferShort) (Ok t))) (accepts s may)
+      ∙ ap (λ (short : Bool). pick short (Err Refusal.BufferShort) (Ok (record_after s []))) (le-ltb (length entry) size room)
 
   record_starts_can : RecordStarts s (relaid entry laid)
   unfolding laid

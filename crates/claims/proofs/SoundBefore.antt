@@ -1,5 +1,6 @@
 -- What stands before the fault is sound (02, One): of a frame that is refused at its first element or later, the octets before the fault are a frame that is
 -- accepted, or an action frame whose first element is absent. Assumes nothing.
+use Rattle.std.specs.Prelude.{Ok, Err}
 use mathlib.Core.Bool.{Bool, true, false, not, ◌||◌}
 use mathlib.Core.List.{List}
 use mathlib.Core.Logic.{◌⊎◌, inl, inr, ⊎_elim}
@@ -14,7 +15,7 @@ use Rattle.action.specs.Openings.{fixed_fields, switch_fixed_fields}
 use Rattle.answer.proofs.Booleans.{clash, either, neither}
 use Rattle.answer.proofs.Judged.{passed, kept, followed}
 use Rattle.answer.proofs.Placing.{nowhere_value}
-use Rattle.answer.specs.Checks.{Outcome, refused, accepted, pick, and_then}
+use Rattle.answer.specs.Checks.{Outcome, pick, and_then}
 use Rattle.answer.specs.Faults.{fault_at, Placed, nowhere, placed_past}
 use Rattle.answer.specs.declared.Refusal.{Refusal}
 use Rattle.beacon.specs.Beacons.{Told, fixed_length, beacon_means}
@@ -62,7 +63,7 @@ module _ (p : ℕ) (f : List ℕ) (h : header_length ≤ p) where
 record Headed (own ap' : List ℕ) (f : List ℕ) (h : Head) : Type 0 where
   read : is_read (subtype f) ≡ true
   is : subtype_of (subtype f) ≡ h.subtype
-  stays : (p : ℕ) → header_length ≤ p → header_means Cell.Ap own ap' (take p f) ≡ accepted h
+  stays : (p : ℕ) → header_length ≤ p → header_means Cell.Ap own ap' (take p f) ≡ Ok h
 
 is_read_lem : (f : List ℕ) → foreign_header f ≡ false → is_read (subtype f) ≡ true
 unfolding foreign_header
@@ -71,7 +72,7 @@ is_read_lem f e =
     let typed = (neither (not (eqb (version f) 0)) (not (eqb (type f) 0) || (not (is_read (subtype f)) || rest)) e).1 in
     not-false (is_read (subtype f)) (neither (not (is_read (subtype f))) rest (neither (not (eqb (type f) 0)) (not (is_read (subtype f)) || rest) typed).1).0
 
-headed : (own ap' : List ℕ) (f : List ℕ) (h : Head) → header_means Cell.Ap own ap' f ≡ accepted h → Headed own ap' f h
+headed : (own ap' : List ℕ) (f : List ℕ) (h : Head) → header_means Cell.Ap own ap' f ≡ Ok h → Headed own ap' f h
 unfolding header_means management_means address_means
 headed own ap' f h e =
     let m = followed (management_means f) _ h e in
@@ -108,7 +109,7 @@ notice_is n e other = by (eqb n 5) (eqb n 8) (eqb n 13) e other
 
 -- ---- the frame
 
-module _ (own ap' : List ℕ) (b : ℕ) (f : List ℕ) (p : ℕ) (h : Head) (head : header_means Cell.Ap own ap' f ≡ accepted h) (q : ℕ) (place : p ≡ header_length + q) where
+module _ (own ap' : List ℕ) (b : ℕ) (f : List ℕ) (p : ℕ) (h : Head) (head : header_means Cell.Ap own ap' f ≡ Ok h) (q : ℕ) (place : p ≡ header_length + q) where
   -- the first octets mean what the first octets of the body do
   cut_means : frame_means own ap' b (take p f) ≡ sent h.to_all (placed_past header_length (kind_of b h.subtype (take q (body_of f))))
   unfolding frame_means
@@ -121,21 +122,21 @@ module _ (own ap' : List ℕ) (b : ℕ) (f : List ℕ) (p : ℕ) (h : Head) (hea
   cut_accepted : Accepts (kind_of b h.subtype (take q (body_of f))) → Accepts (frame_means own ap' b (take p f))
   cut_accepted (k, e) = (_, cut_means ∙ ap (λ (o : Placed Kind). sent h.to_all (placed_past header_length o)) e)
 
-  cut_refused : (r : Refusal) → kind_of b h.subtype (take q (body_of f)) ≡ refused (fault_at q r) → frame_means own ap' b (take p f) ≡ refused (fault_at p r)
+  cut_refused : (r : Refusal) → kind_of b h.subtype (take q (body_of f)) ≡ Err (fault_at q r) → frame_means own ap' b (take p f) ≡ Err (fault_at p r)
   cut_refused r e =
-      cut_means ∙ ap (λ (o : Placed Kind). sent h.to_all (placed_past header_length o)) e ∙ ap (λ (n : ℕ). refused (fault_at n r)) (sym place)
+      cut_means ∙ ap (λ (o : Placed Kind). sent h.to_all (placed_past header_length o)) e ∙ ap (λ (n : ℕ). Err (fault_at n r)) (sym place)
 
-  module _ (r : Refusal) (e : kind_of b h.subtype (body_of f) ≡ refused (fault_at q r)) (late : first_element f ≤ p) where
+  module _ (r : Refusal) (e : kind_of b h.subtype (body_of f) ≡ Err (fault_at q r)) (late : first_element f ≤ p) where
     of_kind_lem : (s : Subtype) → h.subtype ≡ s → (os : List ℕ) → kind_of b h.subtype os ≡ kind_of b s os
     of_kind_lem s is os = ap (λ (x : Subtype). kind_of b x os) is
 
     -- a beacon or a probe response
-    of_notice : (make : Told → Kind) (s : Subtype) → ((os : List ℕ) → kind_of b s os ≡ and_then (beacon_means b os) (λ t. accepted (make t)))
+    of_notice : (make : Told → Kind) (s : Subtype) → ((os : List ℕ) → kind_of b s os ≡ and_then (beacon_means b os) (λ t. Ok (make t)))
         → h.subtype ≡ s → fixed_length ≤ q → Accepts (kind_of b h.subtype (take q (body_of f)))
     of_notice make s means is after =
         let body = body_of f in
         let x = notice_before b body q r after (made_refused (beacon_means b body) make (sym (of_kind_lem s is body ∙ means body) ∙ e)) in
-        (make x.0, of_kind_lem s is (take q body) ∙ means (take q body) ∙ ap (λ (o : Placed Told). and_then o (λ t. accepted (make t))) x.1)
+        (make x.0, of_kind_lem s is (take q body) ∙ means (take q body) ∙ ap (λ (o : Placed Told). and_then o (λ t. Ok (make t))) x.1)
 
     notice_sound : eqb (subtype f) 13 ≡ false → SoundBefore own ap' b f p
     notice_sound other =
@@ -159,17 +160,17 @@ module _ (own ap' : List ℕ) (b : ℕ) (f : List ℕ) (p : ℕ) (h : Head) (hea
         ap (λ (t : Bool). pick t (pick (eqb (octet 25 f) 4) 26 27) 36) own-kind ∙ behind (eqb (octet 25 f) 4)
         ∙ ap (λ (o : ℕ). header_length + pick (eqb o 4) switch_fixed_fields fixed_fields) (sym (get_or-drop header_length f 1 0)) in
         let x = action_before body q r (omega (arith, late, starts, place)) (made_refused (action_means body) action (sym (of_kind_lem Subtype.Action is body) ∙ e)) in
-        let cut : kind_of b h.subtype (take q body) ≡ and_then (action_means (take q body)) (λ a. accepted (action a)) = of_kind_lem Subtype.Action is (take q body) in
+        let cut : kind_of b h.subtype (take q body) ≡ and_then (action_means (take q body)) (λ a. Ok (action a)) = of_kind_lem Subtype.Action is (take q body) in
         record {
           first_absent =
               λ k g.
               cut_refused Refusal.ElementAbsent
-              (cut ∙ ap (λ (o : Placed Body). and_then o (λ a. accepted (action a))) (x.absent (omega (arith, g, starts, place))));
+              (cut ∙ ap (λ (o : Placed Body). and_then o (λ a. Ok (action a))) (x.absent (omega (arith, g, starts, place))));
           notice_accepted = λ g. clash (sym own-kind ∙ g);
           later_accepted =
               λ g.
               let y = x.later (omega (arith, g, starts, place)) in
-              cut_accepted (action y.0, cut ∙ ap (λ (o : Placed Body). and_then o (λ a. accepted (action a))) y.1);
+              cut_accepted (action y.0, cut ∙ ap (λ (o : Placed Body). and_then o (λ a. Ok (action a))) y.1);
         }
       where
         behind : (t : Bool) → pick t 26 27 ≡ header_length + pick t switch_fixed_fields fixed_fields
@@ -180,7 +181,7 @@ module _ (own ap' : List ℕ) (b : ℕ) (f : List ℕ) (p : ℕ) (h : Head) (hea
     sound = ⊎_elim action_sound notice_sound (either (eqb (subtype f) 13))
 
 -- whatever the refusal: one of the fields before the elements is at a place before the first
-pub sound_before : (own ap' : List ℕ) (b : ℕ) (f : List ℕ) (p : ℕ) (r : Refusal) → frame_means own ap' b f ≡ refused (fault_at p r) → first_element f ≤ p
+pub sound_before : (own ap' : List ℕ) (b : ℕ) (f : List ℕ) (p : ℕ) (r : Refusal) → frame_means own ap' b f ≡ Err (fault_at p r) → first_element f ≤ p
     → SoundBefore own ap' b f p
 unfolding frame_means
 sound_before own ap' b f p r e late =

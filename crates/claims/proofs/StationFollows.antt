@@ -1,10 +1,11 @@
 -- The station of 01 hears only what its reader accepts, and its record follows what it hears, from any beginning of its history. Assumes nothing.
+use Rattle.std.specs.Prelude.{Ok, Err}
 use mathlib.Core.List.{List, [], ◌∷◌}
 use mathlib.Core.Logic.{◌⊎◌, inl, inr}
 use mathlib.Core.Path.{◌≡◌, refl, sym, ap, ◌∙◌}
 use Prim.Native.Nat.{ℕ}
 use Rattle.answer.proofs.Judged.{never}
-use Rattle.answer.specs.Checks.{refused, accepted, and_then}
+use Rattle.answer.specs.Checks.{and_then}
 use Rattle.answer.specs.Faults.{Placed}
 use Rattle.frame.proofs.Allowing.{frame_allowed}
 use Rattle.frame.specs.Allowed.{KindAllowed}
@@ -20,15 +21,15 @@ use Rattle.claims.proofs.Same.{accepted_once}
 
 -- what the outcome of reading a frame makes of the record
 abbrev leaves : Station → Placed Sent → Station
-leaves r o = (taken r (and_then o (λ x. accepted (heard r x.kind)))).station
+leaves r o = (taken r (and_then o (λ x. Ok (heard r x.kind)))).station
 
 take_keeps : (r : Station) (f : List ℕ) → kept_by (take_of r f).station ≡ kept_by r
 unfolding take_means
 take_keeps r f = by_outcome (frame_means r.own r.ap r.interval f)
   where
     by_outcome : (o : Placed Sent) → kept_by (leaves r o) ≡ kept_by r
-    by_outcome (refused q) = refl
-    by_outcome (accepted x) = heard_keeps r x.kind
+    by_outcome (Err q) = refl
+    by_outcome (Ok x) = heard_keeps r x.kind
 
 module _ (s : Settings) where
   -- ---- what it hears
@@ -43,8 +44,8 @@ module _ (s : Settings) where
     where
       by_outcome : (o : Placed Sent) → frame_means s.own s.ap s.interval f ≡ o
           → ((k : Kind) × Hears s (frame f) k) ⊎ ((k : Kind) → Hears s (frame f) k → ⊥)
-      by_outcome (refused q) e = inr (λ k y. never (sym e ∙ y.1))
-      by_outcome (accepted x) e = inl (x.kind, (x.to_all, e))
+      by_outcome (Err q) e = inr (λ k y. never (sym e ∙ y.1))
+      by_outcome (Ok x) e = inl (x.kind, (x.to_all, e))
   hears_or_not (advance n) = inr (λ k y. y)
   hears_or_not (ask n) = inr (λ k y. y)
 
@@ -83,8 +84,8 @@ module _ (t : ℕ) (s : Settings) where
   ignored f h none = by_outcome (frame_means s.own s.ap s.interval f) refl
     where
       by_outcome : (o : Placed Sent) → frame_means s.own s.ap s.interval f ≡ o → record_from t s (frame f ∷ h) ≡ record_from t s h
-      by_outcome (refused q) e = taken_as_lem f h (refused q) e
-      by_outcome (accepted x) e = absurd (none x.kind (x.to_all, e))
+      by_outcome (Err q) e = taken_as_lem f h (Err q) e
+      by_outcome (Ok x) e = absurd (none x.kind (x.to_all, e))
 
   pub follows : Follows (listener_from t s) (record_from t s)
   unfolding record_from

@@ -1,13 +1,12 @@
 -- What a call of document 01's station answers and leaves, by its meaning, and so any calls of a run. Assumes nothing.
+use Rattle.std.specs.Prelude.{Ok, Err}
 use mathlib.Core.List.{List, [], ◌∷◌}
 use mathlib.Core.Path.{◌≡◌, refl, sym, ap, ◌∙◌, subst}
 use Prim.Native.Nat.{ℕ}
 use native.Mathlib.Omega.{arith}
 use Rattle.answer.proofs.Judged.{passed, kept}
-use Rattle.answer.specs.Checks.{Outcome, refused, accepted}
-use Rattle.answer.specs.Faults.{Placed}
-use Rattle.answer.specs.declared.Answer.{Answer}
-use Rattle.answer.specs.declared.Verdict.{Verdict}
+use Rattle.answer.specs.Checks.{Outcome, Answer}
+use Rattle.answer.specs.Faults.{Placed, Verdict}
 use Rattle.capture_record.specs.declared.entry.Settings.{Settings}
 use Rattle.frame.proofs.Allowing.{read_allowed}
 use Rattle.frame.specs.Frames.{frame_means}
@@ -24,7 +23,6 @@ use Rattle.station.specs.declared.asking.Permission.{Permission}
 use Rattle.station.specs.declared.clock.Stepped.{Stepped}
 use Rattle.station.specs.declared.starting.Started.{Started}
 use Rattle.station.specs.declared.taking.Taken.{Taken}
-use Rattle.station_record.specs.declared.Asked.{Asked}
 use Rattle.claims.specs.Histories.{Call, frame, advance, ask, History}
 use Rattle.claims.specs.Records.{record_from, record_after}
 use Rattle.claims.specs.StationRuns.{Said, answered, judged, asked, Starts, Takes, Advances, Asks, StationDoes, station}
@@ -35,7 +33,7 @@ use Rattle.claims.proofs.RunsMeant.{Meaning, kept_after, Meant, Exactly, Meets, 
 abbrev said_by : Station → Call → Said
 said_by r (frame f) = judged (take_of r f).verdict
 said_by r (advance n) = answered (advance_of r n).answer
-said_by r (ask n) = asked (Asked.Is (permission_of r n))
+said_by r (ask n) = asked (Ok (permission_of r n))
 
 abbrev left_by : Station → Call → Station
 left_by r (frame f) = (take_of r f).station
@@ -68,7 +66,7 @@ module _ (r : Station) (v : Valid r) where
 -- ---- what each promise allows
 
 -- an accepted start gives a fresh record, which is valid
-pub is_fresh : (s : Settings) (r : Station) → start_means s.own s.ap s.interval s.channel ≡ accepted r → Exactly Valid r (record_after s [])
+pub is_fresh : (s : Settings) (r : Station) → start_means s.own s.ap s.interval s.channel ≡ Ok r → Exactly Valid r (record_after s [])
 unfolding start_means record_from
 is_fresh s r e =
     let p = passed _ _ _ e in
@@ -80,9 +78,9 @@ starts_means s r (κs, a, x, e, promise, (own, ap', interval, channel, accepts, 
     let same : x ≡ started (start_means s.own s.ap s.interval s.channel) = rw (← own, ← ap', ← interval, ← channel) promise.0 in
     by (start_means s.own s.ap s.interval s.channel) refl (ap (λ (y : Started). y.answer) (sym same) ∙ accepts) (sym result ∙ ap (λ (y : Started). y.station) same)
   where
-    by : (o : Outcome Station) → start_means s.own s.ap s.interval s.channel ≡ o → (started o).answer ≡ Answer.Accepted → r ≡ (started o).station → Exactly Valid r (record_after s [])
-    by (refused q) given says left = absurd (let z : ◌≡◌ {A = ℕ} 0 1 = cc in omega arith)
-    by (accepted t) given says left = is_fresh s r (given ∙ ap accepted (sym left))
+    by : (o : Outcome Station) → start_means s.own s.ap s.interval s.channel ≡ o → (started o).answer ≡ Ok tt → r ≡ (started o).station → Exactly Valid r (record_after s [])
+    by (Err q) given says left = absurd (let z : ◌≡◌ {A = ℕ} 0 1 = cc in omega arith)
+    by (Ok t) given says left = is_fresh s r (given ∙ ap Ok (sym left))
 
 pub takes_means : {before r : Station} {f : List ℕ} {v : Verdict} → Takes before f v r → (v ≡ (take_of before f).verdict) × (r ≡ (take_of before f).station) × Valid r
 takes_means {before} {r} {f} (κs, a, x, e, promise, (self, octets, verdict, result)) =
@@ -100,7 +98,7 @@ asks_means (κs, a, x, e, promise, (self, units, result)) = sym result ∙ rw (�
 pub does_means : (r : Station) (c : Call) (x : Said) (next : Station) → Valid r → StationDoes r c x next → Meant station_means Valid r c x next
 does_means r c x next v (StationDoes.takes y) = let w = takes_means y in record { answers = ap judged w.0; leaves = w.1; valid = w.2 }
 does_means r c x next v (StationDoes.advances y) = let w = advances_means y in record { answers = ap answered w.0; leaves = w.1; valid = w.2 }
-does_means r c x next v (StationDoes.asks y) = record { answers = ap (λ (p : Permission). asked (Asked.Is p)) (asks_means y); leaves = refl; valid = v }
+does_means r c x next v (StationDoes.asks y) = record { answers = ap (λ (p : Permission). asked (Ok p)) (asks_means y); leaves = refl; valid = v }
 
 pub station_meets : (s : Settings) → Meets station station_means (Exactly Valid) s (record_after s [])
 station_meets s = meets_exactly station station_means Valid does_means s (record_after s []) (starts_means s)

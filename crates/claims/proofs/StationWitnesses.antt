@@ -1,5 +1,6 @@
 -- Single histories that shut out stations which look right (01, "Wrong programs that look right", "How tight the promises are"): a
 -- definition so wrong would break one of these. The moments marked P shut out more of them. Assumes nothing.
+use Rattle.std.specs.Prelude.{Some, None}
 use mathlib.Core.List.{List, [], ◌∷◌, ◌++◌}
 use mathlib.Core.Path.{◌≡◌, refl}
 use Prim.Native.Nat.{ℕ}
@@ -10,7 +11,6 @@ use Rattle.walk.specs.Handed.{passing, handing}
 use Rattle.walk.specs.Required.{required, nothing_left}
 use Rattle.answer.specs.Checks.{checked}
 use Rattle.beacon.specs.Beacons.{element_means, takes, says, beacon_means}
-use Rattle.beacon.specs.declared.MaybePower.{MaybePower}
 use Rattle.element.specs.ChannelSwitch.{switch_means}
 use Rattle.octets.specs.Elements.{fixed}
 use Rattle.element.specs.PowerConstraint.{power_means}
@@ -18,7 +18,6 @@ use Rattle.element.specs.Quiet.{quiet_means}
 use Rattle.frame.specs.Actions.{action_means}
 use Rattle.frame.specs.Frames.{frame_means}
 use Rattle.header.specs.Headers.{foreign_header, foreign_address, to_all, header_means, management_means, address_means}
-use Rattle.pending.specs.declared.Pending.{Pending}
 use Rattle.schedule.specs.Schedules.{covered, end_begun}
 use Rattle.schedule.specs.Units.{some_unit}
 use Rattle.station.specs.Asking.{first_of, covered_by, permission_of}
@@ -94,17 +93,17 @@ witnesses_right = (refl, (refl, (refl, (refl, (refl, (refl, (refl, (refl, (refl,
 -- ---- the record
 
 -- a Power Constraint is kept
-pub constraint_kept : (record_after ours (beacon_of constraint ∷ [])).power ≡ MaybePower.Is (record { decibels = 3 })
+pub constraint_kept : (record_after ours (beacon_of constraint ∷ [])).power ≡ Some (record { decibels = 3 })
 unfolding record_from take_means frame_means header_means management_means address_means foreign_header foreign_address to_all beacon_means checked says takes element_means elements_in elements_after power_means fixed announced informed
 constraint_kept = refl
 
 -- and does not outlive a switch
-pub constraint_gone : (record_after ours (advance 100 ∷ announcement 0 ∷ beacon_of constraint ∷ [])).power ≡ MaybePower.Absent
+pub constraint_gone : (record_after ours (advance 100 ∷ announcement 0 ∷ beacon_of constraint ∷ [])).power ≡ None
 unfolding record_from take_means frame_means header_means management_means address_means foreign_header foreign_address to_all beacon_means checked says takes element_means elements_in elements_after power_means switch_means fixed action_means opens_with required handing passing nothing_left single announced informed clock_advance advance_means
 constraint_gone = refl
 
 -- a switch is for the next TBTT, wherever in the interval it was announced
-pub counted_from_tbtt : (record_after ours (announcement 0 ∷ advance 99 ∷ [])).pending ≡ Pending.Switch (record { at = 100; mode = 0; channel = 40 })
+pub counted_from_tbtt : (record_after ours (announcement 0 ∷ advance 99 ∷ [])).pending ≡ Some (record { at = 100; mode = 0; channel = 40 })
 unfolding record_from take_means frame_means header_means management_means address_means foreign_header foreign_address to_all checked elements_in elements_after switch_means fixed action_means opens_with required handing passing nothing_left single announced informed clock_advance advance_means
 counted_from_tbtt = refl
 

@@ -1,17 +1,16 @@
 -- The station's calls: each promise leaves one outcome, a refused frame or advance leaves the station as it was,
 -- and a refused start gives none that a call may be handed. Assumes nothing.
+use Rattle.std.specs.Prelude.{Ok, Err}
 use mathlib.Core.Path.{◌≡◌, refl, sym, ap, ◌∙◌}
 use Prim.Native.Nat.{ℕ}
 use native.Mathlib.Omega.{arith}
 use borrow.Fn.Kinds.{Dens, ended_of}
 use contract.Lifetimes.{Lfts}
 use denote.Triple.Clauses.{AtExit}
-use Rattle.answer.specs.Checks.{Outcome, refused, accepted}
+use Rattle.answer.specs.Checks.{Outcome}
 use Rattle.answer.specs.Faults.{Placed}
-use Rattle.answer.specs.declared.Answer.{Answer}
 use Rattle.answer.specs.declared.Fault.{Fault}
 use Rattle.answer.specs.declared.Refusal.{Refusal}
-use Rattle.answer.specs.declared.Verdict.{Verdict}
 use Rattle.pending.proofs.Pending.comes_before as ComesBefore
 use Rattle.pending.proofs.Pending.set_by as PendingSetBy
 use Rattle.pending.proofs.Pending.silences as Silences
@@ -76,32 +75,32 @@ pending_comes_before κs a e f x y p q = once p q
 
 -- ---- demand 1: of the code's own results, a refused frame or advance leaves the station as it was
 
-refused_same : (s : Station) (o : Outcome Station) (r : Refusal) → (stepped s o).answer ≡ Answer.Refused r → (stepped s o).station ≡ s
-refused_same s (refused r) _ e = refl
-refused_same s (accepted next) r e = absurd (let z : ◌≡◌ {A = ℕ} 0 1 = cc in omega arith)
+refused_same : (s : Station) (o : Outcome Station) (r : Refusal) → (stepped s o).answer ≡ Err r → (stepped s o).station ≡ s
+refused_same s (Err r) _ e = refl
+refused_same s (Ok next) r e = absurd (let z : ◌≡◌ {A = ℕ} 0 1 = cc in omega arith)
 
-stepped_same : (s : Station) (o : Outcome Station) (x : Stepped) (r : Refusal) → x ≡ stepped s o → x.answer ≡ Answer.Refused r → x.station ≡ s
+stepped_same : (s : Station) (o : Outcome Station) (x : Stepped) (r : Refusal) → x ≡ stepped s o → x.answer ≡ Err r → x.station ≡ s
 stepped_same s o x r e f =
     ap (λ (y : Stepped). y.station) e ∙ refused_same s o r (ap (λ (y : Stepped). y.answer) (sym e) ∙ f)
 
-untaken_same : (s : Station) (o : Placed Station) (q : Fault) → (taken s o).verdict ≡ Verdict.Refused q → (taken s o).station ≡ s
-untaken_same s (refused x) _ e = refl
-untaken_same s (accepted next) q e = absurd (let z : ◌≡◌ {A = ℕ} 0 1 = cc in omega arith)
+untaken_same : (s : Station) (o : Placed Station) (q : Fault) → (taken s o).verdict ≡ Err q → (taken s o).station ≡ s
+untaken_same s (Err x) _ e = refl
+untaken_same s (Ok next) q e = absurd (let z : ◌≡◌ {A = ℕ} 0 1 = cc in omega arith)
 
-taken_same : (s : Station) (o : Placed Station) (x : Taken) (q : Fault) → x ≡ taken s o → x.verdict ≡ Verdict.Refused q → x.station ≡ s
+taken_same : (s : Station) (o : Placed Station) (x : Taken) (q : Fault) → x ≡ taken s o → x.verdict ≡ Err q → x.station ≡ s
 taken_same s o x q e f =
     ap (λ (y : Taken). y.station) e ∙ untaken_same s o q (ap (λ (y : Taken). y.verdict) (sym e) ∙ f)
 
 pub refused_take : (κs : Lfts 1) (a : Dens κs Take.Kinds.ps) (e : AtExit (ended_of 1 Take.Kinds.ps Take.Kinds.r) κs) (x : Taken) (q : Fault)
-    → Take.Reads.Post κs a x e → x.verdict ≡ Verdict.Refused q → x.station ≡ a.0
+    → Take.Reads.Post κs a x e → x.verdict ≡ Err q → x.station ≡ a.0
 refused_take κs a e x q p f = taken_same a.0 (take_means a.0 a.1.0.now) x q p.0 f
 
 pub refused_heard : (κs : Lfts 0) (a : Dens κs Heard.Kinds.ps) (e : AtExit (ended_of 0 Heard.Kinds.ps Heard.Kinds.r) κs) (x : Taken) (q : Fault)
-    → Heard.Reads.Post κs a x e → x.verdict ≡ Verdict.Refused q → x.station ≡ a.0
+    → Heard.Reads.Post κs a x e → x.verdict ≡ Err q → x.station ≡ a.0
 refused_heard κs a e x q p f = taken_same a.0 (heard_means a.0 a.1.0) x q p.0 f
 
 pub refused_advance : (κs : Lfts 0) (a : Dens κs Advance.Kinds.ps) (e : AtExit (ended_of 0 Advance.Kinds.ps Advance.Kinds.r) κs) (x : Stepped) (r : Refusal)
-    → Advance.Reads.Post κs a x e → x.answer ≡ Answer.Refused r → x.station ≡ a.0
+    → Advance.Reads.Post κs a x e → x.answer ≡ Err r → x.station ≡ a.0
 refused_advance κs a e x r p f = stepped_same a.0 (advance_means a.0 a.1.0) x r p.0 f
 
 -- no call may be handed what stands beside a refused start

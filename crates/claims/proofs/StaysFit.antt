@@ -1,5 +1,6 @@
 -- A station that starts from numbers and octets fits the types that the code has for it, and an advance of the clock and an accepted frame keep it so.
 -- Assumes nothing.
+use Rattle.std.specs.Prelude.{Ok, Some, None, Option}
 use mathlib.Core.Bool.{Bool, true, false, ◌||◌}
 use mathlib.Core.List.{List, []}
 use mathlib.Core.Path.{◌≡◌, refl, sym, subst}
@@ -11,10 +12,8 @@ use lib.ListN.{length, take, replicate}
 use lib.Seq.{take_at}
 use Rattle.answer.proofs.Booleans.{neither}
 use Rattle.answer.proofs.Yielding.{Yields, of_refusal, of_value, after_check, after_all, after_value}
-use Rattle.answer.specs.Checks.{accepted, pick}
+use Rattle.answer.specs.Checks.{pick}
 use Rattle.beacon.specs.Beacons.{quiet_limit, Told, tells}
-use Rattle.beacon.specs.declared.MaybePower.{MaybePower}
-use Rattle.beacon.specs.declared.MaybeSwitch.{MaybeSwitch}
 use Rattle.element.specs.declared.channel_switch.ChannelSwitch.{ChannelSwitch}
 use Rattle.element.specs.declared.quiet.Quiet.{Quiet}
 use Rattle.frame.specs.Frames.{frame_means}
@@ -22,7 +21,6 @@ use Rattle.frame.specs.Laid.{frame_of, quiets_of}
 use Rattle.frame.specs.declared.Frame.{Frame}
 use Rattle.octets.specs.Numbers.{Octets}
 use Rattle.pending.specs.Waiting.{pending_by}
-use Rattle.pending.specs.declared.Pending.{Pending}
 use Rattle.schedule.specs.declared.Schedule.{Schedule}
 use Rattle.station.specs.Clock.{switched, reached, clock_advance, advanced_to, advance_means}
 use Rattle.station.specs.Starting.{start_means}
@@ -33,6 +31,8 @@ use Rattle.station.specs.declared.clock.Advanced.{Advanced}
 use Rattle.claims.proofs.HeardFits.{CountFits, SwitchFits, QuietsFit, ToldFits, FrameFits, frame_fits}
 use Rattle.claims.proofs.MomentsFit.{moment_fits, all_set_fit, latest_fits}
 use Rattle.station_record.specs.Fits.{PowerFits, MomentFits, AllFit, Fits}
+use Rattle.element.specs.declared.power_constraint.PowerConstraint.{PowerConstraint}
+use Rattle.pending.specs.declared.Switch.{Switch}
 
 -- ---- a start
 
@@ -55,7 +55,7 @@ fresh_fits own ap b channel own_six own_octets ap_six ap_octets interval_fits =
 
 -- an accepted start gives a station that fits
 pub started_fits : (own ap : List ℕ) (b channel : ℕ) (s : Station) → length own ≡ 6 → Octets own → length ap ≡ 6 → Octets ap → b < 256 ^ 2
-    → start_means own ap b channel ≡ accepted s → Fits s
+    → start_means own ap b channel ≡ Ok s → Fits s
 unfolding start_means
 started_fits own ap b channel s own_six own_octets ap_six ap_octets interval_fits =
     after_check Fits _ _ _
@@ -64,7 +64,7 @@ started_fits own ap b channel s own_six own_octets ap_six ap_octets interval_fit
 -- ---- one field changed
 
 module _ (s : Station) (f : Fits s) where
-  with_fields : (clock channel : ℕ) (power : MaybePower) (pending : Pending) (schedules : List Schedule) (count until : ℕ)
+  with_fields : (clock channel : ℕ) (power : Option PowerConstraint) (pending : Option Switch) (schedules : List Schedule) (count until : ℕ)
       → clock < 256 ^ 4 → PowerFits power → MomentFits pending → AllFit (take count schedules) → until < 256 ^ 8
       → Fits (record {
         own = s.own;
@@ -99,10 +99,10 @@ module _ (s : Station) (f : Fits s) where
   channel_changed channel =
       with_fields s.clock channel s.power s.pending s.schedules s.count s.until f.clock_fits f.power_fits f.moment_fits f.schedules_fit f.until_fits
 
-  power_changed : (p : MaybePower) → PowerFits p → Fits (with_power s p)
+  power_changed : (p : Option PowerConstraint) → PowerFits p → Fits (with_power s p)
   power_changed p h = with_fields s.clock s.channel p s.pending s.schedules s.count s.until f.clock_fits h f.moment_fits f.schedules_fit f.until_fits
 
-  pending_changed : (p : Pending) → MomentFits p → Fits (with_pending s p)
+  pending_changed : (p : Option Switch) → MomentFits p → Fits (with_pending s p)
   pending_changed p h = with_fields s.clock s.channel s.power p s.schedules s.count s.until f.clock_fits f.power_fits h f.schedules_fit f.until_fits
 
   -- the schedules, of which those in use are these
@@ -120,20 +120,20 @@ module _ (s : Station) (f : Fits s) where
 switched_fits : (s : Station) (channel : ℕ) → Fits s → Fits (switched s channel)
 switched_fits s channel f =
     until_changed _
-    (schedules_changed _ (pending_changed _ (power_changed _ (channel_changed s f channel) MaybePower.Absent tt) Pending.Nothing tt) [] tt)
+    (schedules_changed _ (pending_changed _ (power_changed _ (channel_changed s f channel) None tt) None tt) [] tt)
     0 (omega arith)
 
 -- where the clock goes on to a moment that it tells, whether or not a switch is met there
-reached_fits : (s : Station) (t : ℕ) (p : Pending) → Fits s → t < 256 ^ 4 → Yields Fits (advanced_to s (reached t p))
-reached_fits s t Pending.Nothing f h = of_value Fits (clock_changed s f t h)
-reached_fits s t (Pending.Switch x) f h = by_test_lem (ltb t x.at)
+reached_fits : (s : Station) (t : ℕ) (p : Option Switch) → Fits s → t < 256 ^ 4 → Yields Fits (advanced_to s (reached t p))
+reached_fits s t None f h = of_value Fits (clock_changed s f t h)
+reached_fits s t (Some x) f h = by_test_lem (ltb t x.at)
   where
     by_test_lem : (before : Bool) → Yields Fits (advanced_to s (pick before (Advanced.Goes t) (Advanced.Switches t x.channel)))
     by_test_lem true = of_value Fits (clock_changed s f t h)
     by_test_lem false = of_value Fits (switched_fits (with_clock s t) x.channel (clock_changed s f t h))
 
 -- an accepted advance keeps a station fit
-pub advanced_fits : (s : Station) (n : ℕ) (t : Station) → Fits s → advance_means s n ≡ accepted t → Fits t
+pub advanced_fits : (s : Station) (n : ℕ) (t : Station) → Fits s → advance_means s n ≡ Ok t → Fits t
 unfolding advance_means clock_advance
 advanced_fits s n t f = by_test_lem (ltb unit_limit n || ltb clock_limit (s.clock + n)) refl t
   where
@@ -152,9 +152,9 @@ rescheduled_fits s qs f h =
     schedules_changed s f (schedules_of (passed s) s.interval qs) (all_set_fit s.clock s.interval f.clock_fits f.interval_fits qs h)
 
 -- with the Power Constraint, if there is one
-constrained_fits : (s : Station) (p : MaybePower) → Fits s → PowerFits p → Fits (constrained s p)
-constrained_fits s MaybePower.Absent f h = f
-constrained_fits s (MaybePower.Is p) f h = power_changed s f (MaybePower.Is p) h
+constrained_fits : (s : Station) (p : Option PowerConstraint) → Fits s → PowerFits p → Fits (constrained s p)
+constrained_fits s None f h = f
+constrained_fits s (Some p) f h = power_changed s f (Some p) h
 
 -- with an announcement
 announced_fits : (s : Station) (w : ChannelSwitch) → Fits s → CountFits w → Fits (announced s w)
@@ -168,9 +168,9 @@ announced_fits s w f h = by_test_lem (eqb w.count 0)
         (moment_fits s.clock s.interval f.clock_fits f.interval_fits w.count h)
 
 -- with one, if there is one
-announced_if_fits : (s : Station) (m : MaybeSwitch) → Fits s → SwitchFits m → Fits (announced_if s m)
-announced_if_fits s MaybeSwitch.Absent f h = f
-announced_if_fits s (MaybeSwitch.Is w) f h = announced_fits s w f h
+announced_if_fits : (s : Station) (m : Option ChannelSwitch) → Fits s → SwitchFits m → Fits (announced_if s m)
+announced_if_fits s None f h = f
+announced_if_fits s (Some w) f h = announced_fits s w f h
 
 -- after a beacon or a probe response
 informed_fits : (s : Station) (t : Told) → Fits s → ToldFits t → Fits (informed s t)
@@ -194,7 +194,7 @@ changed_fits s (Frame.TpcReport token r) qs f h = f
 changed_fits s (Frame.ChannelSwitch w) qs f h = announced_fits s w f h
 
 -- an accepted frame of octets keeps a station fit
-pub taken_fits : (s : Station) (f : List ℕ) (t : Station) → Fits s → Octets f → take_means s f ≡ accepted t → Fits t
+pub taken_fits : (s : Station) (f : List ℕ) (t : Station) → Fits s → Octets f → take_means s f ≡ Ok t → Fits t
 unfolding take_means
 taken_fits s f t fits o =
     after_value Fits (frame_means s.own s.ap s.interval f) _

@@ -1,4 +1,5 @@
 -- What a table answers by who is joined (02, Six): to a start, to a tick, to a frame and to a frame that a reply is asked for. Assumes nothing.
+use Rattle.std.specs.Prelude.{Ok, Err}
 use mathlib.Core.Bool.{Bool, true, false, not, ◌||◌}
 use mathlib.Core.List.{List, []}
 use mathlib.Core.Logic.{⊎_elim}
@@ -7,11 +8,9 @@ use Prim.Native.Nat.{ℕ, ◌≤◌}
 use borrow.Author.Tests.{le-ltb}
 use lib.Dec.{eqb}
 use Rattle.answer.proofs.Booleans.{either}
-use Rattle.answer.specs.Checks.{Outcome, refused, accepted, pick, and_then, checked, answer_of}
+use Rattle.answer.specs.Checks.{Outcome, pick, and_then, checked, answer_of, Answer}
 use Rattle.answer.specs.Faults.{Placed, fault_nowhere, nowhere, placed_past, verdict_of}
-use Rattle.answer.specs.declared.Answer.{Answer}
 use Rattle.answer.specs.declared.Refusal.{Refusal}
-use Rattle.answer.specs.declared.Verdict.{Verdict}
 use Rattle.channel.specs.Centres.{highest}
 use Rattle.element.specs.declared.tpc_report.TpcReport.{TpcReport}
 use Rattle.frame.specs.Frames.{Sent, kind_of, sent, frame_means}
@@ -21,7 +20,6 @@ use Rattle.header.specs.declared.address.Cell.{Cell}
 use Rattle.header.specs.declared.management.Subtype.{Subtype}
 use Rattle.measured_report.specs.declared.Readings.{Readings}
 use Rattle.octets.specs.Numbers.{bit, octet}
-use Rattle.octets.specs.declared.writing.Wrote.{Wrote}
 use Rattle.reply.specs.Due.{after_header, due_in}
 use Rattle.reply.specs.Replies.{owed_to, tpc_answer_to, measurement_answer_to, tpc_reply_in, measurement_reply_in}
 use Rattle.station.specs.Stations.{fresh}
@@ -52,23 +50,23 @@ unfolding start_means station_starts checked
 start_exactly ap' own b channel r t single known (κs, a, x, e, promise, (address, interval, told, result)) =
     let mine : x ≡ started (start_means ap' b) = rw (← address, ← interval) promise.0 in
     sym told ∙ ap (λ (y : Started). y.answer) mine ∙ by (start_forbids ap' b)
-    ∙ ap (λ (bad : Bool). answer_of {A = Unit {0}} (pick bad (refused Refusal.BadStart) (accepted tt))) (same_start own ap' b channel single known) ∙ by_station (station_forbids own ap' b channel)
+    ∙ ap (λ (bad : Bool). answer_of {A = Unit {0}} (pick bad (Err Refusal.BadStart) (Ok tt))) (same_start own ap' b channel single known) ∙ by_station (station_forbids own ap' b channel)
   where
-    by : (bad : Bool) → (started (pick bad (refused Refusal.BadStart) (accepted (empty ap' b)))).answer ≡ answer_of {A = Unit {0}} (pick bad (refused Refusal.BadStart) (accepted tt))
+    by : (bad : Bool) → (started (pick bad (Err Refusal.BadStart) (Ok (empty ap' b)))).answer ≡ answer_of {A = Unit {0}} (pick bad (Err Refusal.BadStart) (Ok tt))
     by true = refl
     by false = refl
 
-    by_station : (bad : Bool) → answer_of {A = Unit {0}} (pick bad (refused Refusal.BadStart) (accepted tt)) ≡ answer_of (pick bad (refused Refusal.BadStart) (accepted (fresh own ap' b channel)))
+    by_station : (bad : Bool) → answer_of {A = Unit {0}} (pick bad (Err Refusal.BadStart) (Ok tt)) ≡ answer_of (pick bad (Err Refusal.BadStart) (Ok (fresh own ap' b channel)))
     by_station true = refl
     by_station false = refl
 
 -- ---- a header that names no station
 
-foreign_head : (ap' f own : List ℕ) → same (da f) own ≡ false → to_all f ≡ false → (s : Subtype) → management_means f ≡ accepted s → header_means Cell.Ap own ap' f ≡ refused Refusal.ForeignAddress
+foreign_head : (ap' f own : List ℕ) → same (da f) own ≡ false → to_all f ≡ false → (s : Subtype) → management_means f ≡ Ok s → header_means Cell.Ap own ap' f ≡ Err Refusal.ForeignAddress
 unfolding header_means address_means foreign_address checked
 foreign_head ap' f own other alone s sound =
-    ap (λ (o : Outcome Subtype). and_then o (λ x. and_then (address_means Cell.Ap own ap' f) (λ a. accepted (record { subtype = x; to_all = a })))) sound
-    ∙ ap (λ (c : Bool). and_then {A = Bool} (pick c (refused Refusal.ForeignAddress) (accepted (to_all f))) (λ a. accepted (record { subtype = s; to_all = a })))
+    ap (λ (o : Outcome Subtype). and_then o (λ x. and_then (address_means Cell.Ap own ap' f) (λ a. Ok (record { subtype = x; to_all = a })))) sound
+    ∙ ap (λ (c : Bool). and_then {A = Bool} (pick c (Err Refusal.ForeignAddress) (Ok (to_all f))) (λ a. Ok (record { subtype = s; to_all = a })))
     (by (foreign_sender Cell.Ap ap' f) (not (same (bssid f) ap')) (same (da f) own) (to_all f) other alone)
   where
     by : (x y z w : Bool) → z ≡ false → w ≡ false → (x || (y || not (z || w))) ≡ true
@@ -90,9 +88,9 @@ module _ (ap' : List ℕ) (b : ℕ) (ms : List TableMade) (t : Table) (ran : Ran
   unfolding tick_means checked
   tick_exactly n r next does =
       (does_means t (tick n) r next valid does).answers
-      ∙ ap answered (by (too_far t.clock n) ∙ ap (λ (c : ℕ). pick (too_far c n) (Answer.Refused Refusal.PastClock) Answer.Accepted) (reaches ap' b ms t ran).its_clock)
+      ∙ ap answered (by (too_far t.clock n) ∙ ap (λ (c : ℕ). pick (too_far c n) (Err Refusal.PastClock) (Ok tt)) (reaches ap' b ms t ran).its_clock)
     where
-      by : (far : Bool) → (stepped t (pick far (refused Refusal.PastClock) (accepted (ticked_table t n)))).answer ≡ pick far (Answer.Refused Refusal.PastClock) Answer.Accepted
+      by : (far : Bool) → (stepped t (pick far (Err Refusal.PastClock) (Ok (ticked_table t n)))).answer ≡ pick far (Err Refusal.PastClock) (Ok tt)
       by true = refl
       by false = refl
 
@@ -104,9 +102,9 @@ module _ (ap' : List ℕ) (b : ℕ) (ms : List TableMade) (t : Table) (ran : Ran
   take_exactly f r next does own alike =
       (does_means t (take f) r next valid does).answers ∙ ap judged (by (frame_means (reader_of t f) t.ap t.interval f) ∙ ap verdict_of read)
     where
-      by : (o : Placed Sent) → (taken t (and_then o (λ x. accepted (with_rows t (heard_rows f x t.rows))))).verdict ≡ verdict_of o
-      by (refused x) = refl
-      by (accepted x) = refl
+      by : (o : Placed Sent) → (taken t (and_then o (λ x. Ok (with_rows t (heard_rows f x t.rows))))).verdict ≡ verdict_of o
+      by (Err x) = refl
+      by (Ok x) = refl
 
       reader : (same (da f) (reader_of t f) || to_all f) ≡ (is_joined t (da f) || to_all f)
       reader =
@@ -140,28 +138,28 @@ module _ (ap' : List ℕ) (b : ℕ) (ms : List TableMade) (t : Table) (ran : Ran
   only_judged f r next does own only = take_exactly f r next does own (ap (λ (x : Bool). x || to_all f) (sym (only (da f))))
 
   -- "and is 4 where that address is not joined": of a frame that is none of 1 to 3
-  module _ (f : List ℕ) (alone : to_all f ≡ false) (none : joined_in (da f) ms ≡ false) (s : Subtype) (sound : management_means f ≡ accepted s) where
-    pub stranger_refused : (r : TableAnswer) (next : Table) → Does t (take f) r next → r ≡ judged (Verdict.Refused (fault_nowhere Refusal.ForeignAddress))
+  module _ (f : List ℕ) (alone : to_all f ≡ false) (none : joined_in (da f) ms ≡ false) (s : Subtype) (sound : management_means f ≡ Ok s) where
+    pub stranger_refused : (r : TableAnswer) (next : Table) → Does t (take f) r next → r ≡ judged (Err (fault_nowhere Refusal.ForeignAddress))
     unfolding frame_means
     stranger_refused r next does =
         take_exactly f r next does [] (ap (λ (c : Bool). c || to_all f) (sym none))
         ∙ ap (λ (o : Outcome Head). judged (verdict_of (and_then (nowhere o) (λ h. sent h.to_all (placed_past header_length (kind_of b h.subtype (body_of f)))))))
         (foreign_head ap' f [] refl alone s sound)
 
-    reader_head : header_means Cell.Ap (reader_of t f) t.ap f ≡ refused Refusal.ForeignAddress
+    reader_head : header_means Cell.Ap (reader_of t f) t.ap f ≡ Err Refusal.ForeignAddress
     unfolding to_all
     reader_head = foreign_head t.ap f (reader_of t f) (ap (same (da f)) (reader_else t f (joined_as (da f) ∙ none)) ∙ alone) alone s sound
 
     -- nor is a reply made to it: the buffer stays as it was
     pub stranger_unanswered : (report : TpcReport) (buffer : List ℕ) (r : TableAnswer) (next : Table) → Does t (tpc f report buffer) r next
-        → r ≡ replied (Wrote.Refused Refusal.ForeignAddress) buffer
+        → r ≡ replied (Err Refusal.ForeignAddress) buffer
     unfolding tpc_reply_in due_in answer
     stranger_unanswered report buffer r next does =
         (does_means t (tpc f report buffer) r next valid does).answers
         ∙ ap (λ (o : Outcome Head). replied_with (and_then (and_then o (after_header f)) (owed_to (reader_of t f) t.ap t.ap (tpc_answer_to (reader_of t f) t.ap t.ap report))) buffer) reader_head
 
     pub stranger_unmeasured : (index : ℕ) (readings : Readings) (buffer : List ℕ) (r : TableAnswer) (next : Table) → Does t (measurement f index readings buffer) r next
-        → r ≡ replied (Wrote.Refused Refusal.ForeignAddress) buffer
+        → r ≡ replied (Err Refusal.ForeignAddress) buffer
     unfolding measurement_reply_in due_in answer
     stranger_unmeasured index readings buffer r next does =
         (does_means t (measurement f index readings buffer) r next valid does).answers

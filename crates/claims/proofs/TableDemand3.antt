@@ -1,15 +1,14 @@
 -- Demand 3 for each station of a table, "from its joining" (02, Six): whatever calls were made of the table, its row is the record that the history of its own calls speaks of,
 -- which begins at the clock of its joining, and each question is answered as that history says. Assumes nothing.
+use Rattle.std.specs.Prelude.{Ok, Err}
 use mathlib.Core.Bool.{Bool, true, false, ◌||◌}
 use mathlib.Core.List.{List, [], ◌∷◌}
 use mathlib.Core.Logic.{◌↔◌, ⊎_elim}
 use mathlib.Core.Path.{◌≡◌, refl, sym, ap, ap₂, ◌∙◌, subst}
 use Prim.Native.Nat.{ℕ, ◌≤◌}
 use Rattle.answer.proofs.Booleans.{clash, either, neither}
-use Rattle.answer.specs.Checks.{refused, accepted, pick, and_then}
-use Rattle.answer.specs.Faults.{Placed}
-use Rattle.answer.specs.declared.Answer.{Answer}
-use Rattle.answer.specs.declared.Verdict.{Verdict}
+use Rattle.answer.specs.Checks.{pick, and_then, Answer}
+use Rattle.answer.specs.Faults.{Placed, Verdict}
 use Rattle.frame.specs.Frames.{Sent, frame_means}
 use Rattle.header.proofs.Addresses.{same_self}
 use Rattle.header.specs.Headers.{same, da, to_all}
@@ -22,7 +21,6 @@ use Rattle.station.specs.declared.asking.Permission.{Permission}
 use Rattle.table.proofs.Readers.{reached}
 use Rattle.table.specs.Tables.{station_of}
 use Rattle.table.specs.declared.Table.{Table}
-use Rattle.table.specs.declared.asking.Asked.{Asked}
 use Rattle.capture_record.specs.declared.entry.Settings.{Settings}
 use Rattle.claims.specs.Histories.{Call, History, listener_from}
 use Rattle.claims.specs.OpenUnits.{AllOpen, Applies}
@@ -41,7 +39,7 @@ use Rattle.claims.proofs.TableMeans.{answered_once, does_means}
 use Rattle.claims.proofs.TableRows.{row_after, sits, concerned}
 use Rattle.claims.proofs.TableStays.{reaches, one_more, recorded, followed}
 
-asked_once : {p q : Permission} → asked (Asked.Told p) ≡ asked (Asked.Told q) → p ≡ q
+asked_once : {p q : Permission} → asked (Ok p) ≡ asked (Ok q) → p ≡ q
 asked_once {p} {q} e = cc
 
 judged_once : {v w : Verdict} → judged v ≡ judged w → v ≡ w
@@ -58,8 +56,8 @@ module _ (ap' : List ℕ) (b : ℕ) (own : List ℕ) (channel : ℕ) (before aft
   begins = joined_at before
 
   -- the row's station is the record of its history, and valid
-  pub row_arrives : station_of t own ≡ accepted (record_from begins s h)
-  row_arrives = (followed ap' b own channel before after t stay).row ∙ ap accepted (recorded begins ap' b own channel (calls_for own after))
+  pub row_arrives : station_of t own ≡ Ok (record_from begins s h)
+  row_arrives = (followed ap' b own channel before after t stay).row ∙ ap Ok (recorded begins ap' b own channel (calls_for own after))
 
   pub row_valid : Valid (record_from begins s h)
   row_valid = (sits t (followed ap' b own channel before after t stay).valid own (record_from begins s h) row_arrives).valid
@@ -70,23 +68,23 @@ module _ (ap' : List ℕ) (b : ℕ) (own : List ℕ) (channel : ℕ) (before aft
       subst (λ (n : ℕ). 1 ≤ n) r.its_interval r.valid.interval_positive
 
   -- every field of it is what the history says, and only one valid record agrees with the history
-  pub row_agrees : (r : Station) → station_of t own ≡ accepted r → AgreesFrom begins s h r
+  pub row_agrees : (r : Station) → station_of t own ≡ Ok r → AgreesFrom begins s h r
   row_agrees r e = subst (AgreesFrom begins s h) (accepted_once (sym row_arrives ∙ e)) (agrees_from begins s interval_positive h)
 
-  pub one_row : (r : Station) → Valid r → AgreesFrom begins s h r → station_of t own ≡ accepted r
+  pub one_row : (r : Station) → Valid r → AgreesFrom begins s h r → station_of t own ≡ Ok r
   one_row r v agrees =
-      row_arrives ∙ ap accepted (one_record_from begins s interval_positive h (record_from begins s h) r row_valid v (agrees_from begins s interval_positive h) agrees)
+      row_arrives ∙ ap Ok (one_record_from begins s interval_positive h (record_from begins s h) r row_valid v (agrees_from begins s interval_positive h) agrees)
 
   -- a question for it is answered by its station
-  pub answers_question : (n : ℕ) (x : TableAnswer) (next : Table) → Does t (question own n) x next → x ≡ asked (Asked.Told (permission_of (record_from begins s h) n))
+  pub answers_question : (n : ℕ) (x : TableAnswer) (next : Table) → Does t (question own n) x next → x ≡ asked (Ok (permission_of (record_from begins s h) n))
   answers_question n x next does =
       let f = followed ap' b own channel before after t stay in
       (does_means t (question own n) x next f.valid does).answers
       ∙ (concerned t f.valid own (record_from begins s h) row_arrives (question own n) (same_self own) (λ e. e)).answers
 
-  module _ (n : ℕ) (p : Permission) (next : Table) (does : Does t (question own n) (asked (Asked.Told p)) next) where
+  module _ (n : ℕ) (p : Permission) (next : Table) (does : Does t (question own n) (asked (Ok p)) next) where
     answer_is : p ≡ permission_of (record_from begins s h) n
-    answer_is = asked_once (answers_question n (asked (Asked.Told p)) next does)
+    answer_is = asked_once (answers_question n (asked (Ok p)) next does)
 
     -- each of the answers is given exactly where the history says so
     pub row_asked : (q : Permission) → (p ≡ q) ↔ Applies (listener_from begins s) h n q
@@ -110,9 +108,9 @@ not_reached r own f is n = by (frame_means r.own r.ap r.interval f) refl
     off : (to_all f ≡ false) × (same (da f) own ≡ false)
     off = neither (to_all f) (same (da f) own) n
 
-    by : (o : Placed Sent) → frame_means r.own r.ap r.interval f ≡ o → (taken r (and_then o (λ x. accepted (heard r x.kind)))).station ≡ r
-    by (refused x) e = refl
-    by (accepted x) e =
+    by : (o : Placed Sent) → frame_means r.own r.ap r.interval f ≡ o → (taken r (and_then o (λ x. Ok (heard r x.kind)))).station ≡ r
+    by (Err x) e = refl
+    by (Ok x) e =
         clash
         (sym (reached r.own r.ap r.interval f x e) ∙ ap (λ (a : List ℕ). same (da f) a || to_all f) is ∙ ap₂ (λ (y z : Bool). y || z) off.1 off.0)
 
@@ -161,13 +159,13 @@ module _
     (ran : Ran station (settings_of ap' b own channel) ms r)
     (same-calls : calls_of ms ≡ history_of (calls_of after))
   where
-    pub same_as_one : station_of t own ≡ accepted r
+    pub same_as_one : station_of t own ≡ Ok r
     same_as_one =
         row_arrives ap' b own channel before after t stay
-        ∙ ap (λ (m : ℕ). accepted (record_from m (settings_of ap' b own channel) (history_for own after))) at_start
-        ∙ ap accepted (sym (others_nothing ap' b (interval_positive ap' b own channel before after t stay) own channel 0 after))
-        ∙ ap (λ (h : History). accepted (record_from 0 (settings_of ap' b own channel) h)) (sym same-calls)
-        ∙ ap accepted (sym (arrives (settings_of ap' b own channel) ms r ran).0)
+        ∙ ap (λ (m : ℕ). Ok (record_from m (settings_of ap' b own channel) (history_for own after))) at_start
+        ∙ ap Ok (sym (others_nothing ap' b (interval_positive ap' b own channel before after t stay) own channel 0 after))
+        ∙ ap (λ (h : History). Ok (record_from 0 (settings_of ap' b own channel) h)) (sym same-calls)
+        ∙ ap Ok (sym (arrives (settings_of ap' b own channel) ms r ran).0)
 
     pub same_verdict : (f : List ℕ) → (to_all f || same (da f) own) ≡ true → (v w : Verdict) (next : Table) (left : Station)
         → Does t (take f) (judged v) next → Takes r f w left → v ≡ w
@@ -182,18 +180,18 @@ module _
         answered_once ((does_means t (tick n) (answered v) next k.valid does).answers ∙ (concerned t k.valid own r same_as_one (tick n) refl (λ y. y)).answers)
         ∙ sym (advances_means advances).0
 
-    pub same_permission : (n : ℕ) (p q : Permission) (next : Table) → Does t (question own n) (asked (Asked.Told p)) next → Asks r n q → p ≡ q
+    pub same_permission : (n : ℕ) (p q : Permission) (next : Table) → Does t (question own n) (asked (Ok p)) next → Asks r n q → p ≡ q
     same_permission n p q next does asks =
         let k = followed ap' b own channel before after t stay in
         asked_once
-        ((does_means t (question own n) (asked (Asked.Told p)) next k.valid does).answers
+        ((does_means t (question own n) (asked (Ok p)) next k.valid does).answers
         ∙ (concerned t k.valid own r same_as_one (question own n) (same_self own) (λ y. y)).answers)
         ∙ sym (asks_means asks)
 
 -- ---- joining, after leaving too: whatever the calls before were, the station is fresh, at the present clock, on the channel named
 
 pub fresh_at_joining : (ap' : List ℕ) (b : ℕ) (own : List ℕ) (channel : ℕ) (before : List TableMade) (t next : Table) → Ran table (started_with ap' b) before t
-    → Does t (join own channel) (answered Answer.Accepted) next → station_of next own ≡ accepted (with_clock (fresh own ap' b channel) (joined_at before))
+    → Does t (join own channel) (answered (Ok tt)) next → station_of next own ≡ Ok (with_clock (fresh own ap' b channel) (joined_at before))
 unfolding made_for history_of record_from NeverLeaves
 fresh_at_joining ap' b own channel before t next ran does =
     row_arrives ap' b own channel before [] next (record { joining = t; ran = ran; joined = next; joins = does; goes_on = no_calls; never_leaves = tt })

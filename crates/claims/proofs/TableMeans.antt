@@ -1,18 +1,16 @@
 -- What a call of a table answers and leaves, by its meaning. Assumes nothing.
+use Rattle.std.specs.Prelude.{Ok, Err}
 use mathlib.Core.Bool.{Bool, true, false, ◌||◌}
 use mathlib.Core.List.{List, [], ◌∷◌}
 use mathlib.Core.Path.{◌≡◌, refl, sym, ap, ap₂, ◌∙◌, subst}
 use Prim.Native.Nat.{ℕ, ◌+◌}
 use native.Mathlib.Omega.{arith}
 use lib.Dec.{ltb}
-use Rattle.answer.specs.Checks.{Outcome, refused, accepted, pick, Check, checked, and_then}
+use Rattle.answer.specs.Checks.{Outcome, pick, Check, checked, and_then, Answer}
 use Rattle.answer.specs.Faults.{Placed}
-use Rattle.answer.specs.declared.Answer.{Answer}
 use Rattle.answer.specs.declared.Refusal.{Refusal}
-use Rattle.answer.specs.declared.Verdict.{Verdict}
 use Rattle.frame.specs.Frames.{Sent, frame_means}
 use Rattle.octets.specs.Writing.{wrote}
-use Rattle.octets.specs.declared.writing.Wrote.{Wrote}
 use Rattle.reply.specs.Replies.{left_by, Replied}
 use Rattle.station.specs.Stations.{unit_limit, clock_limit}
 use Rattle.station.specs.declared.asking.Permission.{Permission}
@@ -20,11 +18,10 @@ use Rattle.row.specs.Rows.{is_of}
 use Rattle.table.proofs.Outcomes.{join_forbidden, join_seats, join_valid, tick_refused, tick_accepted, take_valid}
 use Rattle.table.proofs.StaysValid.{valid_left}
 use Rattle.table.specs.Replies.{tpc_reply_of, measurement_reply_of}
-use Rattle.table.specs.Tables.{with_rows, heard_rows, stepped, empty, started, start_forbids, start_means, join_forbids, join_means, join_of, leave_means, leave_of, ticked_table, tick_means, tick_of, reader_of, take_means, taken, take_of, ask_means, asked_told}
+use Rattle.table.specs.Tables.{with_rows, heard_rows, stepped, empty, started, start_forbids, start_means, join_forbids, join_means, join_of, leave_means, leave_of, ticked_table, tick_means, tick_of, reader_of, take_means, taken, take_of, ask_means}
 use Rattle.table.specs.Validity.{ValidTable}
 use Rattle.table.specs.declared.Stepped.{Stepped}
 use Rattle.table.specs.declared.Table.{Table}
-use Rattle.table.specs.declared.asking.Asked.{Asked}
 use Rattle.table.specs.declared.starting.Started.{Started}
 use Rattle.table.specs.declared.taking.Taken.{Taken}
 use Rattle.claims.specs.Histories.{History, too_far, clock_from}
@@ -37,13 +34,13 @@ pub answered_once : {x y : Answer} → answered x ≡ answered y → x ≡ y
 answered_once {x} {y} e = cc
 
 -- the answer to a question, by what it stands for
-abbrev pub asked_as : Outcome Permission → Asked
-asked_as (refused r) = Asked.Refused r
-asked_as (accepted p) = Asked.Told p
+abbrev pub asked_as : Outcome Permission → Outcome Permission
+asked_as (Err r) = Err r
+asked_as (Ok p) = Ok p
 
-pub asked_told_lem : (x : Asked) → asked_as (asked_told x) ≡ x
-asked_told_lem (Asked.Refused r) = refl
-asked_told_lem (Asked.Told p) = refl
+pub asked_told_lem : (x : Outcome Permission) → asked_as (x) ≡ x
+asked_told_lem (Err r) = refl
+asked_told_lem (Ok p) = refl
 
 -- a reply, and the buffer after it
 abbrev pub replied_with : Outcome (List ℕ) → List ℕ → TableAnswer
@@ -82,7 +79,7 @@ of_step t c x m r next e is leaves v told result = record {
   valid = subst ValidTable result v;
 }
 
-of_reply : (o : Outcome (List ℕ)) (buffer exit : List ℕ) (x : Wrote) → Replied o buffer x exit → replied x exit ≡ replied_with o buffer
+of_reply : (o : Outcome (List ℕ)) (buffer exit : List ℕ) (x : Outcome ℕ) → Replied o buffer x exit → replied x exit ≡ replied_with o buffer
 of_reply o buffer exit x w = ap₂ replied (sym (answer_told_lem x) ∙ ap answer w.answers) w.leaves
 
 pub does_means : (t : Table) (c : TableCall) (r : TableAnswer) (next : Table) → ValidTable t → Does t c r next → TableMeant t c r next
@@ -100,7 +97,7 @@ does_means t (take f) r next v (κs, a, x, e, promise, (self, octets, told, resu
       valid = subst ValidTable result promise.1;
     }
 does_means t (question own n) r next v (κs, a, x, e, promise, (self, address, units, told, result)) =
-    let same : asked_told x ≡ ask_means t own n = rw (← self, ← address, ← units) promise in
+    let same : x ≡ ask_means t own n = rw (← self, ← address, ← units) promise in
     record { answers = sym told ∙ ap asked (sym (asked_told_lem x) ∙ ap asked_as same); leaves = sym result; valid = subst ValidTable result v }
 does_means t (tpc f report buffer) r next v (κs, a, x, e, promise, (self, octets, found, lent, told, result)) =
     record {
@@ -121,12 +118,12 @@ abbrev pub far : Table → ℕ → Bool
 far t n = ltb unit_limit n || ltb clock_limit (t.clock + n)
 
 -- what holds of a table and of the one that an accepted call leaves holds whatever the checks say
-pub through_checks : (P : Table → Type 0) (t next : Table) → P t → P next → (cs : List (Check Refusal)) → P (stepped t (checked cs (accepted next))).table
+pub through_checks : (P : Table → Type 0) (t next : Table) → P t → P next → (cs : List (Check Refusal)) → P (stepped t (checked cs (Ok next))).table
 unfolding checked
 through_checks P t next p q [] = q
 through_checks P t next p q (c ∷ cs) = by c.fails (through_checks P t next p q cs)
   where
-    by : (b : Bool) → P (stepped t (checked cs (accepted next))).table → P (stepped t (pick b (refused c.gives) (checked cs (accepted next)))).table
+    by : (b : Bool) → P (stepped t (checked cs (Ok next))).table → P (stepped t (pick b (Err c.gives) (checked cs (Ok next)))).table
     by true rest = p
     by false rest = rest
 
@@ -135,9 +132,9 @@ pub through_take : (P : Table → Type 0) (t : Table) (f : List ℕ) → P t →
 unfolding take_means
 through_take P t f p q = by (frame_means (reader_of t f) t.ap t.interval f)
   where
-    by : (o : Placed Sent) → P (taken t (and_then o (λ x. accepted (with_rows t (heard_rows f x t.rows))))).table
-    by (refused r) = p
-    by (accepted x) = q x
+    by : (o : Placed Sent) → P (taken t (and_then o (λ x. Ok (with_rows t (heard_rows f x t.rows))))).table
+    by (Err r) = p
+    by (Ok x) = q x
 
 pub ap_kept : (t : Table) (c : TableCall) → (table_after t c).ap ≡ t.ap
 unfolding join_means leave_means tick_means
@@ -163,8 +160,8 @@ tick_clock : (t : Table) (n : ℕ) → (tick_of t n).table.clock ≡ pick (too_f
 unfolding tick_means checked
 tick_clock t n = by (far t n)
   where
-    by : (b : Bool) → (stepped t (pick b (refused Refusal.PastClock)
-        (accepted (ticked_table t n)))).table.clock ≡ pick b t.clock (t.clock + n)
+    by : (b : Bool) → (stepped t (pick b (Err Refusal.PastClock)
+        (Ok (ticked_table t n)))).table.clock ≡ pick b t.clock (t.clock + n)
     by true = refl
     by false = refl
 
@@ -201,9 +198,9 @@ module _ (t : Table) (v : ValidTable t) where
   taken_valid f = by (frame_means (reader_of t f) t.ap t.interval f) refl
     where
       by : (o : Placed Sent) → frame_means (reader_of t f) t.ap t.interval f ≡ o
-          → ValidTable (taken t (and_then o (λ x. accepted (with_rows t (heard_rows f x t.rows))))).table
-      by (refused r) e = v
-      by (accepted x) e = take_valid t v f x e
+          → ValidTable (taken t (and_then o (λ x. Ok (with_rows t (heard_rows f x t.rows))))).table
+      by (Err r) e = v
+      by (Ok x) e = take_valid t v f x e
 
   pub valid_after : (c : TableCall) → ValidTable (table_after t c)
   unfolding leave_means
@@ -218,20 +215,20 @@ module _ (t : Table) (v : ValidTable t) where
 -- ---- a refused call changes nothing, in the whole table
 
 abbrev pub Refuses : TableAnswer → Type 0
-Refuses (answered Answer.Accepted) = ⊥
-Refuses (answered (Answer.Refused r)) = Unit {0}
-Refuses (judged Verdict.Accepted) = ⊥
-Refuses (judged (Verdict.Refused x)) = Unit {0}
+Refuses (answered (Ok tt)) = ⊥
+Refuses (answered (Err r)) = Unit {0}
+Refuses (judged (Ok tt)) = ⊥
+Refuses (judged (Err x)) = Unit {0}
 Refuses (asked x) = Unit {0}
 Refuses (replied w buffer) = Unit {0}
 
 of_outcome : (t : Table) (o : Outcome Table) → Refuses (answered (stepped t o).answer) → (stepped t o).table ≡ t
-of_outcome t (refused r) x = refl
-of_outcome t (accepted next) x = absurd x
+of_outcome t (Err r) x = refl
+of_outcome t (Ok next) x = absurd x
 
 of_placed : (t : Table) (o : Placed Table) → Refuses (judged (taken t o).verdict) → (taken t o).table ≡ t
-of_placed t (refused r) x = refl
-of_placed t (accepted next) x = absurd x
+of_placed t (Err r) x = refl
+of_placed t (Ok next) x = absurd x
 
 unchanged : (t : Table) (c : TableCall) → Refuses (table_answers t c) → table_after t c ≡ t
 unchanged t (join own channel) x = of_outcome t (join_means t own channel) x
@@ -250,12 +247,12 @@ refused_keeps t c r next v d x =
 
 -- ---- start
 
-start_gives : (ap' : List ℕ) (b : ℕ) → (started (start_means ap' b)).answer ≡ Answer.Accepted → (started (start_means ap' b)).table ≡ empty ap' b
+start_gives : (ap' : List ℕ) (b : ℕ) → (started (start_means ap' b)).answer ≡ Ok tt → (started (start_means ap' b)).table ≡ empty ap' b
 unfolding start_means checked
 start_gives ap' b e = by (start_forbids ap' b) e
   where
-    by : (bad : Bool) → (started (pick bad (refused Refusal.BadStart) (accepted (empty ap' b)))).answer ≡ Answer.Accepted
-        → (started (pick bad (refused Refusal.BadStart) (accepted (empty ap' b)))).table ≡ empty ap' b
+    by : (bad : Bool) → (started (pick bad (Err Refusal.BadStart) (Ok (empty ap' b)))).answer ≡ Ok tt
+        → (started (pick bad (Err Refusal.BadStart) (Ok (empty ap' b)))).table ≡ empty ap' b
     by true e = absurd (let z : ◌≡◌ {A = ℕ} 0 1 = cc in omega arith)
     by false e = refl
 

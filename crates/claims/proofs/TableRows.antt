@@ -1,4 +1,5 @@
 -- A call for the station of an address does to it, and answers, what document 01's station does and answers; any other call leaves it. Assumes nothing.
+use Rattle.std.specs.Prelude.{Ok, Err, Some, None, Option}
 use mathlib.Core.Bool.{Bool, true, false, ◌||◌}
 use mathlib.Core.List.{List, map}
 use mathlib.Core.Logic.{⊎_elim}
@@ -7,14 +8,12 @@ use Prim.Native.Nat.{ℕ, ◌+◌}
 use lib.Dec.{ltb}
 use Rattle.answer.proofs.Booleans.{clash, either, both, neither, or_go, or_stop}
 use Rattle.answer.proofs.Judged.{past, stop}
-use Rattle.answer.specs.Checks.{Outcome, refused, accepted, pick, checked, and_then}
+use Rattle.answer.specs.Checks.{Outcome, pick, checked, and_then, Answer}
 use Rattle.answer.specs.Faults.{Placed}
-use Rattle.answer.specs.declared.Answer.{Answer}
 use Rattle.answer.specs.declared.Refusal.{Refusal}
 use Rattle.frame.specs.Frames.{Kind, Sent, frame_means}
 use Rattle.header.proofs.Addresses.{same_self, same_is}
 use Rattle.header.specs.Headers.{same, da, to_all}
-use Rattle.pending.specs.declared.Pending.{Pending}
 use Rattle.reply.specs.Replies.{tpc_reply, measurement_reply}
 use Rattle.row.specs.Rows.{free, seated, is_of, is_free, row_ticked}
 use Rattle.row.specs.declared.Row.{Row}
@@ -33,11 +32,11 @@ use Rattle.table.proofs.StaysValid.{hearing_seat, ticked_seat}
 use Rattle.table.specs.Tables.{with_rows, on_first, first_such, is_joined, station_of, stepped, newcomer, join_forbids, join_means, leave_means, ticked_table, tick_means, tick_of, reader_of, hearing, heard_rows, take_means, taken, take_of, ask_means}
 use Rattle.table.specs.Validity.{Sits, Holds, RowOf, ValidTable}
 use Rattle.table.specs.declared.Table.{Table}
-use Rattle.table.specs.declared.asking.Asked.{Asked}
 use Rattle.table.specs.declared.taking.Taken.{Taken as TableTaken}
 use Rattle.claims.specs.TableHistories.{concerns, Leaves}
 use Rattle.claims.specs.TableRuns.{TableCall, join, leave, tick, take, question, tpc, measurement, TableAnswer, answered, judged, asked}
 use Rattle.claims.proofs.TableMeans.{asked_as, replied_with, table_answers, table_after, far, through_checks}
+use Rattle.pending.specs.declared.Switch.{Switch}
 
 -- ---- what document 01's station does and answers
 
@@ -54,11 +53,11 @@ row_after r (measurement f index readings buffer) = r
 abbrev pub row_answers : Station → TableCall → TableAnswer
 row_answers r (tick n) = answered (advance_of r n).answer
 row_answers r (take f) = judged (station_take r f).verdict
-row_answers r (question a n) = asked (Asked.Told (permission_of r n))
+row_answers r (question a n) = asked (Ok (permission_of r n))
 row_answers r (tpc f report buffer) = replied_with (tpc_reply r.own r.ap report f) buffer
 row_answers r (measurement f index readings buffer) = replied_with (measurement_reply r.own r.ap r.clock index readings f) buffer
-row_answers r (join a channel) = answered (Answer.Refused (pick (join_forbids a channel) Refusal.BadStart Refusal.AlreadyJoined))
-row_answers r (leave a) = answered Answer.Accepted
+row_answers r (join a channel) = answered (Err (pick (join_forbids a channel) Refusal.BadStart Refusal.AlreadyJoined))
+row_answers r (leave a) = answered (Ok tt)
 
 -- ---- an advance by whether it is too far
 
@@ -70,16 +69,16 @@ module _ (r : Station) (n : ℕ) where
   unfolding advance_means clock_advance
   by_far = refl
 
-  pub goes_accepted : (advanced_by false).answer ≡ Answer.Accepted
+  pub goes_accepted : (advanced_by false).answer ≡ Ok tt
   goes_accepted = by_pending r.pending
     where
-      by_test_lem : (b : Bool) (t channel : ℕ) → (station_stepped r (advanced_to r (pick b (Advanced.Goes t) (Advanced.Switches t channel)))).answer ≡ Answer.Accepted
+      by_test_lem : (b : Bool) (t channel : ℕ) → (station_stepped r (advanced_to r (pick b (Advanced.Goes t) (Advanced.Switches t channel)))).answer ≡ Ok tt
       by_test_lem true t channel = refl
       by_test_lem false t channel = refl
 
-      by_pending : (p : Pending) → (station_stepped r (advanced_to r (reached (r.clock + n) p))).answer ≡ Answer.Accepted
-      by_pending Pending.Nothing = refl
-      by_pending (Pending.Switch x) = by_test_lem (ltb (r.clock + n) x.at) (r.clock + n) x.channel
+      by_pending : (p : Option Switch) → (station_stepped r (advanced_to r (reached (r.clock + n) p))).answer ≡ Ok tt
+      by_pending None = refl
+      by_pending (Some x) = by_test_lem (ltb (r.clock + n) x.at) (r.clock + n) x.channel
 
 -- ---- a row of the station's address does what its station does
 
@@ -113,9 +112,9 @@ module _ (t : Table) (v : ValidTable t) (own : List ℕ) where
       off = neither (to_all f) (same (da f) own) e
 
       by : (o : Placed Sent) → frame_means (reader_of t f) t.ap t.interval f ≡ o
-          → station_of (taken t (and_then o (λ x. accepted (with_rows t (heard_rows f x t.rows))))).table own ≡ station_of t own
-      by (refused x) g = refl
-      by (accepted x) g =
+          → station_of (taken t (and_then o (λ x. Ok (with_rows t (heard_rows f x t.rows))))).table own ≡ station_of t own
+      by (Err x) g = refl
+      by (Ok x) g =
           ap (λ (b : Bool). first_such (is_of own) (pick b (map (hearing x.kind) t.rows) (on_first (is_of (da f)) (hearing x.kind) t.rows)))
           (sym (sent_to_all (reader_of t f) t.ap t.interval f x g) ∙ off.0)
           ∙ other_leaves (is_of own) (is_of (da f)) (hearing x.kind)
@@ -131,7 +130,7 @@ module _ (t : Table) (v : ValidTable t) (own : List ℕ) where
 
   -- ---- the station of an address
 
-  module _ (r : Station) (is : station_of t own ≡ accepted r) where
+  module _ (r : Station) (is : station_of t own ≡ Ok r) where
     pub is_joined_lem : is_joined t own ≡ true
     is_joined_lem = found_some (is_of own) t.rows r is
 
@@ -153,19 +152,19 @@ module _ (t : Table) (v : ValidTable t) (own : List ℕ) where
     -- ---- the clock
 
     abbrev ticks : ℕ → Bool → Table
-    ticks n b = (stepped t (pick b (refused Refusal.PastClock) (accepted (ticked_table t n)))).table
+    ticks n b = (stepped t (pick b (Err Refusal.PastClock) (Ok (ticked_table t n)))).table
 
     ticked_answer : (n : ℕ) → (tick_of t n).answer ≡ (advance_of r n).answer
     unfolding tick_means checked
     ticked_answer n =
         by (far t n) ∙ ap (λ (m : ℕ). (advanced_by r n (ltb unit_limit n || ltb clock_limit (m + n))).answer) (sym sits.same_clock) ∙ ap (λ (x : Stepped). x.answer) (sym (by_far r n))
       where
-        by : (b : Bool) → (stepped t (pick b (refused Refusal.PastClock)
-            (accepted (ticked_table t n)))).answer ≡ (advanced_by r n b).answer
+        by : (b : Bool) → (stepped t (pick b (Err Refusal.PastClock)
+            (Ok (ticked_table t n)))).answer ≡ (advanced_by r n b).answer
         by true = refl
         by false = sym (goes_accepted r n)
 
-    ticked_row : (n : ℕ) → station_of (tick_of t n).table own ≡ accepted (advance_of r n).station
+    ticked_row : (n : ℕ) → station_of (tick_of t n).table own ≡ Ok (advance_of r n).station
     unfolding tick_means checked
     ticked_row n =
         by (far t n) refl
@@ -173,8 +172,8 @@ module _ (t : Table) (v : ValidTable t) (own : List ℕ) where
         same_far : far t n ≡ (ltb unit_limit n || ltb clock_limit (r.clock + n))
         same_far = ap (λ (m : ℕ). ltb unit_limit n || ltb clock_limit (m + n)) (sym sits.same_clock)
 
-        by : (b : Bool) → far t n ≡ b → station_of (ticks n b) own ≡ accepted (advance_of r n).station
-        by true e = is ∙ ap (λ (x : Stepped). accepted x.station) (sym (by_far r n ∙ ap (advanced_by r n) (sym same_far ∙ e)))
+        by : (b : Bool) → far t n ≡ b → station_of (ticks n b) own ≡ Ok (advance_of r n).station
+        by true e = is ∙ ap (λ (x : Stepped). Ok x.station) (sym (by_far r n ∙ ap (advanced_by r n) (sym same_far ∙ e)))
         by false e =
             every_steps (is_of own) (row_ticked n) (λ s. (advance_of s n).station) (λ w. same_seat_of own w (row_ticked n w) (ticked_seat n w)) (ticked_station own n) t.rows
             ∙ ap (step_found (λ s. (advance_of s n).station)) is
@@ -205,10 +204,10 @@ module _ (t : Table) (v : ValidTable t) (own : List ℕ) where
               (either (to_all f))
 
       abbrev table_by : Placed Sent → TableTaken
-      table_by o = taken t (and_then o (λ x. accepted (with_rows t (heard_rows f x t.rows))))
+      table_by o = taken t (and_then o (λ x. Ok (with_rows t (heard_rows f x t.rows))))
 
       abbrev station_by : Placed Sent → Taken
-      station_by o = station_taken r (and_then o (λ x. accepted (heard r x.kind)))
+      station_by o = station_taken r (and_then o (λ x. Ok (heard r x.kind)))
 
       table_by_lem : take_of t f ≡ table_by (frame_means (reader_of t f) t.ap t.interval f)
       unfolding take_means
@@ -219,8 +218,8 @@ module _ (t : Table) (v : ValidTable t) (own : List ℕ) where
       station_by_lem = refl
 
       -- it goes to its row
-      heard_row : (x : Sent) → frame_means (reader_of t f) t.ap t.interval f ≡ accepted x
-          → first_such (is_of own) (heard_rows f x t.rows) ≡ accepted (heard r x.kind)
+      heard_row : (x : Sent) → frame_means (reader_of t f) t.ap t.interval f ≡ Ok x
+          → first_such (is_of own) (heard_rows f x t.rows) ≡ Ok (heard r x.kind)
       heard_row x e =
           ⊎_elim
           (λ (y : to_all f ≡ true).
@@ -240,39 +239,39 @@ module _ (t : Table) (v : ValidTable t) (own : List ℕ) where
           to : to_all f ≡ x.to_all
           to = sent_to_all (reader_of t f) t.ap t.interval f x e
 
-      taken_alike : (judged (take_of t f).verdict ≡ judged (station_take r f).verdict) × (station_of (take_of t f).table own ≡ accepted (station_take r f).station)
+      taken_alike : (judged (take_of t f).verdict ≡ judged (station_take r f).verdict) × (station_of (take_of t f).table own ≡ Ok (station_take r f).station)
       taken_alike = by (frame_means (reader_of t f) t.ap t.interval f) refl
         where
           by : (o : Placed Sent) → frame_means (reader_of t f) t.ap t.interval f ≡ o
-              → (judged (take_of t f).verdict ≡ judged (station_take r f).verdict) × (station_of (take_of t f).table own ≡ accepted (station_take r f).station)
-          by (refused x) e =
+              → (judged (take_of t f).verdict ≡ judged (station_take r f).verdict) × (station_of (take_of t f).table own ≡ Ok (station_take r f).station)
+          by (Err x) e =
               let mine = station_by_lem ∙ ap station_by (sym read_as_lem ∙ e) in
               let whole = table_by_lem ∙ ap table_by e in (
                 ap (λ (y : TableTaken). judged y.verdict) whole ∙ ap (λ (y : Taken). judged y.verdict) (sym mine),
-                ap (λ (y : TableTaken). station_of y.table own) whole ∙ is ∙ ap (λ (y : Taken). accepted y.station) (sym mine),
+                ap (λ (y : TableTaken). station_of y.table own) whole ∙ is ∙ ap (λ (y : Taken). Ok y.station) (sym mine),
               )
-          by (accepted x) e =
+          by (Ok x) e =
               let mine = station_by_lem ∙ ap station_by (sym read_as_lem ∙ e) in
               let whole = table_by_lem ∙ ap table_by e in (
                 ap (λ (y : TableTaken). judged y.verdict) whole ∙ ap (λ (y : Taken). judged y.verdict) (sym mine),
-                ap (λ (y : TableTaken). station_of y.table own) whole ∙ heard_row x e ∙ ap (λ (y : Taken). accepted y.station) (sym mine),
+                ap (λ (y : TableTaken). station_of y.table own) whole ∙ heard_row x e ∙ ap (λ (y : Taken). Ok y.station) (sym mine),
               )
 
     -- ---- any call for the station
 
     pub record Concerned (c : TableCall) : Type 0 where
       pub answers : table_answers t c ≡ row_answers r c
-      pub leaves : station_of (table_after t c) own ≡ accepted (row_after r c)
+      pub leaves : station_of (table_after t c) own ≡ Ok (row_after r c)
 
     -- its address is joined, so it cannot join again
-    again : (a : List ℕ) (channel : ℕ) → same a own ≡ true → join_means t a channel ≡ refused (pick (join_forbids a channel) Refusal.BadStart Refusal.AlreadyJoined)
+    again : (a : List ℕ) (channel : ℕ) → same a own ≡ true → join_means t a channel ≡ Err (pick (join_forbids a channel) Refusal.BadStart Refusal.AlreadyJoined)
     unfolding join_means
     again a channel e =
         ⊎_elim
-        (λ (y : join_forbids a channel ≡ true). sym (stop _ _ _ y) ∙ ap (λ (b : Bool). refused (pick b Refusal.BadStart Refusal.AlreadyJoined)) (sym y))
+        (λ (y : join_forbids a channel ≡ true). sym (stop _ _ _ y) ∙ ap (λ (b : Bool). Err (pick b Refusal.BadStart Refusal.AlreadyJoined)) (sym y))
         (λ (n : join_forbids a channel ≡ false).
         sym (past _ _ _ n (stop _ _ _ (ap (λ (b : List ℕ). is_joined t b) (same_is a own e) ∙ is_joined_lem)))
-        ∙ ap (λ (b : Bool). refused (pick b Refusal.BadStart Refusal.AlreadyJoined)) (sym n))
+        ∙ ap (λ (b : Bool). Err (pick b Refusal.BadStart Refusal.AlreadyJoined)) (sym n))
         (either (join_forbids a channel))
 
     -- a frame to it is read as by it
@@ -289,7 +288,7 @@ module _ (t : Table) (v : ValidTable t) (own : List ℕ) where
     concerned (take f) e stays = let w = taken_alike f e in record { answers = w.0; leaves = w.1 }
     concerned (question a n) e stays = record {
       answers =
-          ap (λ (o : Outcome Station). asked (asked_as (and_then o (λ s. accepted (permission_of s n)))))
+          ap (λ (o : Outcome Station). asked (asked_as (and_then o (λ s. Ok (permission_of s n)))))
           (ap (λ (b : List ℕ). station_of t b) (same_is a own e) ∙ is);
       leaves = is;
     }

@@ -1,12 +1,13 @@
 -- After a start that is not forbidden any calls of a table can be made (02, Six). Assumes nothing.
+use Rattle.std.specs.Prelude.{Ok, Err}
 use mathlib.Core.Bool.{true, false}
 use mathlib.Core.List.{List, []}
 use mathlib.Core.Path.{◌≡◌, refl, sym, ap, subst}
 use Prim.Native.Nat.{ℕ}
 use borrow.Fn.Kinds.{ended_of}
 use denote.Triple.Clauses.{at_exit}
-use Rattle.answer.specs.Checks.{Outcome, refused, accepted, checked, and_then}
-use Rattle.octets.specs.Writing.{wrote_told, wrote}
+use Rattle.answer.specs.Checks.{Outcome, checked, and_then}
+use Rattle.octets.specs.Writing.{wrote}
 use Rattle.reply.specs.Replies.{left_by, Replied}
 use Rattle.station.specs.declared.asking.Permission.{Permission}
 use Rattle.table.proofs.StaysValid.{valid_empty}
@@ -19,7 +20,7 @@ use Rattle.table.proofs.Table.start as Start
 use Rattle.table.proofs.Table.take as Take
 use Rattle.table.proofs.Table.tick as Tick
 use Rattle.table.specs.Replies.{tpc_reply_of, measurement_reply_of}
-use Rattle.table.specs.Tables.{empty, started, start_forbids, start_means, join_of, leave_of, tick_of, take_of, ask_means, asked_told}
+use Rattle.table.specs.Tables.{empty, started, start_forbids, start_means, join_of, leave_of, tick_of, take_of, ask_means}
 use Rattle.table.specs.Validity.{ValidTable}
 use Rattle.table.specs.declared.Table.{Table}
 use Rattle.claims.specs.Runs.{CanRun}
@@ -29,7 +30,7 @@ use Rattle.claims.proofs.Same.{answer}
 use Rattle.claims.proofs.TableMeans.{asked_as, table_answers, table_after, valid_after, table_meets}
 
 module _ (ap' : List ℕ) (b : ℕ) (may : start_forbids ap' b ≡ false) where
-  accepts : start_means ap' b ≡ accepted (empty ap' b)
+  accepts : start_means ap' b ≡ Ok (empty ap' b)
   unfolding start_means checked
   accepts = simp may
 
@@ -44,14 +45,14 @@ module _ (ap' : List ℕ) (b : ℕ) (may : start_forbids ap' b ≡ false) where
   )
 
 -- an answer to a question, and one to a reply, stands for its outcome
-told_asked : (o : Outcome Permission) → asked_told (asked_as o) ≡ o
-told_asked (refused r) = refl
-told_asked (accepted p) = refl
+told_asked : (o : Outcome Permission) → (asked_as o) ≡ o
+told_asked (Err r) = refl
+told_asked (Ok p) = refl
 
-told_answer : (o : Outcome ℕ) → wrote_told (answer o) ≡ o
+told_answer : (o : Outcome ℕ) → (answer o) ≡ o
 unfolding answer
-told_answer (refused r) = refl
-told_answer (accepted n) = refl
+told_answer (Err r) = refl
+told_answer (Ok n) = refl
 
 replied_can : (o : Outcome (List ℕ)) (buffer : List ℕ) → Replied o buffer (answer (and_then o (λ os. wrote true os 0 buffer))) (left_by o buffer)
 replied_can o buffer = record { answers = told_answer (and_then o (λ os. wrote true os 0 buffer)); leaves = refl }

@@ -1,5 +1,6 @@
 -- A station that joined a table and has not left: from its joining on its row is the record that its own calls make of a fresh station, and each of these calls is
 -- answered by that record, whatever else is called. Assumes nothing.
+use Rattle.std.specs.Prelude.{Ok, Err}
 use mathlib.Core.Bool.{Bool, true, false}
 use mathlib.Core.List.{List, [], ◌∷◌}
 use mathlib.Core.Logic.{⊎_elim}
@@ -9,8 +10,7 @@ use native.Mathlib.Omega.{arith}
 use borrow.Author.Tests.{not-false}
 use Rattle.answer.proofs.Booleans.{either}
 use Rattle.answer.proofs.Judged.{passed, kept}
-use Rattle.answer.specs.Checks.{Outcome, refused, accepted, pick}
-use Rattle.answer.specs.declared.Answer.{Answer}
+use Rattle.answer.specs.Checks.{Outcome, pick, Answer}
 use Rattle.row.specs.Rows.{seated, is_free}
 use Rattle.station.specs.Stations.{fresh, with_clock}
 use Rattle.station.specs.declared.Station.{Station}
@@ -63,12 +63,12 @@ module _ (t : Table) (own : List ℕ) (channel : ℕ) where
   abbrev seated_in : Table
   seated_in = with_rows t (on_first is_free (λ w. seated (newcomer t own channel)) t.rows)
 
-  of_outcome : (o : Outcome Table) → (stepped t o).answer ≡ Answer.Accepted → o ≡ accepted (stepped t o).table
-  of_outcome (refused r) e = absurd (let z : ◌≡◌ {A = ℕ} 0 1 = cc in omega arith)
-  of_outcome (accepted next) e = refl
+  of_outcome : (o : Outcome Table) → (stepped t o).answer ≡ Ok tt → o ≡ Ok (stepped t o).table
+  of_outcome (Err r) e = absurd (let z : ◌≡◌ {A = ℕ} 0 1 = cc in omega arith)
+  of_outcome (Ok next) e = refl
 
   -- an accepted joining seats a fresh station, whatever the row held before
-  pub join_seats : (join_of t own channel).answer ≡ Answer.Accepted → station_of (join_of t own channel).table own ≡ accepted (newcomer t own channel)
+  pub join_seats : (join_of t own channel).answer ≡ Ok tt → station_of (join_of t own channel).table own ≡ Ok (newcomer t own channel)
   unfolding join_means
   join_seats e =
       let is = of_outcome (join_means t own channel) e in
@@ -105,7 +105,7 @@ module _ (m : ℕ) (ap' : List ℕ) (b : ℕ) (own : List ℕ) (channel : ℕ) w
   recorded (c ∷ cs) = ap (λ (r : Station). row_after r c) (recorded cs) ∙ one_more c cs
 
   abbrev row_of : List TableMade → Outcome Station
-  row_of ms = accepted (kept_after row_means (record_from m s []) (calls_of ms))
+  row_of ms = Ok (kept_after row_means (record_from m s []) (calls_of ms))
 
   abbrev told_to : List TableMade → List TableMade
   told_to ms = made_after row_means (record_from m s []) (calls_of ms)
@@ -160,13 +160,13 @@ module _ (ap' : List ℕ) (b : ℕ) (own : List ℕ) (channel : ℕ) (before aft
   unfolding made_for history_of record_from kept_after made_after
   at_joining =
       let r = reaches ap' b before stay.joining stay.ran in
-      let e = does_means stay.joining (join own channel) (answered Answer.Accepted) stay.joined r.valid stay.joins in
+      let e = does_means stay.joining (join own channel) (answered (Ok tt)) stay.joined r.valid stay.joins in
       record {
         valid = e.valid;
         row =
             ap (λ (u : Table). station_of u own) e.leaves ∙ join_seats stay.joining own channel (answered_once (sym e.answers))
-            ∙ ap₂ (λ (a : List ℕ) (n : ℕ). accepted (with_clock (fresh own a n channel) stay.joining.clock)) r.its_ap r.its_interval
-            ∙ ap (λ (n : ℕ). accepted (with_clock (fresh own ap' b channel) n)) r.its_clock;
+            ∙ ap₂ (λ (a : List ℕ) (n : ℕ). Ok (with_clock (fresh own a n channel) stay.joining.clock)) r.its_ap r.its_interval
+            ∙ ap (λ (n : ℕ). Ok (with_clock (fresh own ap' b channel) n)) r.its_clock;
         told = refl;
       }
 

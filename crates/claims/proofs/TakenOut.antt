@@ -1,5 +1,6 @@
 -- An action body with vendors' elements reads as the same body with them taken out: every field, the number of elements and each by its index; a refusal is the same,
 -- and its place counts the octets that were passed over (02, Four). Assumes nothing.
+use Rattle.std.specs.Prelude.{Ok, Err}
 use mathlib.Core.Bool.{Bool, true, false, not}
 use mathlib.Core.List.{List, [], ◌∷◌, ◌++◌, append_cancel_left}
 use mathlib.Core.Logic.{◌↔◌}
@@ -11,7 +12,7 @@ use lib.Dec.{ltb, eqb}
 use lib.ListN.{length}
 use Rattle.action.specs.Openings.{fixed_fields, switch_fixed_fields}
 use Rattle.answer.proofs.Judged.{never}
-use Rattle.answer.specs.Checks.{Outcome, refused, accepted, pick, checked, and_then}
+use Rattle.answer.specs.Checks.{Outcome, pick, checked, and_then}
 use Rattle.answer.specs.Faults.{fault_at, Placed, placed_at}
 use Rattle.answer.specs.declared.Refusal.{Refusal}
 use Rattle.element.specs.ChannelSwitch.{switch_means}
@@ -39,7 +40,7 @@ abbrev nothing : ℕ → ℕ
 nothing d = 0
 
 -- what is at fault at once
-at_once_lem : (A : Type 0) (skipped : ℕ → ℕ) (n m : ℕ) (r : Refusal) → skipped 0 ≡ 0 → ReadAlike {A = A} skipped n m (refused (fault_at n r)) (refused (fault_at m r))
+at_once_lem : (A : Type 0) (skipped : ℕ → ℕ) (n m : ℕ) (r : Refusal) → skipped 0 ≡ 0 → ReadAlike {A = A} skipped n m (Err (fault_at n r)) (Err (fault_at m r))
 unfolding ReadAlike
 at_once_lem A skipped n m r e =
     let here : (k : ℕ) → fault_at k r ≡ fault_at (k + 0) r = λ k. ap (λ (j : ℕ). fault_at j r) (let z : k ≡ k + 0 = omega arith in z) in
@@ -47,7 +48,7 @@ at_once_lem A skipped n m r e =
 
 module _ {A : Type 0} (skipped : ℕ → ℕ) (n m : ℕ) where
   -- what is read
-  read_same : (a : A) → ReadAlike skipped n m (accepted a) (accepted a)
+  read_same : (a : A) → ReadAlike skipped n m (Ok a) (Ok a)
   unfolding ReadAlike
   read_same a = refl
 
@@ -55,10 +56,10 @@ module _ {A : Type 0} (skipped : ℕ → ℕ) (n m : ℕ) where
   further : (later : ℕ → ℕ) (i j n' m' : ℕ) (o p : Placed A) → ReadAlike later n' m' o p → n' ≡ n + i → m' ≡ m + j → ((d : ℕ) → skipped (i + d) + j ≡ i + later d)
       → ReadAlike skipped n m o p
   unfolding ReadAlike
-  further later i j n' m' (accepted a) (accepted b) e ni mj h = e
-  further later i j n' m' (accepted a) (refused y) e ni mj h = e
-  further later i j n' m' (refused z) (accepted b) e ni mj h = e
-  further later i j n' m' (refused z) (refused y) (d, k, r, e, f, g) ni mj h = (
+  further later i j n' m' (Ok a) (Ok b) e ni mj h = e
+  further later i j n' m' (Ok a) (Err y) e ni mj h = e
+  further later i j n' m' (Err z) (Ok b) e ni mj h = e
+  further later i j n' m' (Err z) (Err y) (d, k, r, e, f, g) ni mj h = (
     i + d,
     j + k,
     r,
@@ -104,8 +105,8 @@ module _ {A : Type 0} (s : Sort A) where
         → ReadAlike skipped n m
         (and_then (placed_at n o) (λ a. listed s (past_element n c) hs (before ++ (a ∷ []))))
         (and_then (placed_at m o) (λ a. listed s (past_element m c) gs (before ++ (a ∷ []))))
-    by_next (refused r) = at_once_lem _ skipped n m r none
-    by_next (accepted a) = further skipped n m later (2 + length c) (2 + length c) _ _ _ _ (rest (before ++ (a ∷ []))) (omega arith) (omega arith) past
+    by_next (Err r) = at_once_lem _ skipped n m r none
+    by_next (Ok a) = further skipped n m later (2 + length c) (2 + length c) _ _ _ _ (rest (before ++ (a ∷ []))) (omega arith) (omega arith) past
 
     more_alike : ReadAlike skipped n m (listed s n (more id c hs) before) (listed s m (more id c gs) before)
     unfolding listed
@@ -118,9 +119,9 @@ module _ {A : Type 0} (s : Sort A) where
         (by_next (next_in s (more id c hs) before))
 
   -- what is the last thing there is
-  alone : (n m : ℕ) (make : A → List A) (o : Outcome A) → ReadAlike nothing n m (and_then (placed_at n o) (λ a. accepted (make a))) (and_then (placed_at m o) (λ a. accepted (make a)))
-  alone n m make (refused r) = at_once_lem _ nothing n m r refl
-  alone n m make (accepted a) = read_same nothing n m (make a)
+  alone : (n m : ℕ) (make : A → List A) (o : Outcome A) → ReadAlike nothing n m (and_then (placed_at n o) (λ a. Ok (make a))) (and_then (placed_at m o) (λ a. Ok (make a)))
+  alone n m make (Err r) = at_once_lem _ nothing n m r refl
+  alone n m make (Ok a) = read_same nothing n m (make a)
 
   -- the same octets from two places on
   shifted : (hs : Handed) (n m : ℕ) (before : List A) → ReadAlike nothing n m (listed s n hs before) (listed s m hs before)
@@ -129,8 +130,8 @@ module _ {A : Type 0} (s : Sort A) where
     where
       by : (t : Bool)
           → ReadAlike nothing n m
-          (pick t (and_then (placed_at n (next_in s end before)) (λ a. accepted (a ∷ []))) (accepted before))
-          (pick t (and_then (placed_at m (next_in s end before)) (λ a. accepted (a ∷ []))) (accepted before))
+          (pick t (and_then (placed_at n (next_in s end before)) (λ a. Ok (a ∷ []))) (Ok before))
+          (pick t (and_then (placed_at m (next_in s end before)) (λ a. Ok (a ∷ []))) (Ok before))
       by true = alone n m (λ a. a ∷ []) (next_in s end before)
       by false = read_same nothing n m before
   shifted cut_header n m before = alone n m (λ a. before ++ (a ∷ [])) (next_in s cut_header before)
@@ -219,7 +220,7 @@ module _ {A : Type 0} (id : ℕ) (means : List ℕ → Outcome A) where
       by false v on =
           subst
           (λ (t : Bool). ReadAlike (vendor_octets (x ∷ xs)) n m
-          (refused (fault_at n Refusal.LeftOver))
+          (Err (fault_at n Refusal.LeftOver))
           (nothing_left m (pick t (passed x.contents (passing (walked_as (not_of_id vendor_id xs) es))) (more x.id x.contents (passing (walked_as (not_of_id vendor_id xs) es)))) a))
           (sym v)
           (at_once_lem _ (vendor_octets (x ∷ xs)) n m Refusal.LeftOver (none_yet x xs))
@@ -235,14 +236,14 @@ module _ {A : Type 0} (id : ℕ) (means : List ℕ → Outcome A) where
         read : (o : Outcome A)
             → ReadAlike skipped n n
             (and_then (placed_at n o) (nothing_left (past_element n c) hs)) (and_then (placed_at n o) (nothing_left (past_element n c) gs))
-        read (refused r) = at_once_lem _ skipped n n r none
-        read (accepted a) = further skipped n n later (2 + length c) (2 + length c) _ _ _ _ (rest a) (omega arith) (omega arith) past
+        read (Err r) = at_once_lem _ skipped n n r none
+        read (Ok a) = further skipped n n later (2 + length c) (2 + length c) _ _ _ _ (rest a) (omega arith) (omega arith) past
 
         by : (t : Bool)
             → ReadAlike skipped n n
-            (and_then {A = Standing} (placed_at n (pick (not t) (refused Refusal.OtherElement) (accepted (record { contents = c; rest = hs }))))
+            (and_then {A = Standing} (placed_at n (pick (not t) (Err Refusal.OtherElement) (Ok (record { contents = c; rest = hs }))))
             (λ s. and_then (placed_at n (means s.contents)) (nothing_left (past_element n s.contents) s.rest)))
-            (and_then {A = Standing} (placed_at n (pick (not t) (refused Refusal.OtherElement) (accepted (record { contents = c; rest = gs }))))
+            (and_then {A = Standing} (placed_at n (pick (not t) (Err Refusal.OtherElement) (Ok (record { contents = c; rest = gs }))))
             (λ s. and_then (placed_at n (means s.contents)) (nothing_left (past_element n s.contents) s.rest)))
         by true = read (means c)
         by false = at_once_lem _ skipped n n Refusal.OtherElement none
@@ -256,9 +257,9 @@ module _ {A : Type 0} (id : ℕ) (means : List ℕ → Outcome A) where
       where
         by : (t : Bool)
             → ReadAlike nothing n n
-            (and_then {A = Standing} (placed_at n (pick t (refused Refusal.OtherElement) (refused Refusal.ElementCut)))
+            (and_then {A = Standing} (placed_at n (pick t (Err Refusal.OtherElement) (Err Refusal.ElementCut)))
             (λ s. and_then (placed_at n (means s.contents)) (nothing_left (past_element n s.contents) s.rest)))
-            (and_then {A = Standing} (placed_at n (pick t (refused Refusal.OtherElement) (refused Refusal.ElementCut)))
+            (and_then {A = Standing} (placed_at n (pick t (Err Refusal.OtherElement) (Err Refusal.ElementCut)))
             (λ s. and_then (placed_at n (means s.contents)) (nothing_left (past_element n s.contents) s.rest)))
         by true = at_once_lem _ nothing n n Refusal.OtherElement refl
         by false = at_once_lem _ nothing n n Refusal.ElementCut refl
@@ -288,7 +289,7 @@ module _ {A : Type 0} (id : ℕ) (means : List ℕ → Outcome A) where
         (alike_single t.items (elements_in t.rest)))
 
 -- what is left of an accepted body after its fixed fields holds its records
-held : (b : Body) (run : List ℕ) → action_means (lead b ++ run) ≡ accepted b → Holds b run
+held : (b : Body) (run : List ℕ) → action_means (lead b ++ run) ≡ Ok b → Holds b run
 held b run e = let p = parts (lead b ++ run) b e in subst (Holds b) (append_cancel_left (lead b) p.run run (sym p.front)) p.holds
 
 with_token : {P A B : Type 0} → A ↔ B → (P × A) ↔ (P × B)
@@ -296,12 +297,12 @@ with_token f = (λ x. (x.0, f.0 x.1), λ x. (x.0, f.1 x.1))
 
 -- ---- a whole body: it is accepted with them as what it is accepted as without them, and only so
 
-same_value : {A : Type 0} (skipped : ℕ → ℕ) (n m : ℕ) (o p : Placed A) (a : A) → ReadAlike skipped n m o p → (o ≡ accepted a) ↔ (p ≡ accepted a)
+same_value : {A : Type 0} (skipped : ℕ → ℕ) (n m : ℕ) (o p : Placed A) (a : A) → ReadAlike skipped n m o p → (o ≡ Ok a) ↔ (p ≡ Ok a)
 unfolding ReadAlike
-same_value skipped n m (accepted b) (accepted c) a e = (λ f. ap accepted (sym e) ∙ f, λ f. ap accepted e ∙ f)
-same_value skipped n m (accepted b) (refused y) a e = absurd e
-same_value skipped n m (refused x) (accepted c) a e = absurd e
-same_value skipped n m (refused x) (refused y) a e = (λ f. absurd (never f), λ f. absurd (never f))
+same_value skipped n m (Ok b) (Ok c) a e = (λ f. ap Ok (sym e) ∙ f, λ f. ap Ok e ∙ f)
+same_value skipped n m (Ok b) (Err y) a e = absurd e
+same_value skipped n m (Err x) (Ok c) a e = absurd e
+same_value skipped n m (Err x) (Err y) a e = (λ f. absurd (never f), λ f. absurd (never f))
 
 module _ (run other : List ℕ) (t : TakenOut run other) where
   holds_alike : (b : Body) → Holds b run ↔ Holds b other
@@ -311,5 +312,5 @@ module _ (run other : List ℕ) (t : TakenOut run other) where
   holds_alike (tpc_report token r) = same_value _ _ _ _ _ r (single_taken_out 35 tpc_report_means fixed_fields run other t)
   holds_alike (switch s) = same_value _ _ _ _ _ s (single_taken_out 37 switch_means switch_fixed_fields run other t)
 
-  pub taken_out : (b : Body) → (action_means (lead b ++ run) ≡ accepted b) ↔ (action_means (lead b ++ other) ≡ accepted b)
+  pub taken_out : (b : Body) → (action_means (lead b ++ run) ≡ Ok b) ↔ (action_means (lead b ++ other) ≡ Ok b)
   taken_out b = (λ e. reads other b ((holds_alike b).0 (held b run e)), λ e. reads run b ((holds_alike b).1 (held b other e)))

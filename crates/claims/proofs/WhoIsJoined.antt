@@ -1,4 +1,5 @@
 -- Who is joined, and so exactly which calls are refused with 24, 25 and 26, by the calls of a table and their answers alone (02, Six). Assumes nothing.
+use Rattle.std.specs.Prelude.{Ok, Err}
 use mathlib.Core.Bool.{Bool, true, false, not, ◌&&◌}
 use mathlib.Core.List.{List, [], ◌∷◌, map}
 use mathlib.Core.Logic.{◌↔◌, ⊎_elim}
@@ -10,8 +11,7 @@ use lib.Dec.{eqb}
 use lib.ListN.{replicate}
 use Rattle.answer.proofs.Booleans.{clash, either}
 use Rattle.answer.proofs.Judged.{passed, kept}
-use Rattle.answer.specs.Checks.{Outcome, refused, accepted, pick, ◌⇒◌, checked, and_then, answer_of}
-use Rattle.answer.specs.declared.Answer.{Answer}
+use Rattle.answer.specs.Checks.{Outcome, pick, ◌⇒◌, checked, and_then, answer_of, Answer}
 use Rattle.answer.specs.declared.Refusal.{Refusal}
 use Rattle.frame.specs.Frames.{Sent}
 use Rattle.header.proofs.Addresses.{same_is}
@@ -29,7 +29,6 @@ use Rattle.table.proofs.StaysValid.{hearing_seat, ticked_seat}
 use Rattle.table.specs.Tables.{with_rows, some_row, on_first, is_joined, station_of, stepped, newcomer, join_forbids, join_means, leave_means, tick_means, hearing, ask_means}
 use Rattle.table.specs.Validity.{ValidTable}
 use Rattle.table.specs.declared.Table.{Table}
-use Rattle.table.specs.declared.asking.Asked.{Asked}
 use Rattle.claims.specs.Joinings.{accepts, comes, goes, joined_after, joined_in, accepted_of, anybody, is_full, join_answer, leave_answer}
 use Rattle.claims.specs.Runs.{GoesOn, Ran}
 use Rattle.claims.specs.TableRuns.{TableCall, join, leave, tick, take, question, tpc, measurement, TableAnswer, answered, asked, TableMade, started_with, Does, table}
@@ -62,8 +61,8 @@ module _ (t : Table) (v : ValidTable t) where
       where
         by : (o : Outcome Table) → join_means t a channel ≡ o
             → is_joined (stepped t o).table own ≡ joined_after own (join a channel) (answered (stepped t o).answer) (is_joined t own)
-        by (refused r) e = refl
-        by (accepted next) e =
+        by (Err r) e = refl
+        by (Ok next) e =
             ⊎_elim
             (λ (y : same a own ≡ true).
             ap (λ (b : List ℕ). is_joined next b) (sym (same_is a own y))
@@ -76,7 +75,7 @@ module _ (t : Table) (v : ValidTable t) where
             ∙ sym (some_found (is_of own) t.rows) ∙ ap (λ (b : Bool). pick b true (is_joined t own)) (sym n))
             (either (same a own))
 
-    leaver : (a : List ℕ) (next : Table) → leave_means t a ≡ accepted next → (is_joined t a ≡ true) × (with_rows t (on_first (is_of a) (λ w. free) t.rows) ≡ next)
+    leaver : (a : List ℕ) (next : Table) → leave_means t a ≡ Ok next → (is_joined t a ≡ true) × (with_rows t (on_first (is_of a) (λ w. free) t.rows) ≡ next)
     unfolding leave_means
     leaver a next e = let w = passed _ _ _ e in (not-false (is_joined t a) w.0, kept _ w.1)
 
@@ -85,8 +84,8 @@ module _ (t : Table) (v : ValidTable t) where
       where
         by : (o : Outcome Table) → leave_means t a ≡ o
             → is_joined (stepped t o).table own ≡ joined_after own (leave a) (answered (stepped t o).answer) (is_joined t own)
-        by (refused r) e = refl
-        by (accepted next) e =
+        by (Err r) e = refl
+        by (Ok next) e =
             ⊎_elim
             (λ (y : same a own ≡ true).
             ap₂ (λ (u : Table) (b : List ℕ). is_joined u b) (sym (leaver a next e).1) (sym (same_is a own y)) ∙ none_left a t.rows v.apart
@@ -129,7 +128,7 @@ module _ (t : Table) (v : ValidTable t) where
       by true = ap (λ (n : ℕ). n + leaves) (seats_same t.rows vs s) ∙ e
       by false = ap (λ (n : ℕ). n + leaves) (seats_same t.rows vs s) ∙ e
 
-  joiner : (a : List ℕ) (channel : ℕ) (next : Table) → join_means t a channel ≡ accepted next
+  joiner : (a : List ℕ) (channel : ℕ) (next : Table) → join_means t a channel ≡ Ok next
       → (some_row is_free t.rows ≡ true) × (with_rows t (on_first is_free (λ w. seated (newcomer t a channel)) t.rows) ≡ next)
   unfolding join_means
   joiner a channel next e =
@@ -141,8 +140,8 @@ module _ (t : Table) (v : ValidTable t) where
       by : (o : Outcome Table) → join_means t a channel ≡ o
           → seats (stepped t o).table.rows + pick (accepts (answered (stepped t o).answer) && false) (suc leaves) leaves
           ≡ pick (accepts (answered (stepped t o).answer) && true) (suc joins) joins
-      by (refused r) g = e
-      by (accepted next) g =
+      by (Err r) g = e
+      by (Ok next) g =
           let w = joiner a channel next g in
           let more = one_more (newcomer t a channel) t.rows w.0 in
           ap (λ (u : Table). seats u.rows + leaves) (sym w.1) ∙ (let sum : seats (on_first is_free (λ w. seated (newcomer t a channel)) t.rows) + leaves ≡ suc joins = omega (arith, more, e) in sum)
@@ -153,8 +152,8 @@ module _ (t : Table) (v : ValidTable t) where
       by : (o : Outcome Table) → leave_means t a ≡ o
           → seats (stepped t o).table.rows + pick (accepts (answered (stepped t o).answer) && true) (suc leaves) leaves
           ≡ pick (accepts (answered (stepped t o).answer) && false) (suc joins) joins
-      by (refused r) g = e
-      by (accepted next) g =
+      by (Err r) g = e
+      by (Ok next) g =
           let w = leaver a a next g in
           let less = one_less a t.rows w.0 in
           ap (λ (u : Table). seats u.rows + suc leaves) (sym w.1) ∙ (let sum : seats (on_first (is_of a) (λ w. free) t.rows) + suc leaves ≡ joins = omega (arith, less, e) in sum)
@@ -225,7 +224,7 @@ module _ (ap' : List ℕ) (b : ℕ) (ms : List TableMade) (t : Table) (ran : Ran
       (does_means t (join own channel) r next valid does).answers ∙ ap answered (by_rows ∙ ap₂ (by_all (join_forbids own channel)) (joined_exactly own) full_exactly ∙ ap (λ (bad : Bool). by_all bad (joined_in own ms) (is_full ms)) forbids)
     where
       by_all : Bool → Bool → Bool → Answer
-      by_all bad again full = answer_of {A = Unit {0}} (checked (bad ⇒ Refusal.BadStart ∷ again ⇒ Refusal.AlreadyJoined ∷ full ⇒ Refusal.NoFreeRow ∷ []) (accepted tt))
+      by_all bad again full = answer_of {A = Unit {0}} (checked (bad ⇒ Refusal.BadStart ∷ again ⇒ Refusal.AlreadyJoined ∷ full ⇒ Refusal.NoFreeRow ∷ []) (Ok tt))
 
       forbids : join_forbids own channel ≡ station_forbids own ap' b channel
       forbids =
@@ -235,9 +234,9 @@ module _ (ap' : List ℕ) (b : ℕ) (ms : List TableMade) (t : Table) (ran : Ran
       by_rows : (stepped t (join_means t own channel)).answer ≡ by_all (join_forbids own channel) (is_joined t own) (not (some_row is_free t.rows))
       by_rows = each (join_forbids own channel) (is_joined t own) (not (some_row is_free t.rows))
         where
-          each : (x y z : Bool) → (stepped t (pick x (refused Refusal.BadStart) (pick y (refused Refusal.AlreadyJoined) (pick z (refused Refusal.NoFreeRow)
-              (accepted (with_rows t (on_first is_free (λ w. seated (newcomer t own channel)) t.rows))))))).answer
-              ≡ answer_of {A = Unit {0}} (pick x (refused Refusal.BadStart) (pick y (refused Refusal.AlreadyJoined) (pick z (refused Refusal.NoFreeRow) (accepted tt))))
+          each : (x y z : Bool) → (stepped t (pick x (Err Refusal.BadStart) (pick y (Err Refusal.AlreadyJoined) (pick z (Err Refusal.NoFreeRow)
+              (Ok (with_rows t (on_first is_free (λ w. seated (newcomer t own channel)) t.rows))))))).answer
+              ≡ answer_of {A = Unit {0}} (pick x (Err Refusal.BadStart) (pick y (Err Refusal.AlreadyJoined) (pick z (Err Refusal.NoFreeRow) (Ok tt))))
           each true y z = refl
           each false true z = refl
           each false false true = refl
@@ -248,59 +247,59 @@ module _ (ap' : List ℕ) (b : ℕ) (ms : List TableMade) (t : Table) (ran : Ran
   leave_exactly own r next does = (does_means t (leave own) r next valid does).answers ∙ ap answered (by_rows ∙ ap by_test_lem (joined_exactly own))
     where
       by_test_lem : Bool → Answer
-      by_test_lem joined = answer_of {A = Unit {0}} (checked (not joined ⇒ Refusal.NotJoined ∷ []) (accepted tt))
+      by_test_lem joined = answer_of {A = Unit {0}} (checked (not joined ⇒ Refusal.NotJoined ∷ []) (Ok tt))
 
       by_rows : (stepped t (leave_means t own)).answer ≡ by_test_lem (is_joined t own)
       by_rows = each (not (is_joined t own))
         where
-          each : (x : Bool) → (stepped t (pick x (refused Refusal.NotJoined) (accepted (with_rows t (on_first (is_of own) (λ w. free) t.rows))))).answer
-              ≡ answer_of {A = Unit {0}} (pick x (refused Refusal.NotJoined) (accepted tt))
+          each : (x : Bool) → (stepped t (pick x (Err Refusal.NotJoined) (Ok (with_rows t (on_first (is_of own) (λ w. free) t.rows))))).answer
+              ≡ answer_of {A = Unit {0}} (pick x (Err Refusal.NotJoined) (Ok tt))
           each true = refl
           each false = refl
 
   -- of a station that is joined TableDemand3 says what else is answered
-  pub question_exactly : (own : List ℕ) (n : ℕ) (r : TableAnswer) (next : Table) → Does t (question own n) r next → (r ≡ asked (Asked.Refused Refusal.NotJoined)) ↔ (joined_in own ms ≡ false)
+  pub question_exactly : (own : List ℕ) (n : ℕ) (r : TableAnswer) (next : Table) → Does t (question own n) r next → (r ≡ asked (Err Refusal.NotJoined)) ↔ (joined_in own ms ≡ false)
   unfolding ask_means
   question_exactly own n r next does = (λ e. by (station_of t own) refl e, λ none. is ∙ ap answer_by (not_found (is_of own) t.rows (joined_exactly own ∙ none)))
     where
       answer_by : Outcome Station → TableAnswer
-      answer_by o = asked (asked_as (and_then o (λ s. accepted (permission_of s n))))
+      answer_by o = asked (asked_as (and_then o (λ s. Ok (permission_of s n))))
 
       is : r ≡ answer_by (station_of t own)
       is = (does_means t (question own n) r next valid does).answers
 
-      told_never : {A : Type 0} {p : Permission} {x : Refusal} → asked (Asked.Told p) ≡ asked (Asked.Refused x) → A
+      told_never : {A : Type 0} {p : Permission} {x : Refusal} → asked (Ok p) ≡ asked (Err x) → A
       told_never {A} {p} {x} z = absurd (let f : ◌≡◌ {A = ℕ} 0 1 = cc in omega arith)
 
-      by : (o : Outcome Station) → station_of t own ≡ o → r ≡ asked (Asked.Refused Refusal.NotJoined) → joined_in own ms ≡ false
-      by (refused x) g e = sym (joined_exactly own) ∙ some_found (is_of own) t.rows ∙ ap is_in g
-      by (accepted s) g e = told_never (sym (ap answer_by g) ∙ sym is ∙ e)
+      by : (o : Outcome Station) → station_of t own ≡ o → r ≡ asked (Err Refusal.NotJoined) → joined_in own ms ≡ false
+      by (Err x) g e = sym (joined_exactly own) ∙ some_found (is_of own) t.rows ∙ ap is_in g
+      by (Ok s) g e = told_never (sym (ap answer_by g) ∙ sym is ∙ e)
 
   -- "A row that was left is used again": right after a leaving there is room
-  pub used_again : (a : List ℕ) (left : Table) → Does t (leave a) (answered Answer.Accepted) left
+  pub used_again : (a : List ℕ) (left : Table) → Does t (leave a) (answered (Ok tt)) left
       → (own : List ℕ) (channel : ℕ) (r : TableAnswer) (next : Table) → Does left (join own channel) r next
-      → station_forbids own ap' b channel ≡ false → is_joined left own ≡ false → r ≡ answered Answer.Accepted
+      → station_forbids own ap' b channel ≡ false → is_joined left own ≡ false → r ≡ answered (Ok tt)
   unfolding join_means checked
   used_again a left leaves own channel r next does may none =
-      let m = does_means t (leave a) (answered Answer.Accepted) left valid leaves in
+      let m = does_means t (leave a) (answered (Ok tt)) left valid leaves in
       (does_means left (join own channel) r next m.valid does).answers
       ∙ ap answered (by (join_forbids own channel) (is_joined left own) (not (some_row is_free left.rows)) (sym (same_forbids left m.valid own channel) ∙ ap₂ (λ (p : List ℕ) (i : ℕ). station_forbids own p i channel) (its_ap m) (its_interval m) ∙ may) none (room m))
     where
       by : (x y z : Bool) → x ≡ false → y ≡ false → z ≡ false
-          → (stepped left (pick x (refused Refusal.BadStart) (pick y (refused Refusal.AlreadyJoined) (pick z (refused Refusal.NoFreeRow)
-          (accepted (with_rows left (on_first is_free (λ w. seated (newcomer left own channel)) left.rows))))))).answer ≡ Answer.Accepted
+          → (stepped left (pick x (Err Refusal.BadStart) (pick y (Err Refusal.AlreadyJoined) (pick z (Err Refusal.NoFreeRow)
+          (Ok (with_rows left (on_first is_free (λ w. seated (newcomer left own channel)) left.rows))))))).answer ≡ Ok tt
       by true y z e f g = clash e
       by false true z e f g = clash f
       by false false true e f g = clash g
       by false false false e f g = refl
 
-      its_ap : TableMeant t (leave a) (answered Answer.Accepted) left → left.ap ≡ ap'
+      its_ap : TableMeant t (leave a) (answered (Ok tt)) left → left.ap ≡ ap'
       its_ap m = ap (λ (u : Table). u.ap) m.leaves ∙ ap_kept t (leave a) ∙ (reaches ap' b ms t ran).its_ap
 
-      its_interval : TableMeant t (leave a) (answered Answer.Accepted) left → left.interval ≡ b
+      its_interval : TableMeant t (leave a) (answered (Ok tt)) left → left.interval ≡ b
       its_interval m = ap (λ (u : Table). u.interval) m.leaves ∙ interval_kept t (leave a) ∙ (reaches ap' b ms t ran).its_interval
 
-      room : TableMeant t (leave a) (answered Answer.Accepted) left → not (some_row is_free left.rows) ≡ false
+      room : TableMeant t (leave a) (answered (Ok tt)) left → not (some_row is_free left.rows) ≡ false
       room m =
           let w = leaver t valid a a left (left_accepted m) in
           let less = one_less a t.rows w.0 in
@@ -308,12 +307,12 @@ module _ (ap' : List ℕ) (b : ℕ) (ms : List TableMade) (t : Table) (ran : Ran
           none_free left.rows ∙ ap (eqb (seats left.rows)) m.valid.sixteen
           ∙ ne_eqb (seats left.rows) 16 (λ e. let same = ap (λ (u : Table). seats u.rows) w.1 in omega (arith, e, same, less, few))
         where
-          left_accepted : TableMeant t (leave a) (answered Answer.Accepted) left → leave_means t a ≡ accepted left
+          left_accepted : TableMeant t (leave a) (answered (Ok tt)) left → leave_means t a ≡ Ok left
           left_accepted m = of_outcome (leave_means t a) (sym m.answers) m.leaves
             where
-              refused_never : {A : Type 0} {x : Refusal} → answered (Answer.Refused x) ≡ answered Answer.Accepted → A
+              refused_never : {A : Type 0} {x : Refusal} → answered (Err x) ≡ answered (Ok tt) → A
               refused_never {A} {x} z = absurd (let f : ◌≡◌ {A = ℕ} 0 1 = cc in omega arith)
 
-              of_outcome : (o : Outcome Table) → answered (stepped t o).answer ≡ answered Answer.Accepted → left ≡ (stepped t o).table → o ≡ accepted left
-              of_outcome (refused x) e f = refused_never e
-              of_outcome (accepted u) e f = ap accepted (sym f)
+              of_outcome : (o : Outcome Table) → answered (stepped t o).answer ≡ answered (Ok tt) → left ≡ (stepped t o).table → o ≡ Ok left
+              of_outcome (Err x) e f = refused_never e
+              of_outcome (Ok u) e f = ap Ok (sym f)

@@ -1,5 +1,6 @@
 -- Whoever is joined, by the calls of a table and their answers, has a latest joining and has not left since: so what is proved of a stay is proved of everybody who is
 -- joined (02, Six). Assumes nothing.
+use Rattle.std.specs.Prelude.{Ok, Err}
 use mathlib.Core.Bool.{Bool, true, false, not, ◌&&◌}
 use mathlib.Core.List.{List, [], ◌∷◌}
 use mathlib.Core.Logic.{⊎_elim}
@@ -7,10 +8,8 @@ use mathlib.Core.Path.{◌≡◌, refl, sym, ap, ◌∙◌, subst}
 use Prim.Native.Nat.{ℕ}
 use native.Mathlib.Omega.{arith}
 use Rattle.answer.proofs.Booleans.{clash, either, both}
-use Rattle.answer.specs.Checks.{accepted, pick, ◌⇒◌, checked, answer_of}
-use Rattle.answer.specs.declared.Answer.{Answer}
+use Rattle.answer.specs.Checks.{pick, ◌⇒◌, checked, answer_of, Answer}
 use Rattle.answer.specs.declared.Refusal.{Refusal}
-use Rattle.answer.specs.declared.Verdict.{Verdict}
 use Rattle.header.proofs.Addresses.{same_self, same_is}
 use Rattle.header.specs.Headers.{same}
 use Rattle.table.specs.declared.Table.{Table}
@@ -19,16 +18,17 @@ use Rattle.claims.specs.Runs.{GoesOn, no_calls, called, Ran}
 use Rattle.claims.specs.TableHistories.{Leaves, NeverLeaves, StaySince}
 use Rattle.claims.specs.TableRuns.{TableCall, join, leave, tick, take, question, tpc, measurement, TableAnswer, answered, judged, asked, replied, TableMade, started_with, TableStarts, Does, table}
 use Rattle.claims.proofs.WhoIsJoined.{leave_exactly}
+use Rattle.answer.specs.Faults.{Verdict}
 
 judged_never : {A : Type 0} {x : Answer} {v : Verdict} → answered x ≡ judged v → A
 judged_never {A} {x} {v} e = absurd (let f : ◌≡◌ {A = ℕ} 0 1 = cc in omega arith)
 
 -- an accepted joining is answered so
-accepted_join : (t next : Table) (a : List ℕ) (channel : ℕ) (r : TableAnswer) → Does t (join a channel) r next → accepts r ≡ true → r ≡ answered Answer.Accepted
-accepted_join t next a channel (answered Answer.Accepted) does e = refl
-accepted_join t next a channel (answered (Answer.Refused x)) does e = clash (sym e)
-accepted_join t next a channel (judged Verdict.Accepted) (κs, x, y, z, promise, (self, address, number, told, result)) e = judged_never told
-accepted_join t next a channel (judged (Verdict.Refused x)) does e = clash (sym e)
+accepted_join : (t next : Table) (a : List ℕ) (channel : ℕ) (r : TableAnswer) → Does t (join a channel) r next → accepts r ≡ true → r ≡ answered (Ok tt)
+accepted_join t next a channel (answered (Ok tt)) does e = refl
+accepted_join t next a channel (answered (Err x)) does e = clash (sym e)
+accepted_join t next a channel (judged (Ok tt)) (κs, x, y, z, promise, (self, address, number, told, result)) e = judged_never told
+accepted_join t next a channel (judged (Err x)) does e = clash (sym e)
 accepted_join t next a channel (asked x) does e = clash (sym e)
 accepted_join t next a channel (replied w buffer) does e = clash (sym e)
 
@@ -49,7 +49,7 @@ module _ (ap' : List ℕ) (b : ℕ) (first : Table) (starts : TableStarts (start
               joining = before;
               ran = (first, starts, rest);
               joined = t;
-              joins = subst (λ (o : List ℕ). Does before (join o channel) (answered Answer.Accepted) t) mine (subst (λ (x : TableAnswer). Does before (join a channel) x t) told does);
+              joins = subst (λ (o : List ℕ). Does before (join o channel) (answered (Ok tt)) t) mine (subst (λ (x : TableAnswer). Does before (join a channel) x t) told does);
               goes_on = no_calls;
               never_leaves = tt;
             };
@@ -68,12 +68,12 @@ module _ (ap' : List ℕ) (b : ℕ) (first : Table) (starts : TableStarts (start
   unfolding checked
   not_leaving (leave a) r ms before t rest does joined stays is =
       let told : r ≡ answered (leave_answer ms a) = leave_exactly ap' b ms before (first, starts, rest) a r t does in
-      let allowed : leave_answer ms a ≡ Answer.Accepted = ap (leave_answer ms) is ∙ ap answer_by joined in
+      let allowed : leave_answer ms a ≡ Ok tt = ap (leave_answer ms) is ∙ ap answer_by joined in
       let its_own : same a own ≡ true = ap (λ (o : List ℕ). same o own) is ∙ same_self own in
       clash (sym its_own ∙ ap (λ (x : TableAnswer). accepts x && same a own) (sym (told ∙ ap answered allowed)) ∙ stays)
     where
       answer_by : Bool → Answer
-      answer_by x = answer_of {A = Unit {0}} (checked (not x ⇒ Refusal.NotJoined ∷ []) (accepted tt))
+      answer_by x = answer_of {A = Unit {0}} (checked (not x ⇒ Refusal.NotJoined ∷ []) (Ok tt))
   not_leaving (join a channel) r ms before t rest does joined stays is = is
   not_leaving (tick n) r ms before t rest does joined stays is = is
   not_leaving (take f) r ms before t rest does joined stays is = is

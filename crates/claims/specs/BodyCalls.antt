@@ -1,8 +1,7 @@
 -- An action body as a caller writes it (01, "Octets"): a measurement body by one call of `append` for each element, a body of one
 -- element by one call of its writer.
-use Rattle.std.specs.Prelude.{Bool, true, not, List, ◌++◌, ℕ, eqb, length, drop}
+use Rattle.std.specs.Prelude.{Bool, true, not, List, ◌++◌, ℕ, eqb, length, drop, Ok}
 use Rattle.single_body.specs.Singles.{tpc_request_body, tpc_report_body, switch_body}
-use Rattle.answer.specs.Checks.{accepted}
 use Rattle.element.specs.ChannelSwitch.{switch_may}
 use Rattle.frame.specs.Actions.{Body, requests, reports, tpc_request, tpc_report, switch}
 use Rattle.measurement_body.specs.Calls.{Buffer, appends}
@@ -24,4 +23,4 @@ body_calls (switch s) buffer = once (switch_may s) (switch_body s) buffer
 
 -- every call accepted, these octets in front, and the rest of the buffer as it was
 abbrev pub holding : List ℕ → List ℕ → Buffer
-holding os buffer = record { used = accepted (length os); octets = os ++ drop (length os) buffer }
+holding os buffer = record { used = Ok (length os); octets = os ++ drop (length os) buffer }

@@ -1,6 +1,6 @@
 -- Calls that are made in either way (02, Eight: "Offer the advance and the ask so that the record is lent and changed there, beside the present way; both give the same station and
 -- answer"): by value, on a station that is lent, and on octets that hold one. Of each call no more is known than what its function's own promise allows.
-use Rattle.std.specs.Prelude.{List, ◌≡◌, ℕ, ◌<◌, ◌^◌, length}
+use Rattle.std.specs.Prelude.{List, ◌≡◌, ℕ, ◌<◌, ◌^◌, length, Ok}
 use seplogic.Ra.Ura.{Ura}
 use base.Logic.{SProp, ent}
 use prog.Memory.{Memory}
@@ -10,8 +10,6 @@ use contract.Lifetimes.{Lfts}
 use contract.Monad.{Fun, fact}
 use denote.Triple.Clauses.{AtExit}
 use denote.Triple.Entry.{Args, Res}
-use Rattle.answer.specs.declared.Answer.{Answer}
-use Rattle.answer.specs.declared.Verdict.{Verdict}
 use Rattle.capture_record.specs.declared.entry.Settings.{Settings}
 use Rattle.lent.specs.contracts.advance as LentAdvance
 use Rattle.lent.specs.contracts.ask as LentAsk
@@ -22,10 +20,11 @@ use Rattle.station_record.proofs.advance as RecordAdvance
 use Rattle.station_record.proofs.ask as RecordAsk
 use Rattle.station_record.proofs.start as RecordStart
 use Rattle.station_record.proofs.take as RecordTake
-use Rattle.station_record.specs.declared.Asked.{Asked}
 use Rattle.claims.specs.Histories.{Call, frame, advance, ask}
 use Rattle.claims.specs.Runs.{Called, Engine}
 use Rattle.claims.specs.StationRuns.{Said, answered, judged, asked, Starts, StationDoes}
+use Rattle.answer.specs.Checks.{Answer, Outcome}
+use Rattle.answer.specs.Faults.{Verdict}
 
 -- ---- by value, or on a station that is lent
 
@@ -50,7 +49,7 @@ module _ {M : Type 1} {𝓤 : Ura M} (𝓛 : Logic 𝓤) (at_mem : Memory → SP
   pub data EitherDoes : Station → Call → Said → Station → Type 1 where
     by_value : {before r : Station} {c : Call} {x : Said} → StationDoes before c x r → EitherDoes before c x r
     advances_lent : {before r : Station} {n : ℕ} {v : Answer} → LentAdvances before n v r → EitherDoes before (advance n) (answered v) r
-    asks_lent : {before r : Station} {n : ℕ} {p : Permission} → LentAsks before n p r → EitherDoes before (ask n) (asked (Asked.Is p)) r
+    asks_lent : {before r : Station} {n : ℕ} {p : Permission} → LentAsks before n p r → EitherDoes before (ask n) (asked (Ok p)) r
 
   abbrev pub either_way : Engine {1} Settings Station Call Said
   either_way = record { Starts = Starts; Does = EitherDoes }
@@ -70,7 +69,7 @@ abbrev pub RecordStarts : Settings → List ℕ → Type 0
 RecordStarts s os =
     Called 1 RecordStart.Kinds.ps RecordStart.Kinds.r RecordStart.Reads.Post
     (λ κs a x e.
-    (a.0 ≡ s.own) × (a.1.0 ≡ s.ap) × (a.1.1.0 ≡ s.interval) × (a.1.1.1.0 ≡ s.channel) × (x ≡ Answer.Accepted)
+    (a.0 ≡ s.own) × (a.1.0 ≡ s.ap) × (a.1.1.0 ≡ s.interval) × (a.1.1.1.0 ≡ s.channel) × (x ≡ Ok tt)
     × (e.1.1.1.1.0.now ≡ os))
 
 -- the calls on octets, each with what it answered and the octets that it left
@@ -82,7 +81,7 @@ abbrev pub RecordAdvances : List ℕ → ℕ → Answer → List ℕ → Type 0
 RecordAdvances before n v os =
     Called 1 RecordAdvance.Kinds.ps RecordAdvance.Kinds.r RecordAdvance.Reads.Post (λ κs a x e. (a.0.now ≡ before) × (a.1.0 ≡ n) × (x ≡ v) × (e.0.now ≡ os))
 
-abbrev pub RecordAsks : List ℕ → ℕ → Asked → Type 0
+abbrev pub RecordAsks : List ℕ → ℕ → Outcome Permission → Type 0
 RecordAsks os n v = Called 1 RecordAsk.Kinds.ps RecordAsk.Kinds.r RecordAsk.Reads.Post (λ κs a x e. (a.0.now ≡ os) × (a.1.0 ≡ n) × (x ≡ v))
 
 -- a frame is octets
@@ -95,7 +94,7 @@ OctetsIn (ask n) = Unit {0}
 pub data RecordDoes : List ℕ → Call → Said → List ℕ → Type 0 where
   takes : {before os f : List ℕ} {v : Verdict} → Octets f → RecordTakes before f v os → RecordDoes before (frame f) (judged v) os
   advances : {before os : List ℕ} {n : ℕ} {v : Answer} → RecordAdvances before n v os → RecordDoes before (advance n) (answered v) os
-  asks : {os : List ℕ} {n : ℕ} {v : Asked} → RecordAsks os n v → RecordDoes os (ask n) (asked v) os
+  asks : {os : List ℕ} {n : ℕ} {v : Outcome Permission} → RecordAsks os n v → RecordDoes os (ask n) (asked v) os
 
 abbrev pub in_octets : Engine {0} Settings (List ℕ) Call Said
 in_octets = record { Starts = RecordStarts; Does = RecordDoes }

@@ -1,7 +1,6 @@
 -- An error return beside the frame that it answers (02, One: for an action frame to the station refused with 1, 5 to 10, 21 or 22, category present and
 -- under 128, "the reply is its body with the category's top bit set and nothing else changed"). The octets of its header are those of any reply (`RepliesTo`).
-use Rattle.std.specs.Prelude.{true, List, ◌≡◌, ℕ, ◌+◌, ◌<◌, ◌≤◌, length}
-use Rattle.answer.specs.Checks.{refused}
+use Rattle.std.specs.Prelude.{true, List, ◌≡◌, ℕ, ◌+◌, ◌<◌, ◌≤◌, length, Err}
 use Rattle.answer.specs.Numbers.{number_of}
 use Rattle.answer.specs.declared.Fault.{Fault}
 use Rattle.frame.specs.Frames.{frame_means}
@@ -17,7 +16,7 @@ category f = octet header_length f
 pub record ReturnsBody (own ap f os : List ℕ) : Type 0 where
   -- the frame is refused, whatever the beacon interval, with one of these numbers
   pub fault : Fault
-  pub broken : (b : ℕ) → frame_means own ap b f ≡ refused fault
+  pub broken : (b : ℕ) → frame_means own ap b f ≡ Err fault
   pub among : is_returned (number_of fault.refusal) ≡ true
   -- it has a category, and its top bit is free; in the return it is set, and every octet after it is the same
   pub present : header_length < length f

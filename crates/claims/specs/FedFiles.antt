@@ -1,6 +1,6 @@
 -- Runs of the lister's code over a file, piece by piece: each call is made on the lister that the call before it left, and does what the function's own
 -- promise allows. Nothing more is known of it, nor of the buffers.
-use Rattle.std.specs.Prelude.{List, [], ◌∷◌, ◌++◌, ◌≡◌, ℕ, ◌%◌, length, take}
+use Rattle.std.specs.Prelude.{List, [], ◌∷◌, ◌++◌, ◌≡◌, ℕ, ◌%◌, length, take, Ok}
 use borrow.Fn.Kinds.{Dens, res_t, ended_of}
 use contract.Lifetimes.{Lfts}
 use denote.Triple.Clauses.{AtExit}
@@ -9,7 +9,6 @@ use Rattle.capture.proofs.lister.Lister.closing as Closing
 use Rattle.capture.proofs.lister.Lister.feed_all as FeedAll
 use Rattle.capture.proofs.lister.Lister.fresh as Fresh
 use Rattle.capture.specs.declared.lister.Lister.{Lister}
-use Rattle.octets.specs.declared.writing.Wrote.{Wrote}
 
 -- `Lister::fresh` was called, and gave this lister
 abbrev pub Begins : Lister → Type 0
@@ -26,7 +25,7 @@ Feeds l piece text next =
     × (a.0 ≡ l)
     × (a.1.0.now ≡ piece)
     × (n : ℕ)
-    × (x.wrote ≡ Wrote.Length n)
+    × (x.wrote ≡ Ok n)
     × (take n e.1.1.0.now ≡ text)
     × (x.lister ≡ next)
 

@@ -1,12 +1,9 @@
 -- What an accepted body or frame says, over the plain list of its elements (01, "Octets", "Order"). The code's walk and the folds over it have no
 -- part in this.
-use Rattle.std.specs.Prelude.{true, List, [], ◌∷◌, ◌≡◌, ℕ, ◌≤◌, eqb, length, drop}
+use Rattle.std.specs.Prelude.{true, List, [], ◌∷◌, ◌≡◌, ℕ, ◌≤◌, eqb, length, drop, Ok, Some, None, Option}
 use Rattle.action.specs.Openings.{fixed_fields, switch_fixed_fields}
-use Rattle.answer.specs.Checks.{Outcome, accepted, pick, and_then}
+use Rattle.answer.specs.Checks.{Outcome, pick, and_then}
 use Rattle.beacon.specs.Beacons.{Told, fixed_length, quiet_limit, without_margin}
-use Rattle.beacon.specs.declared.MaybePower.{MaybePower}
-use Rattle.beacon.specs.declared.MaybeReport.{MaybeReport}
-use Rattle.beacon.specs.declared.MaybeSwitch.{MaybeSwitch}
 use Rattle.element.specs.ChannelSwitch.{switch_means}
 use Rattle.element.specs.PowerConstraint.{power_means}
 use Rattle.element.specs.Quiet.{quiet_means}
@@ -27,21 +24,21 @@ use Rattle.claims.specs.Filters.{Item, item, laid, of_id, not_of_id, ReadAs}
 -- ---- beacons and probe responses. `b` is the beacon interval
 
 -- what there may be one of, as a list of none or one
-abbrev pub any_power : MaybePower → List PowerConstraint
-any_power MaybePower.Absent = []
-any_power (MaybePower.Is p) = p ∷ []
+abbrev pub any_power : Option PowerConstraint → List PowerConstraint
+any_power None = []
+any_power (Some p) = p ∷ []
 
-abbrev pub any_report : MaybeReport → List TpcReport
-any_report MaybeReport.Absent = []
-any_report (MaybeReport.Is t) = t ∷ []
+abbrev pub any_report : Option TpcReport → List TpcReport
+any_report None = []
+any_report (Some t) = t ∷ []
 
-abbrev pub any_switch : MaybeSwitch → List ChannelSwitch
-any_switch MaybeSwitch.Absent = []
-any_switch (MaybeSwitch.Is s) = s ∷ []
+abbrev pub any_switch : Option ChannelSwitch → List ChannelSwitch
+any_switch None = []
+any_switch (Some s) = s ∷ []
 
 -- the margin of a TPC Report is ignored there (7.3.2.18)
 abbrev pub notice_report_means : List ℕ → Outcome TpcReport
-notice_report_means c = and_then (tpc_report_means c) (λ t. accepted (without_margin t))
+notice_report_means c = and_then (tpc_report_means c) (λ t. Ok (without_margin t))
 
 -- timestamp 8, interval 2, capability 2, and then elements side by side: those of ID 40 are the Quiet elements, at most 8, and of 32, 35 and 37
 -- there is none or one. Of all others nothing is asked
@@ -63,7 +60,7 @@ pub record NoticeOf (b : ℕ) (body : List ℕ) (t : Told) : Type 0 where
 -- the one element of this ID, and what its contents mean; after it there are none but vendors' elements (02, Four)
 abbrev pub AloneOf : {A : Type 0} → ℕ → (List ℕ → Outcome A) → List ℕ → A → Type 0
 AloneOf id means run a =
-    (c : List ℕ) × (vendors : List Item) × (run ≡ laid (item id c ∷ vendors)) × (of_id vendor_id vendors ≡ vendors) × (means c ≡ accepted a)
+    (c : List ℕ) × (vendors : List Item) × (run ≡ laid (item id c ∷ vendors)) × (of_id vendor_id vendors ≡ vendors) × (means c ≡ Ok a)
 
 -- ---- bodies of one or more measurement elements
 

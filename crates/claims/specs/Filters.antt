@@ -1,7 +1,7 @@
 -- The elements of a run as a plain list, and those of one ID among them (01, "Octets": an element is an ID, a length, contents). What an
 -- accepted body says is said over these, with no walk and no fold.
-use Rattle.std.specs.Prelude.{List, [], ◌∷◌, ◌++◌, map, ◌≡◌, ℕ, ◌<◌, eqb, length}
-use Rattle.answer.specs.Checks.{Outcome, accepted, pick}
+use Rattle.std.specs.Prelude.{List, [], ◌∷◌, ◌++◌, map, ◌≡◌, ℕ, ◌<◌, eqb, length, Ok}
+use Rattle.answer.specs.Checks.{Outcome, pick}
 use Rattle.octets.specs.Elements.{element}
 use Rattle.walk.specs.Elements.{Elements, more}
 
@@ -37,7 +37,7 @@ not_of_id id (x ∷ xs) = pick (eqb x.id id) (not_of_id id xs) (x ∷ not_of_id 
 
 -- elements are read as these values: as many, in the same order, each what the contents of its element mean
 abbrev pub ReadAs : {A : Type 0} → (List ℕ → Outcome A) → List Item → List A → Type 0
-ReadAs means xs values = map (λ (x : Item). means x.contents) xs ≡ map accepted values
+ReadAs means xs values = map (λ (x : Item). means x.contents) xs ≡ map Ok values
 
 -- the walk of a run, where it gives these elements and then so ends
 unfoldable pub walked_as : List Item → Elements → Elements

@@ -1,10 +1,8 @@
 -- The history of one station (00, demand 3): what it goes by from its beginning on, the calls that it was given since, refused ones
 -- among them, and what can be read off them. Nothing here names a station's record or a step of one.
-use Rattle.std.specs.Prelude.{Bool, ◌||◌, List, [], ◌∷◌, ◌⊎◌, ◌≡◌, ℕ, ◌+◌, ltb}
-use Rattle.answer.specs.Checks.{accepted, pick}
+use Rattle.std.specs.Prelude.{Bool, ◌||◌, List, [], ◌∷◌, ◌⊎◌, ◌≡◌, ℕ, ◌+◌, ltb, Ok, Some}
+use Rattle.answer.specs.Checks.{pick}
 use Rattle.beacon.specs.Beacons.{Told}
-use Rattle.beacon.specs.declared.MaybePower.{MaybePower}
-use Rattle.beacon.specs.declared.MaybeSwitch.{MaybeSwitch}
 use Rattle.capture_record.specs.declared.entry.Settings.{Settings}
 use Rattle.element.specs.declared.channel_switch.ChannelSwitch.{ChannelSwitch}
 use Rattle.element.specs.declared.power_constraint.PowerConstraint.{PowerConstraint}
@@ -54,7 +52,7 @@ clock_of l h = clock_from l.begins h
 
 -- by a station's settings (01): the call was a frame that was accepted, and it was of this kind
 abbrev pub Hears : Settings → Call → Kind → Type 0
-Hears s (frame f) k = (to_all : Bool) × (frame_means s.own s.ap s.interval f ≡ accepted (record { to_all = to_all; kind = k }))
+Hears s (frame f) k = (to_all : Bool) × (frame_means s.own s.ap s.interval f ≡ Ok (record { to_all = to_all; kind = k }))
 Hears s (advance n) k = ⊥
 Hears s (ask n) k = ⊥
 
@@ -79,11 +77,11 @@ Tells l c h said = (k : Kind) × l.hears c h k × Says k said
 
 -- it was an accepted announcement
 abbrev pub Announces : Listener → Call → History → ChannelSwitch → Type 0
-Announces l c h w = (k : Kind) × l.hears c h k × (announcement_in k ≡ MaybeSwitch.Is w)
+Announces l c h w = (k : Kind) × l.hears c h k × (announcement_in k ≡ Some w)
 
 -- it was an accepted beacon or probe response with a Power Constraint
 abbrev pub Constrains : Listener → Call → History → PowerConstraint → Type 0
-Constrains l c h p = (said : Told) × Tells l c h said × (said.notice.power ≡ MaybePower.Is p)
+Constrains l c h p = (said : Told) × Tells l c h said × (said.notice.power ≡ Some p)
 
 -- ---- the latest of some calls
 

@@ -1,10 +1,9 @@
 -- The lines of a file's list by the histories of the stations that its records start (00, demand 3; 01, "Capture blocks and the evening list"). Nothing
 -- here names a station or a step of one.
-use Rattle.std.specs.Prelude.{Bool, true, false, List, [], ◌∷◌, ◌++◌, ◌⊎◌, ◌≡◌, ℕ, length}
-use Rattle.answer.specs.Checks.{refused, accepted, pick}
+use Rattle.std.specs.Prelude.{Bool, true, false, List, [], ◌∷◌, ◌++◌, ◌⊎◌, ◌≡◌, ℕ, length, Ok, Err, None}
+use Rattle.answer.specs.Checks.{pick}
 use Rattle.answer.specs.Faults.{Placed}
 use Rattle.answer.specs.Numbers.{number_of}
-use Rattle.answer.specs.declared.Offset.{Offset}
 use Rattle.answer.specs.declared.Refusal.{Refusal}
 use Rattle.block.specs.Blocks.{is_damaged, used_part}
 use Rattle.capture.specs.Lists.{is_malformed, blocks_in, list_of}
@@ -42,12 +41,12 @@ followed_after (asking n) nobody = nobody
 followed_after (asking n) (since s h) = since s (ask n ∷ h)
 
 abbrev pub says : Word → ℕ → Said
-says word answer = record { word = word; answer = answer; offset = Offset.Absent }
+says word answer = record { word = word; answer = answer; offset = None }
 
 -- a frame: 0, or the refusal's number and where it broke (02, One)
 abbrev pub says_frame : {A : Type 0} → Placed A → Said
-says_frame (refused x) = record { word = Word.Frame; answer = number_of x.refusal; offset = x.offset }
-says_frame (accepted a) = says Word.Frame 0
+says_frame (Err x) = record { word = Word.Frame; answer = number_of x.refusal; offset = x.offset }
+says_frame (Ok a) = says Word.Frame 0
 
 -- the line of a record: no station where nobody is followed, else what the history says
 abbrev pub Tells : Noted → Followed → Said → Type 0

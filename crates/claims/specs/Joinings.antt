@@ -1,9 +1,7 @@
 -- Who is joined (02, Six: "a row is joined by an address and left by it"), by the calls of a table and their answers alone. Nothing here names a row.
-use Rattle.std.specs.Prelude.{Bool, true, false, not, ◌&&◌, List, [], ◌∷◌, ◌≡◌, ℕ, suc, ◌+◌, eqb}
-use Rattle.answer.specs.Checks.{pick, ◌⇒◌, judged, answer_of}
-use Rattle.answer.specs.declared.Answer.{Answer}
+use Rattle.std.specs.Prelude.{Bool, true, false, not, ◌&&◌, List, [], ◌∷◌, ◌≡◌, ℕ, suc, ◌+◌, eqb, Ok, Err}
+use Rattle.answer.specs.Checks.{pick, ◌⇒◌, judged, answer_of, Answer}
 use Rattle.answer.specs.declared.Refusal.{Refusal}
-use Rattle.answer.specs.declared.Verdict.{Verdict}
 use Rattle.header.specs.Headers.{same}
 use Rattle.station.specs.Starting.{start_forbids}
 use Rattle.claims.specs.Histories.{too_far, clock_after}
@@ -13,10 +11,10 @@ use Rattle.claims.specs.TableRuns.{TableCall, join, leave, tick, take, question,
 
 -- the call was accepted: an address joined or left, the clock went on, a frame was taken
 abbrev pub accepts : TableAnswer → Bool
-accepts (answered Answer.Accepted) = true
-accepts (answered (Answer.Refused r)) = false
-accepts (frame_judged Verdict.Accepted) = true
-accepts (frame_judged (Verdict.Refused x)) = false
+accepts (answered (Ok tt)) = true
+accepts (answered (Err r)) = false
+accepts (frame_judged (Ok tt)) = true
+accepts (frame_judged (Err x)) = false
 accepts (asked x) = false
 accepts (replied w buffer) = false
 
@@ -78,7 +76,7 @@ leave_answer ms own = answer_of {A = Unit {0}} (judged (not (joined_in own ms) �
 
 -- "or the clock would pass its limit", the clock by the advances
 abbrev pub tick_answer : List TableMade → ℕ → Answer
-tick_answer ms n = pick (too_far (clock_after (advances_of (calls_of ms))) n) (Answer.Refused Refusal.PastClock) Answer.Accepted
+tick_answer ms n = pick (too_far (clock_after (advances_of (calls_of ms))) n) (Err Refusal.PastClock) (Ok tt)
 
 -- who is joined is this one alone
 abbrev pub OnlyJoined : List ℕ → List TableMade → Type 0

@@ -1,10 +1,9 @@
 -- The record that a station of an IBSS keeps, beside its history (00, demand 3; 02, Five): what the calls make of it by their meanings, and what it is for it to agree
 -- with the history, field by field.
-use Rattle.std.specs.Prelude.{true, ◌&&◌, [], ◌∷◌, ◌≡◌, ℕ, eqb}
-use Rattle.answer.specs.Checks.{refused, accepted, pick}
-use Rattle.answer.specs.Faults.{Placed, fault_nowhere}
+use Rattle.std.specs.Prelude.{true, ◌&&◌, [], ◌∷◌, ◌≡◌, ℕ, eqb, Ok, Err}
+use Rattle.answer.specs.Checks.{pick}
+use Rattle.answer.specs.Faults.{Placed, fault_nowhere, Verdict}
 use Rattle.answer.specs.declared.Refusal.{Refusal}
-use Rattle.answer.specs.declared.Verdict.{Verdict}
 use Rattle.capture_record.specs.declared.entry.Settings.{Settings}
 use Rattle.frame.specs.IbssFrames.{SentInIbss}
 use Rattle.member.specs.Members.{member_of, take_of, advance_of}
@@ -24,8 +23,8 @@ owner_told b t (reigns r) =
 
 -- the verdict on a frame that was read so, when the clock is at t and this owner reigns: 23 comes last, and has no place
 abbrev pub verdict_told : ℕ → Reigning → Placed SentInIbss → Verdict
-verdict_told t w (refused x) = Verdict.Refused x
-verdict_told t w (accepted x) = pick (foreign_to t w x) (Verdict.Refused (fault_nowhere Refusal.ForeignAnnouncement)) Verdict.Accepted
+verdict_told t w (Err x) = Err x
+verdict_told t w (Ok x) = pick (foreign_to t w x) (Err (fault_nowhere Refusal.ForeignAnnouncement)) (Ok tt)
 
 module _ (s : Settings) where
   unfoldable pub member_after : History → Member

@@ -1,7 +1,6 @@
 -- Captures in which two advances were merged (02, Seven: "Capture tools merge idle periods"): two advance records that follow each other in one block against one with their
 -- sum, and what becomes of the list.
-use Rattle.std.specs.Prelude.{true, false, List, [], ◌∷◌, ◌++◌, ◌≡◌, ℕ, ◌+◌, ◌≤◌, length}
-use Rattle.answer.specs.declared.Answer.{Answer}
+use Rattle.std.specs.Prelude.{true, false, List, [], ◌∷◌, ◌++◌, ◌≡◌, ℕ, ◌+◌, ◌≤◌, length, Ok}
 use Rattle.block.specs.Blocks.{is_damaged, used_part}
 use Rattle.pen.specs.Lines.{closing_of}
 use Rattle.capture.specs.Listers.{fresh, one_block_more}
@@ -82,8 +81,8 @@ module _ {file file' : List ℕ} (m : MergedFiles file file') where
   -- a station is followed there, and goes on by a and then by b
   pub record BothAccepted : Type 0 where
     pub followed : lister_at.active ≡ true
-    pub first_accepted : (advance_of lister_at.station m.merged.a).answer ≡ Answer.Accepted
-    pub second_accepted : (advance_of (advance_of lister_at.station m.merged.a).station m.merged.b).answer ≡ Answer.Accepted
+    pub first_accepted : (advance_of lister_at.station m.merged.a).answer ≡ Ok tt
+    pub second_accepted : (advance_of (advance_of lister_at.station m.merged.a).station m.merged.b).answer ≡ Ok tt
 
   -- how many lines come before theirs
   abbrev pub lines_before : ℕ

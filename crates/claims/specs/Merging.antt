@@ -1,10 +1,10 @@
 -- What it means that advances may be merged (02, Seven: "advancing by a and then b, where both are accepted and a + b is at most 65,535, leaves the same station as advancing
 -- by a + b, that zero changes nothing"), for anything that has a clock: document 01's station, a station of an IBSS, a table.
-use Rattle.std.specs.Prelude.{List, [], ◌∷◌, ◌≡◌, ℕ, ◌+◌, ◌≤◌}
-use Rattle.answer.specs.declared.Answer.{Answer}
+use Rattle.std.specs.Prelude.{List, [], ◌∷◌, ◌≡◌, ℕ, ◌+◌, ◌≤◌, Ok}
 use Rattle.station.specs.Stations.{clock_limit, unit_limit}
 use Rattle.table.specs.declared.Table.{Table}
 use Rattle.claims.specs.TableRuns.{tick, answered, Does}
+use Rattle.answer.specs.Checks.{Answer}
 
 -- `Table::tick` was called on a table, gave this answer and left that table
 abbrev pub TableTicks : Table → ℕ → Answer → Table → Type 0
@@ -29,15 +29,15 @@ module _ {S : Type 0} (StepsTo : S → ℕ → Answer → S → Type 0) where
   -- the same, each of them accepted
   unfoldable pub AllAccepted : S → List ℕ → S → Type 0
   AllAccepted s [] last = s ≡ last
-  AllAccepted s (n ∷ ns) last = (next : S) × StepsTo s n Answer.Accepted next × AllAccepted next ns last
+  AllAccepted s (n ∷ ns) last = (next : S) × StepsTo s n (Ok tt) next × AllAccepted next ns last
 
   -- a clock of 32 bits is at most its limit; of what calls have reached that is proved
   pub record Merges (ValidOf : S → Type 0) (clock_of : S → ℕ) : Type 0 where
     -- advancing twice is advancing once
-    pub twice_once : (s mid last : S) (a b : ℕ) → ValidOf s → StepsTo s a Answer.Accepted mid → StepsTo mid b Answer.Accepted last → a + b ≤ unit_limit
-        → (r : Answer) (next : S) → StepsTo s (a + b) r next → (r ≡ Answer.Accepted) × (next ≡ last)
+    pub twice_once : (s mid last : S) (a b : ℕ) → ValidOf s → StepsTo s a (Ok tt) mid → StepsTo mid b (Ok tt) last → a + b ≤ unit_limit
+        → (r : Answer) (next : S) → StepsTo s (a + b) r next → (r ≡ Ok tt) × (next ≡ last)
     -- zero is accepted and changes nothing
-    pub zero_nothing : (s : S) → ValidOf s → clock_of s ≤ clock_limit → (r : Answer) (next : S) → StepsTo s 0 r next → (r ≡ Answer.Accepted) × (next ≡ s)
+    pub zero_nothing : (s : S) → ValidOf s → clock_of s ≤ clock_limit → (r : Answer) (next : S) → StepsTo s 0 r next → (r ≡ Ok tt) × (next ≡ s)
     -- accepted advances of one sum leave the same, however they are cut
     pub same_sum : (s x y : S) (ns ms : List ℕ) → ValidOf s → AllAccepted s ns x → AllAccepted s ms y → sum ns ≡ sum ms → x ≡ y
     -- and what a capture tool cuts anew is accepted where the old advances were

@@ -1,7 +1,6 @@
 -- The moments that 01 marks P ("Moments on both sides", B = 100), and those of 02, Two, as one list: calls through raw octets, a question, its answer; and the
 -- densities of eight times.
-use Rattle.std.specs.Prelude.{List, [], ◌∷◌, ◌++◌, ◌≡◌, ℕ, replicate}
-use Rattle.answer.specs.Checks.{accepted}
+use Rattle.std.specs.Prelude.{List, [], ◌∷◌, ◌++◌, ◌≡◌, ℕ, replicate, Ok}
 use Rattle.octets.specs.Sums.{sum_of}
 use Rattle.fraction.specs.Fractions.{densities_of}
 use Rattle.station.specs.Asking.{permission_number, permission_of}
@@ -46,7 +45,7 @@ pub data Moment : Type 0 where
 
 abbrev pub Right : Moment → Type 0
 Right (asking calls n answer) = permission_number (permission_of (record_after ours calls) n) ≡ answer
-Right (densities duration times ds sum) = (densities_of duration times ≡ accepted ds) × (sum_of ds ≡ sum)
+Right (densities duration times ds sum) = (densities_of duration times ≡ Ok ds) × (sum_of ds ≡ sum)
 
 abbrev pub AllRight : List Moment → Type 0
 AllRight [] = Unit {0}

@@ -1,8 +1,7 @@
 -- What the list of a file is, seen as lines (01, "Capture blocks and the evening list": each record makes one line, number from 1 over the file; a
 -- malformed one and a damaged block are numbered too; the last line is blocks, how many in all, damaged, how many were).
-use Rattle.std.specs.Prelude.{List, [], ◌∷◌, ◌++◌, ◌≡◌, ℕ, ◌+◌, length}
+use Rattle.std.specs.Prelude.{List, [], ◌∷◌, ◌++◌, ◌≡◌, ℕ, ◌+◌, length, Option}
 use Rattle.answer.specs.Checks.{pick}
-use Rattle.answer.specs.declared.Offset.{Offset}
 use Rattle.block.specs.Blocks.{is_damaged, used_part}
 use Rattle.capture.specs.Lists.{is_malformed, blocks_in, list_of}
 use Rattle.capture_record.specs.Entries.{entry_means}
@@ -14,7 +13,7 @@ use Rattle.pen.specs.declared.words.Word.{Word}
 pub record Said : Type 0 where
   pub word : Word
   pub answer : ℕ
-  pub offset : Offset
+  pub offset : Option ℕ
 
 -- lines one after the other, each numbered one higher than the one before
 unfoldable pub numbered_from : ℕ → List Said → List ℕ

@@ -1,7 +1,6 @@
 -- All frames from one address, and each announcement in a beacon that names it as the owner (02, Five): what document 01's station is to be told beside it, which is the same
 -- bodies from its AP.
-use Rattle.std.specs.Prelude.{true, false, List, map, ◌≡◌, ℕ, length}
-use Rattle.answer.specs.Checks.{accepted}
+use Rattle.std.specs.Prelude.{true, false, List, map, ◌≡◌, ℕ, length, Ok}
 use Rattle.beacon.specs.IbssBeacons.{MaybeDfs, is}
 use Rattle.beacon.specs.Notices.{has_switch}
 use Rattle.capture_record.specs.declared.entry.Settings.{Settings}
@@ -19,7 +18,7 @@ module _ (s : Settings) where
     pub from : sa f ≡ a
     pub dfs : MaybeDfs
     pub sound : DfsSoundIn dfs f
-    pub names_itself : (x : Sent) → frame_means s.own s.ap s.interval (from_ap s.ap f) ≡ accepted x → has_switch (announcement_in x.kind) ≡ true
+    pub names_itself : (x : Sent) → frame_means s.own s.ap s.interval (from_ap s.ap f) ≡ Ok x → has_switch (announcement_in x.kind) ≡ true
         → (d : Dfs) × (dfs ≡ is d) × (d.owner ≡ a)
 
   abbrev pub CallFromOne : List ℕ → Call → History → Type 0

@@ -1,8 +1,7 @@
 -- Where a frame broke (02, One: "give for 5 to 12, 21 and 22 the offset in the frame of the octet at fault: the element's ID octet for element faults, the first
 -- left-over octet, the category, action, token or interval field otherwise. Absent gives the frame's length"). Each refusal of a frame, with where its octet may be.
-use Rattle.std.specs.Prelude.{List, ◌⊎◌, ◌≡◌, ℕ, ◌<◌, ◌≤◌, length}
+use Rattle.std.specs.Prelude.{List, ◌⊎◌, ◌≡◌, ℕ, ◌<◌, ◌≤◌, length, Some, None, Option}
 use Rattle.answer.specs.declared.Fault.{Fault}
-use Rattle.answer.specs.declared.Offset.{Offset}
 use Rattle.answer.specs.declared.Refusal.{Refusal}
 
 -- in the body, which begins at octet 24: the category is octet 24, the action 25 and the interval 32. (That elements stand whole before an element's place is
@@ -40,9 +39,9 @@ abbrev pub BrokenNowhere : Refusal → Type 0
 BrokenNowhere r = (r ≡ Refusal.TooShort) ⊎ ((r ≡ Refusal.TooLong) ⊎ ((r ≡ Refusal.ForeignHeader) ⊎ (r ≡ Refusal.ForeignAddress)))
 
 -- of a frame: each of these refusals has its place, and no other has one
-abbrev pub PlacedIn : List ℕ → Refusal → Offset → Type 0
-PlacedIn f r Offset.Absent = BrokenNowhere r
-PlacedIn f r (Offset.At n) = BrokenAt f n r
+abbrev pub PlacedIn : List ℕ → Refusal → Option ℕ → Type 0
+PlacedIn f r None = BrokenNowhere r
+PlacedIn f r (Some n) = BrokenAt f n r
 
 abbrev pub FaultIn : List ℕ → Fault → Type 0
 FaultIn f x = PlacedIn f x.refusal x.offset

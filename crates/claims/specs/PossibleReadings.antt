@@ -1,7 +1,6 @@
 -- The readings that an element of a Measurement Request is answered with (01, "Replies": "the caller's own Refused or readings (a map, busy µs or eight
 -- times, as the type asks; another kind 16)"; "Readings are judged only where the reply carries them").
-use Rattle.std.specs.Prelude.{true, false, List, ◌≡◌, ℕ, ◌<◌, replicate}
-use Rattle.answer.specs.Checks.{accepted}
+use Rattle.std.specs.Prelude.{true, false, List, ◌≡◌, ℕ, ◌<◌, replicate, Ok}
 use Rattle.fraction.specs.Fractions.{busy_of, densities_of}
 use Rattle.measured_report.specs.Reports.{is_late}
 use Rattle.measured_report.specs.declared.Finding.{Finding}
@@ -17,8 +16,8 @@ use Rattle.measurement_element.specs.declared.span.Span.{Span}
 -- bits 0 to 3; 1 the fraction of the busy µs; 2 the densities of the eight times
 pub data AsAsked (duration : ℕ) (times : List ℕ) : ℕ → Finding → Found → List ℕ → Type 0 where
   basic : {map : ℕ} → map < 32 → map_forbids map ≡ false → AsAsked duration times 0 (Finding.Map map) (Found.Map map) no_densities
-  cca : {time fraction : ℕ} → busy_of duration time ≡ accepted fraction → AsAsked duration times 1 (Finding.Busy time) (Found.Busy fraction) no_densities
-  rpi : {densities : List ℕ} → densities_of duration times ≡ accepted densities → AsAsked duration times 2 Finding.Times Found.Densities densities
+  cca : {time fraction : ℕ} → busy_of duration time ≡ Ok fraction → AsAsked duration times 1 (Finding.Busy time) (Found.Busy fraction) no_densities
+  rpi : {densities : List ℕ} → densities_of duration times ≡ Ok densities → AsAsked duration times 2 Finding.Times Found.Densities densities
 
 -- any for a type over 2, and where the start is late; else the caller's own Refused, or readings as the type asks
 pub data Possible (clock : ℕ) (readings : Readings) (request : Request) : Type 0 where

@@ -1,7 +1,7 @@
 -- Who the DFS owner of an IBSS is, by the calls, and which frames a station there accepts (02, Five). Nothing here names a station or a step of one. In the settings
 -- of a station of an IBSS `ap` is the BSSID.
-use Rattle.std.specs.Prelude.{Bool, true, false, not, ◌&&◌, List, [], ◌∷◌, ◌≡◌, ℕ, zero, suc, ◌+◌, ◌-◌, ◌<◌, ◌≤◌, leb}
-use Rattle.answer.specs.Checks.{refused, accepted, pick}
+use Rattle.std.specs.Prelude.{Bool, true, false, not, ◌&&◌, List, [], ◌∷◌, ◌≡◌, ℕ, zero, suc, ◌+◌, ◌-◌, ◌<◌, ◌≤◌, leb, Ok, Err}
+use Rattle.answer.specs.Checks.{pick}
 use Rattle.answer.specs.Faults.{Placed}
 use Rattle.beacon.specs.IbssBeacons.{MaybeDfs, absent, is}
 use Rattle.beacon.specs.Notices.{has_switch}
@@ -102,8 +102,8 @@ after_kind t x (probe_response told) w = w
 after_kind t x (action body) w = w
 
 abbrev pub after_frame : ℕ → Placed SentInIbss → Reigning → Reigning
-after_frame t (refused q) w = w
-after_frame t (accepted x) w = pick (foreign_to t w x) w (after_kind t x x.sent.kind w)
+after_frame t (Err q) w = w
+after_frame t (Ok x) w = pick (foreign_to t w x) w (after_kind t x x.sent.kind w)
 
 -- ---- the calls
 
@@ -120,7 +120,7 @@ module _ (s : Settings) where
 
   -- the call was a frame that was accepted: it was read so, and an announcement in it came from the owner at that time
   abbrev pub Accepts : Call → History → SentInIbss → Type 0
-  Accepts (frame f) h x = (read_as f ≡ accepted x) × (foreign_to (clock_after h) (reigning h) x ≡ false)
+  Accepts (frame f) h x = (read_as f ≡ Ok x) × (foreign_to (clock_after h) (reigning h) x ≡ false)
   Accepts (advance n) h x = ⊥
   Accepts (ask n) h x = ⊥
 

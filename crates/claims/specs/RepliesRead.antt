@@ -1,7 +1,7 @@
 -- A reply, read from the other side (01, "Replies": "TPC Report with the same token"; of a Measurement Request: "one frame for one element, same tokens and type"; "with the
 -- request's channel, duration and start (the clock times 1,024 where that start is 0)").
-use Rattle.std.specs.Prelude.{false, List, [], ◌∷◌, ◌≡◌, ℕ, ◌*◌, eqb}
-use Rattle.answer.specs.Checks.{accepted, pick}
+use Rattle.std.specs.Prelude.{false, List, [], ◌∷◌, ◌≡◌, ℕ, ◌*◌, eqb, Ok}
+use Rattle.answer.specs.Checks.{pick}
 use Rattle.element.specs.declared.tpc_report.TpcReport.{TpcReport}
 use Rattle.frame.specs.Actions.{requests, reports, tpc_request, tpc_report}
 use Rattle.frame.specs.Frames.{action, frame_means}
@@ -30,8 +30,8 @@ pub record CarriesReadings (clock : ℕ) (readings : Readings) (request : Reques
 -- the octets of a reply to a TPC Request: heard from the AP, whatever the beacon interval, they are the report with the request's token
 pub record TpcReadsBack (own ap f : List ℕ) (report : TpcReport) (os : List ℕ) : Type 0 where
   pub token : ℕ
-  pub due : due_means own ap f ≡ accepted (asks (tpc_request token))
-  pub read : (b : ℕ) → frame_means own ap b (exchanged os) ≡ accepted (record { to_all = false; kind = action (tpc_report token report) })
+  pub due : due_means own ap f ≡ Ok (asks (tpc_request token))
+  pub read : (b : ℕ) → frame_means own ap b (exchanged os) ≡ Ok (record { to_all = false; kind = action (tpc_report token report) })
 
 -- the octets of a reply to the element at an index of the frame `f`
 pub record ReadsBack (own ap f : List ℕ) (clock index : ℕ) (readings : Readings) (os : List ℕ) : Type 0 where
@@ -39,14 +39,14 @@ pub record ReadsBack (own ap f : List ℕ) (clock index : ℕ) (readings : Readi
   pub token : ℕ
   pub elements : List Request
   pub request : Request
-  pub due : due_means own ap f ≡ accepted (asks (requests token elements))
-  pub asked : nth index elements ≡ accepted request
+  pub due : due_means own ap f ≡ Ok (asks (requests token elements))
+  pub asked : nth index elements ≡ Ok request
   -- heard from the AP, whatever the beacon interval, they are a frame of one report, with the request's tokens and type
   pub report : Report
-  pub read : (b : ℕ) → frame_means own ap b (exchanged os) ≡ accepted (record { to_all = false; kind = action (reports token (report ∷ [])) })
+  pub read : (b : ℕ) → frame_means own ap b (exchanged os) ≡ Ok (record { to_all = false; kind = action (reports token (report ∷ [])) })
   pub same_token : report.token ≡ request.token
   pub same_type : report.kind ≡ request.kind
   -- Incapable, Late, Refused or readings, by 01's rule; where it is measured it carries the caller's readings
-  pub owed : report_for clock readings request ≡ accepted report
+  pub owed : report_for clock readings request ≡ Ok report
   pub carries : (span : Span) (found : Found) → report.matter ≡ Says.Matter.Measured span found
       → CarriesReadings clock readings request span found report.densities

@@ -2,17 +2,16 @@
 -- later announcement accepted first. The schedules that count are those of the latest accepted beacon or probe response, unless a
 -- switch came after it; a count of 0 in that same frame comes after it."), and which quiet intervals have begun (02, Two).
 use mathlib.Core.List.{List, [], ◌∷◌, Memᴰ}
-use Rattle.std.specs.Prelude.{◌⊎◌, ◌≡◌, ℕ, ◌+◌, ◌*◌, ◌<◌, ◌≤◌}
+use Rattle.std.specs.Prelude.{◌⊎◌, ◌≡◌, ℕ, ◌+◌, ◌*◌, ◌<◌, ◌≤◌, Some, None, Option}
 use Rattle.beacon.specs.Beacons.{Told}
-use Rattle.beacon.specs.declared.MaybePower.{MaybePower}
 use Rattle.element.specs.declared.channel_switch.ChannelSwitch.{ChannelSwitch}
 use Rattle.element.specs.declared.power_constraint.PowerConstraint.{PowerConstraint}
 use Rattle.element.specs.declared.quiet.Quiet.{Quiet}
-use Rattle.pending.specs.declared.Pending.{Pending}
 use Rattle.schedule.specs.declared.Schedule.{Schedule}
 use Rattle.claims.specs.Histories.{Call, History, Listener, clock_of, Tells, Announces, Constrains, Latest, Throughout}
 use Rattle.claims.specs.QuietRuns.{RunBegins}
 use Rattle.claims.specs.Tbtts.{CountedTo}
+use Rattle.pending.specs.declared.Switch.{Switch}
 
 module _ (l : Listener) where
   -- ---- announcements and switches
@@ -87,13 +86,13 @@ module _ (l : Listener) where
       (λ c g. Constrains l c g p × NoSwitch c g)
       h
 
-  abbrev pub PowerIs : History → MaybePower → Type 0
-  PowerIs h MaybePower.Absent = (p : PowerConstraint) → LastConstrained h p → ⊥
-  PowerIs h (MaybePower.Is p) = LastConstrained h p
+  abbrev pub PowerIs : History → Option PowerConstraint → Type 0
+  PowerIs h None = (p : PowerConstraint) → LastConstrained h p → ⊥
+  PowerIs h (Some p) = LastConstrained h p
 
-  abbrev pub PendingIs : History → Pending → Type 0
-  PendingIs h Pending.Nothing = (at : ℕ) (w : ChannelSwitch) → Awaits h at w → ⊥
-  PendingIs h (Pending.Switch x) =
+  abbrev pub PendingIs : History → Option Switch → Type 0
+  PendingIs h None = (at : ℕ) (w : ChannelSwitch) → Awaits h at w → ⊥
+  PendingIs h (Some x) =
       (w : ChannelSwitch) × Awaits h x.at w × (w.mode ≡ x.mode) × (w.channel ≡ x.channel)
 
   -- a Quiet element that was accepted at t starts so far past the TBTT that it counts to, and runs again every so many TBTTs

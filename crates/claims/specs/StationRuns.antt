@@ -1,7 +1,5 @@
 -- Runs of document 01's station by its own functions, each of which takes the record by value and gives the next one (00, demand 3).
-use Rattle.std.specs.Prelude.{List, ◌≡◌, ℕ}
-use Rattle.answer.specs.declared.Answer.{Answer}
-use Rattle.answer.specs.declared.Verdict.{Verdict}
+use Rattle.std.specs.Prelude.{List, ◌≡◌, ℕ, Ok}
 use Rattle.capture_record.specs.declared.entry.Settings.{Settings}
 use Rattle.station.proofs.Station.advance as Advance
 use Rattle.station.proofs.Station.ask as Ask
@@ -9,21 +7,22 @@ use Rattle.station.proofs.Station.start as Start
 use Rattle.station.proofs.Station.take as Take
 use Rattle.station.specs.declared.Station.{Station}
 use Rattle.station.specs.declared.asking.Permission.{Permission}
-use Rattle.station_record.specs.declared.Asked.{Asked}
 use Rattle.claims.specs.Histories.{Call, frame, advance, ask}
 use Rattle.claims.specs.Runs.{Called, Engine}
+use Rattle.answer.specs.Checks.{Answer, Outcome}
+use Rattle.answer.specs.Faults.{Verdict}
 
 -- what is said to each call; that no station is there to be asked can be said on octets alone
 pub data Said : Type 0 where
   answered : Answer → Said
   judged : Verdict → Said
-  asked : Asked → Said
+  asked : Outcome Permission → Said
 
 -- `Station::start` was called with the settings, accepted them and gave this record
 abbrev pub Starts : Settings → Station → Type 0
 Starts s r =
     Called 0 Start.Kinds.ps Start.Kinds.r Start.Reads.Post
-    (λ κs a x e. (a.0 ≡ s.own) × (a.1.0 ≡ s.ap) × (a.1.1.0 ≡ s.interval) × (a.1.1.1.0 ≡ s.channel) × (x.answer ≡ Answer.Accepted) × (x.station ≡ r))
+    (λ κs a x e. (a.0 ≡ s.own) × (a.1.0 ≡ s.ap) × (a.1.1.0 ≡ s.interval) × (a.1.1.1.0 ≡ s.channel) × (x.answer ≡ Ok tt) × (x.station ≡ r))
 
 -- `Station::take` was called on a record with the octets of a frame, gave this verdict and left this record
 abbrev pub Takes : Station → List ℕ → Verdict → Station → Type 0
@@ -41,7 +40,7 @@ Asks r n p = Called 0 Ask.Kinds.ps Ask.Kinds.r Ask.Reads.Post (λ κs a x e. (a.
 pub data StationDoes : Station → Call → Said → Station → Type 0 where
   takes : {before r : Station} {f : List ℕ} {v : Verdict} → Takes before f v r → StationDoes before (frame f) (judged v) r
   advances : {before r : Station} {n : ℕ} {v : Answer} → Advances before n v r → StationDoes before (advance n) (answered v) r
-  asks : {r : Station} {n : ℕ} {p : Permission} → Asks r n p → StationDoes r (ask n) (asked (Asked.Is p)) r
+  asks : {r : Station} {n : ℕ} {p : Permission} → Asks r n p → StationDoes r (ask n) (asked (Ok p)) r
 
 abbrev pub station : Engine {0} Settings Station Call Said
 station = record { Starts = Starts; Does = StationDoes }

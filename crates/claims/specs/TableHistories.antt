@@ -1,8 +1,7 @@
 -- One station's part in the calls of a table (02, Six): "Two runs that agree on the table's start, a station's joining, the advances, the frames to all ones and the
 -- frames, questions and readings for that station, in one order". Nothing here names a row.
-use Rattle.std.specs.Prelude.{Bool, true, false, ◌||◌, List, [], ◌∷◌, ◌++◌, ◌≡◌, ℕ}
+use Rattle.std.specs.Prelude.{Bool, true, false, ◌||◌, List, [], ◌∷◌, ◌++◌, ◌≡◌, ℕ, Ok}
 use Rattle.answer.specs.Checks.{pick}
-use Rattle.answer.specs.declared.Answer.{Answer}
 use Rattle.capture_record.specs.declared.entry.Settings.{Settings}
 use Rattle.header.specs.Headers.{same, da, to_all}
 use Rattle.table.specs.declared.Table.{Table}
@@ -77,7 +76,7 @@ pub record Stay (ap : List ℕ) (b : ℕ) (own : List ℕ) (channel : ℕ) (befo
   pub joining : Table
   pub ran : Ran table (started_with ap b) before joining
   pub joined : Table
-  pub joins : Does joining (join own channel) (answered Answer.Accepted) joined
+  pub joins : Does joining (join own channel) (answered (Ok tt)) joined
   pub goes_on : GoesOn table joined after t
   pub never_leaves : NeverLeaves own after
 
@@ -87,7 +86,7 @@ pub record StaySince (ap : List ℕ) (b : ℕ) (own : List ℕ) (ms : List Table
   pub before : List TableMade
   pub after : List TableMade
   pub stay : Stay ap b own channel before after t
-  pub all : ms ≡ after ++ (record { call = join own channel; answer = answered Answer.Accepted } ∷ before)
+  pub all : ms ≡ after ++ (record { call = join own channel; answer = answered (Ok tt) } ∷ before)
 
 -- the clock at its joining, by the advances until then: the beginning of its history
 abbrev pub joined_at : List TableMade → ℕ

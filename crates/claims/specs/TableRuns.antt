@@ -1,10 +1,7 @@
 -- Runs of a table of stations by its own functions, each of which takes the table by value and gives the next one (02, Six).
-use Rattle.std.specs.Prelude.{List, ◌≡◌, ℕ}
-use Rattle.answer.specs.declared.Answer.{Answer}
-use Rattle.answer.specs.declared.Verdict.{Verdict}
+use Rattle.std.specs.Prelude.{List, ◌≡◌, ℕ, Ok}
 use Rattle.element.specs.declared.tpc_report.TpcReport.{TpcReport}
 use Rattle.measured_report.specs.declared.Readings.{Readings}
-use Rattle.octets.specs.declared.writing.Wrote.{Wrote}
 use Rattle.table.proofs.Table.ask as Ask
 use Rattle.table.proofs.Table.join as Join
 use Rattle.table.proofs.Table.leave as Leave
@@ -14,8 +11,9 @@ use Rattle.table.proofs.Table.start as Start
 use Rattle.table.proofs.Table.take as Take
 use Rattle.table.proofs.Table.tick as Tick
 use Rattle.table.specs.declared.Table.{Table}
-use Rattle.table.specs.declared.asking.Asked.{Asked}
 use Rattle.claims.specs.Runs.{Called, Engine, Made}
+use Rattle.answer.specs.Checks.{Answer, Outcome}
+use Rattle.answer.specs.Faults.{Verdict}
 
 -- a call as it was made: an address joins on a channel or leaves, the clock goes on, the octets of a frame come, an address asks to send, and a reply is made to the
 -- octets of a frame, with what the caller has found, in a buffer
@@ -32,8 +30,8 @@ pub data TableCall : Type 0 where
 pub data TableAnswer : Type 0 where
   answered : Answer → TableAnswer
   judged : Verdict → TableAnswer
-  asked : Asked → TableAnswer
-  replied : Wrote → List ℕ → TableAnswer
+  asked : Outcome Permission → TableAnswer
+  replied : Outcome ℕ → List ℕ → TableAnswer
 
 -- a call, and its answer
 abbrev pub TableMade : Type 0
@@ -54,7 +52,7 @@ TableStartGives s v t =
 
 -- it accepted them
 abbrev pub TableStarts : TableSettings → Table → Type 0
-TableStarts s t = TableStartGives s Answer.Accepted t
+TableStarts s t = TableStartGives s (Ok tt) t
 
 -- the function of the call was called on a table, answered this and left that table
 abbrev pub Does : Table → TableCall → TableAnswer → Table → Type 0

@@ -1,6 +1,6 @@
 -- Vendors' elements taken out of an action body (02, Four): what is read with them and without them, and how many octets of theirs stand before a place.
-use Rattle.std.specs.Prelude.{List, [], ◌∷◌, ◌++◌, ◌≡◌, ℕ, ◌+◌, ◌-◌, ltb, eqb, length}
-use Rattle.answer.specs.Checks.{refused, accepted, pick}
+use Rattle.std.specs.Prelude.{List, [], ◌∷◌, ◌++◌, ◌≡◌, ℕ, ◌+◌, ◌-◌, ltb, eqb, length, Ok, Err}
+use Rattle.answer.specs.Checks.{pick}
 use Rattle.answer.specs.Faults.{fault_at, Placed}
 use Rattle.answer.specs.declared.Fault.{Fault}
 use Rattle.answer.specs.declared.Refusal.{Refusal}
@@ -39,7 +39,7 @@ RefusedAlike skipped n m x y = (d : ℕ) × (k : ℕ) × (r : Refusal) × (x ≡
 
 -- what is read of both: the same values, or the same refusal
 unfoldable pub ReadAlike : {A : Type 0} → (ℕ → ℕ) → ℕ → ℕ → Placed A → Placed A → Type 0
-ReadAlike skipped n m (accepted a) (accepted b) = a ≡ b
-ReadAlike skipped n m (accepted a) (refused y) = ⊥
-ReadAlike skipped n m (refused x) (accepted b) = ⊥
-ReadAlike skipped n m (refused x) (refused y) = RefusedAlike skipped n m x y
+ReadAlike skipped n m (Ok a) (Ok b) = a ≡ b
+ReadAlike skipped n m (Ok a) (Err y) = ⊥
+ReadAlike skipped n m (Err x) (Ok b) = ⊥
+ReadAlike skipped n m (Err x) (Err y) = RefusedAlike skipped n m x y

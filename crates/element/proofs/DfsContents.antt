@@ -1,4 +1,5 @@
 -- Element 41: the ways through its checks, and demand 2 for it. Assumes nothing.
+use Rattle.std.specs.Prelude.{Ok, Err}
 use mathlib.Core.Bool.{Bool, true, false, not, ◌&&◌}
 use mathlib.Core.List.{List, [], ◌∷◌, ◌++◌}
 use mathlib.Core.Path.{◌≡◌, refl, sym, ap, ap₂, ◌∙◌, subst}
@@ -8,14 +9,13 @@ use borrow.Author.Tests.{le-leb, lt-leb, eq-eqb, ne_eqb, leb-true, eqb-true, lt-
 use lib.Dec.{leb, eqb}
 use lib.ListN.{length, take, length-drop, length-append}
 use Rattle.answer.proofs.Judged.{past, stop, done, passed, kept}
-use Rattle.answer.specs.Checks.{refused, accepted}
+use Rattle.answer.specs.Checks.{Outcome}
 use Rattle.answer.specs.declared.Refusal.{Refusal}
 use Rattle.octets.proofs.JoinSplit.{all_from}
 use Rattle.octets.proofs.Storing.{not_answer, left_not, filled_front, front_left, left_after}
 use Rattle.octets.specs.Elements.{RoundTrip}
 use Rattle.octets.specs.Numbers.{Octets, octet, octets_from}
 use Rattle.octets.specs.Writing.{left, Written}
-use Rattle.octets.specs.declared.writing.Wrote.{Wrote}
 use Rattle.element.specs.IbssDfs.{Dfs, pairs_in, dfs_in, dfs_length, dfs_forbids, dfs_means, pair_means, dfs_contents, dfs_may_of, dfs_may, dfs_octets, DfsFits, few_pairs, in_element}
 
 -- ---- the length
@@ -41,21 +41,21 @@ module _ (n : ℕ) where
 -- ---- the ways through
 
 module _ (c : List ℕ) where
-  pub misfit : dfs_length (length c) ≡ false → refused Refusal.WrongLength ≡ dfs_means c
+  pub misfit : dfs_length (length c) ≡ false → Err Refusal.WrongLength ≡ dfs_means c
   unfolding dfs_means
   misfit e = stop _ _ _ (ap not e)
 
   module _ (e : dfs_length (length c) ≡ true) where
-    pub forbidden : dfs_forbids (octets_from 6 0 c) (octet 6 c) ≡ true → refused Refusal.ForbiddenValue ≡ dfs_means c
+    pub forbidden : dfs_forbids (octets_from 6 0 c) (octet 6 c) ≡ true → Err Refusal.ForbiddenValue ≡ dfs_means c
     unfolding dfs_means
     forbidden f = past _ _ _ (ap not e) (stop _ _ _ f)
 
-    pub good : dfs_forbids (octets_from 6 0 c) (octet 6 c) ≡ false → accepted (dfs_in c) ≡ dfs_means c
+    pub good : dfs_forbids (octets_from 6 0 c) (octet 6 c) ≡ false → Ok (dfs_in c) ≡ dfs_means c
     unfolding dfs_means
     good f = past _ _ _ (ap not e) (past _ _ _ f (done _))
 
   -- an accepted record is the one in contents of such a length, and none that is forbidden
-  pub opened : (d : Dfs) → dfs_means c ≡ accepted d → (dfs_length (length c) ≡ true) × (dfs_in c ≡ d) × (dfs_forbids d.owner d.recovery ≡ false)
+  pub opened : (d : Dfs) → dfs_means c ≡ Ok d → (dfs_length (length c) ≡ true) × (dfs_in c ≡ d) × (dfs_forbids d.owner d.recovery ≡ false)
   unfolding dfs_means
   opened d e =
       let p = passed _ _ _ e in
@@ -65,11 +65,11 @@ module _ (c : List ℕ) where
 
 -- ---- the pairs
 
-pub no_pair : (i : ℕ) (c : List ℕ) → pairs_in (length c) ≤ i → refused Refusal.Impossible ≡ pair_means i c
+pub no_pair : (i : ℕ) (c : List ℕ) → pairs_in (length c) ≤ i → Err Refusal.Impossible ≡ pair_means i c
 unfolding pair_means
 no_pair i c h = stop _ _ _ (ap not (le-ltb i (pairs_in (length c)) h))
 
-pub a_pair : (i : ℕ) (c : List ℕ) → i < pairs_in (length c) → accepted (record { channel = octet (7 + 2 * i) c; map = octet (7 + 2 * i + 1) c }) ≡ pair_means i c
+pub a_pair : (i : ℕ) (c : List ℕ) → i < pairs_in (length c) → Ok (record { channel = octet (7 + 2 * i) c; map = octet (7 + 2 * i + 1) c }) ≡ pair_means i c
 unfolding pair_means
 a_pair i c h = past _ _ _ (ap not (lt-ltb i (pairs_in (length c)) h)) (done _)
 
@@ -91,7 +91,7 @@ module _ (owner : List ℕ) (recovery n : ℕ) where
   may a b d = ap₂ (λ (x y : Bool). not x && y) a (ap₂ (λ (x y : Bool). x && y) (eq-eqb (n % 2) 0 b) (le-leb n 248 d))
 
 -- where nothing may be written, it is the same for all octets
-pub none_written : (os other : List ℕ) (at : ℕ) (buffer : List ℕ) {answer : Wrote} {exit : List ℕ} → Written false os at buffer answer exit → Written false other at buffer answer exit
+pub none_written : (os other : List ℕ) (at : ℕ) (buffer : List ℕ) {answer : Outcome ℕ} {exit : List ℕ} → Written false os at buffer answer exit → Written false other at buffer answer exit
 none_written os other at buffer w =
     record {
       answers = w.answers ∙ not_answer os at buffer refl ∙ sym (not_answer other at buffer refl);
@@ -139,14 +139,14 @@ dfs_trip = record { there = there; back = back; exact = exact; fits = λ c d o e
     forbids_same : (d : Dfs) → DfsFits d → dfs_forbids (octets_from 6 0 (dfs_contents d)) (octet 6 (dfs_contents d)) ≡ dfs_forbids d.owner d.recovery
     forbids_same d f = ap (λ (x : Dfs). dfs_forbids x.owner x.recovery) (in_contents d f)
 
-    there : (d : Dfs) → DfsFits d → dfs_may d ≡ true → dfs_means (dfs_contents d) ≡ accepted d
+    there : (d : Dfs) → DfsFits d → dfs_may d ≡ true → dfs_means (dfs_contents d) ≡ Ok d
     there d f m =
         let b = may_be d.owner d.recovery (length d.pairs) m in
         let n = contents_length d f in
         sym (good (dfs_contents d) (length_right (length (dfs_contents d)) (omega (arith, n)) (omega (arith, n, b.1))) (forbids_same d f ∙ b.0))
-        ∙ ap accepted (in_contents d f)
+        ∙ ap Ok (in_contents d f)
 
-    back : (c : List ℕ) (d : Dfs) → Octets c → dfs_means c ≡ accepted d → few_pairs d ≡ true → in_element c ≡ true → (dfs_may d ≡ true) × (dfs_contents d ≡ c)
+    back : (c : List ℕ) (d : Dfs) → Octets c → dfs_means c ≡ Ok d → few_pairs d ≡ true → in_element c ≡ true → (dfs_may d ≡ true) × (dfs_contents d ≡ c)
     back c d o e i k =
         let p = opened c d e in
         let n = right_length (length c) p.0 in
@@ -165,7 +165,7 @@ dfs_trip = record { there = there; back = back; exact = exact; fits = λ c d o e
         whole (o0 ∷ o1 ∷ o2 ∷ o3 ∷ o4 ∷ o5 ∷ []) h = absurd (omega arith)
         whole (o0 ∷ o1 ∷ o2 ∷ o3 ∷ o4 ∷ o5 ∷ o6 ∷ os) h = refl
 
-    exact : (d : Dfs) → DfsFits d → dfs_means (dfs_contents d) ≡ accepted d → few_pairs d ≡ true → dfs_may d ≡ true
+    exact : (d : Dfs) → DfsFits d → dfs_means (dfs_contents d) ≡ Ok d → few_pairs d ≡ true → dfs_may d ≡ true
     exact d f e i =
         let p = opened (dfs_contents d) d e in
         let n = right_length (length (dfs_contents d)) p.0 in

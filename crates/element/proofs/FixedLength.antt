@@ -1,4 +1,5 @@
 -- Elements of one length: the ways through `fixed`, and demand 2 for all of them at once. Assumes nothing.
+use Rattle.std.specs.Prelude.{Ok, Err}
 use mathlib.Core.Path.{◌≡◌, sym, ap, subst, ◌∙◌}
 use mathlib.Core.Bool.{Bool, true, false, not}
 use mathlib.Core.List.{List}
@@ -6,7 +7,7 @@ use Prim.Native.Nat.{ℕ}
 use borrow.Author.Tests.{eq-eqb, ne_eqb, eqb-true, not-true, not-false}
 use lib.Dec.{eqb}
 use lib.ListN.{length}
-use Rattle.answer.specs.Checks.{refused, accepted, checked}
+use Rattle.answer.specs.Checks.{checked}
 use Rattle.answer.specs.declared.Refusal.{Refusal}
 use Rattle.answer.proofs.Judged.{passed, kept}
 use Rattle.octets.specs.Numbers.{Octets}
@@ -14,20 +15,20 @@ use Rattle.octets.specs.Elements.{fixed, RoundTrip}
 
 module _ {A : Type 0} (n : ℕ) (record_in : List ℕ → A) (forbids : A → Bool) where
   module _ (c : List ℕ) where
-    pub misfit : (length c ≡ n → ⊥) → refused Refusal.WrongLength ≡ fixed n record_in forbids c
+    pub misfit : (length c ≡ n → ⊥) → Err Refusal.WrongLength ≡ fixed n record_in forbids c
     unfolding fixed checked
     misfit h = simp (ne_eqb (length c) n h)
 
-    pub forbidden : length c ≡ n → forbids (record_in c) ≡ true → refused Refusal.ForbiddenValue ≡ fixed n record_in forbids c
+    pub forbidden : length c ≡ n → forbids (record_in c) ≡ true → Err Refusal.ForbiddenValue ≡ fixed n record_in forbids c
     unfolding fixed checked
     forbidden h f = simp (eq-eqb (length c) n h, f)
 
-    pub good : length c ≡ n → forbids (record_in c) ≡ false → accepted (record_in c) ≡ fixed n record_in forbids c
+    pub good : length c ≡ n → forbids (record_in c) ≡ false → Ok (record_in c) ≡ fixed n record_in forbids c
     unfolding fixed checked
     good h f = simp (eq-eqb (length c) n h, f)
 
     -- an accepted record is the one in contents of that length, and none that is forbidden
-    pub opened : (a : A) → fixed n record_in forbids c ≡ accepted a → (length c ≡ n) × (record_in c ≡ a) × (forbids a ≡ false)
+    pub opened : (a : A) → fixed n record_in forbids c ≡ Ok a → (length c ≡ n) × (record_in c ≡ a) × (forbids a ≡ false)
     unfolding fixed
     opened a e =
         let p = passed _ _ _ e in
@@ -42,10 +43,10 @@ module _ {A : Type 0} (n : ℕ) (record_in : List ℕ → A) (forbids : A → Bo
     may : A → Bool
     may a = not (forbids a)
 
-    there : (a : A) → Fits a → may a ≡ true → fixed n record_in forbids (contents a) ≡ accepted a
+    there : (a : A) → Fits a → may a ≡ true → fixed n record_in forbids (contents a) ≡ Ok a
     unfolding may
     there a f m =
-        sym (good (contents a) (size a) (ap forbids (reads a f) ∙ not-true (forbids a) m)) ∙ ap accepted (reads a f)
+        sym (good (contents a) (size a) (ap forbids (reads a f) ∙ not-true (forbids a) m)) ∙ ap Ok (reads a f)
 
     pub trip : RoundTrip (fixed n record_in forbids) contents (λ a. not (forbids a)) Fits (λ a. true) (λ c. true)
     unfolding may

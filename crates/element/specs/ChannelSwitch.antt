@@ -1,16 +1,10 @@
 -- Element 37, Channel Switch Announcement (01, "Octets"; 7.3.2.20), length 3: mode, channel, count.
-use Rattle.std.specs.Prelude.{Bool, not, ◌||◌, List, [], ◌∷◌, ℕ, ltb}
-use Rattle.answer.specs.Checks.{Outcome, refused, accepted}
+use Rattle.std.specs.Prelude.{Bool, not, ◌||◌, List, [], ◌∷◌, ℕ, ltb, Ok, Err}
+use Rattle.answer.specs.Checks.{Outcome}
 use Rattle.channel.specs.Centres.{highest}
 use Rattle.octets.specs.Numbers.{octet}
 use Rattle.octets.specs.Elements.{fixed, element}
 use Rattle.element.specs.declared.channel_switch.ChannelSwitch.{ChannelSwitch}
-use Rattle.element.specs.declared.channel_switch.Reading.{Reading}
-
--- the outcome that each case of the answer stands for
-abbrev pub switch_told : Reading → Outcome ChannelSwitch
-switch_told (Reading.Refused r) = refused r
-switch_told (Reading.Is s) = accepted s
 
 abbrev pub switch_in : List ℕ → ChannelSwitch
 switch_in c = record { mode = octet 0 c; channel = octet 1 c; count = octet 2 c }

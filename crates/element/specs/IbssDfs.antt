@@ -1,12 +1,10 @@
 -- Element 41, IBSS DFS (02, Five: "length 7 + 2n: owner address, recovery interval, then n pairs of channel and map, not judged"; 7.3.2.24).
-use Rattle.std.specs.Prelude.{Bool, not, ◌&&◌, ◌||◌, List, [], ◌∷◌, ◌++◌, ◌≡◌, ℕ, ◌+◌, ◌*◌, ◌-◌, ◌/◌, ◌%◌, ltb, leb, eqb, length, drop, replicate}
-use Rattle.answer.specs.Checks.{Outcome, refused, accepted, ◌⇒◌, judged}
-use Rattle.answer.specs.declared.Answer.{Answer}
+use Rattle.std.specs.Prelude.{Bool, not, ◌&&◌, ◌||◌, List, [], ◌∷◌, ◌++◌, ◌≡◌, ℕ, ◌+◌, ◌*◌, ◌-◌, ◌/◌, ◌%◌, ltb, leb, eqb, length, drop, replicate, Ok, Err}
+use Rattle.answer.specs.Checks.{Outcome, ◌⇒◌, judged}
 use Rattle.answer.specs.declared.Refusal.{Refusal}
 use Rattle.octets.specs.Elements.{element}
 use Rattle.octets.specs.Numbers.{octet, octets_from, bit}
 use Rattle.element.specs.declared.ibss_dfs.ChannelMap.{ChannelMap}
-use Rattle.element.specs.declared.ibss_dfs.Pair.{Pair}
 use Rattle.element.specs.declared.ibss_dfs.Reading.{Reading}
 
 -- owner, recovery interval, and the octets of the pairs
@@ -38,14 +36,10 @@ dfs_means c =
 
 -- the answer from the outcome; beside a refusal everything is 0
 abbrev pub dfs_laid : Outcome Dfs → Reading
-dfs_laid (refused r) = record { answer = Answer.Refused r; dfs = record { owner = replicate 6 0; recovery = 0; pairs = 0 } }
-dfs_laid (accepted d) = record { answer = Answer.Accepted; dfs = record { owner = d.owner; recovery = d.recovery; pairs = length d.pairs / 2 } }
+dfs_laid (Err r) = record { answer = Err r; dfs = record { owner = replicate 6 0; recovery = 0; pairs = 0 } }
+dfs_laid (Ok d) = record { answer = Ok tt; dfs = record { owner = d.owner; recovery = d.recovery; pairs = length d.pairs / 2 } }
 
 -- the pair at an index: 16 where there is none
-abbrev pub pair_told : Pair → Outcome ChannelMap
-pair_told (Pair.Refused r) = refused r
-pair_told (Pair.Is p) = accepted p
-
 unfoldable pub pair_means : ℕ → List ℕ → Outcome ChannelMap
 pair_means i c = judged (not (ltb i (pairs_in (length c))) ⇒ Refusal.Impossible ∷ []) (record { channel = octet (7 + 2 * i) c; map = octet (7 + 2 * i + 1) c })
 

@@ -1,15 +1,9 @@
 -- Element 32, Power Constraint (01, "Octets"; 7.3.2.15): length 1.
-use Rattle.std.specs.Prelude.{Bool, true, false, List, [], ◌∷◌, ℕ}
-use Rattle.answer.specs.Checks.{Outcome, refused, accepted}
+use Rattle.std.specs.Prelude.{Bool, true, false, List, [], ◌∷◌, ℕ, Ok, Err}
+use Rattle.answer.specs.Checks.{Outcome}
 use Rattle.octets.specs.Numbers.{octet}
 use Rattle.octets.specs.Elements.{fixed, element}
 use Rattle.element.specs.declared.power_constraint.PowerConstraint.{PowerConstraint}
-use Rattle.element.specs.declared.power_constraint.Reading.{Reading}
-
--- the outcome that each case of the answer stands for
-abbrev pub power_told : Reading → Outcome PowerConstraint
-power_told (Reading.Refused r) = refused r
-power_told (Reading.Is p) = accepted p
 
 abbrev pub power_in : List ℕ → PowerConstraint
 power_in c = record { decibels = octet 0 c }

@@ -1,15 +1,9 @@
 -- Element 40, Quiet (01, "Octets"; 7.3.2.23), length 6: count, period, duration (2), offset (2). `b` is the beacon interval.
-use Rattle.std.specs.Prelude.{Bool, not, ◌||◌, List, ◌∷◌, [], ◌++◌, ℕ, ◌<◌, ◌^◌, leb, eqb}
-use Rattle.answer.specs.Checks.{Outcome, refused, accepted}
+use Rattle.std.specs.Prelude.{Bool, not, ◌||◌, List, ◌∷◌, [], ◌++◌, ℕ, ◌<◌, ◌^◌, leb, eqb, Ok, Err}
+use Rattle.answer.specs.Checks.{Outcome}
 use Rattle.octets.specs.Numbers.{octet, number, split}
 use Rattle.octets.specs.Elements.{fixed, element}
 use Rattle.element.specs.declared.quiet.Quiet.{Quiet}
-use Rattle.element.specs.declared.quiet.Reading.{Reading}
-
--- the outcome that each case of the answer stands for
-abbrev pub quiet_told : Reading → Outcome Quiet
-quiet_told (Reading.Refused r) = refused r
-quiet_told (Reading.Is q) = accepted q
 
 abbrev pub quiet_in : List ℕ → Quiet
 quiet_in c = record { count = octet 0 c; period = octet 1 c; duration = number 2 2 c; offset = number 2 4 c }

@@ -1,18 +1,12 @@
 -- Element 35, TPC Report (01, "Octets"; 7.3.2.18), length 2: power in dBm, margin in dB, both signed.
-use Rattle.std.specs.Prelude.{Bool, true, false, List, [], ◌∷◌, ℕ}
+use Rattle.std.specs.Prelude.{Bool, true, false, List, [], ◌∷◌, ℕ, Ok, Err}
 use Rattle.std.specs.Int.{w8}
 use Rattle.std.proofs.Common.{SFits}
-use Rattle.answer.specs.Checks.{Outcome, refused, accepted}
+use Rattle.answer.specs.Checks.{Outcome}
 use Rattle.octets.specs.Numbers.{octet}
 use Rattle.octets.specs.Signed.{signed_of, octet_of}
 use Rattle.octets.specs.Elements.{fixed, element}
-use Rattle.element.specs.declared.tpc_report.Reading.{Reading}
 use Rattle.element.specs.declared.tpc_report.TpcReport.{TpcReport}
-
--- the outcome that each case of the answer stands for
-abbrev pub tpc_report_told : Reading → Outcome TpcReport
-tpc_report_told (Reading.Refused r) = refused r
-tpc_report_told (Reading.Is t) = accepted t
 
 abbrev pub tpc_report_in : List ℕ → TpcReport
 tpc_report_in c = record { power = signed_of (octet 0 c); margin = signed_of (octet 1 c) }

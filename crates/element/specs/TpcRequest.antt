@@ -1,13 +1,7 @@
 -- Element 34, TPC Request (01, "Octets"; 7.3.2.17): length 0, so there is nothing in it to read.
-use Rattle.std.specs.Prelude.{false, List, [], ℕ}
-use Rattle.answer.specs.Checks.{Outcome, refused, accepted}
+use Rattle.std.specs.Prelude.{false, List, [], ℕ, Ok, Err}
+use Rattle.answer.specs.Checks.{Outcome, Answer}
 use Rattle.octets.specs.Elements.{fixed, element}
-use Rattle.element.specs.declared.tpc_request.Reading.{Reading}
-
--- the outcome that each case of the answer stands for
-abbrev pub tpc_request_told : Reading → Outcome (Unit {0})
-tpc_request_told (Reading.Refused r) = refused r
-tpc_request_told Reading.Is = accepted tt
 
 unfoldable pub tpc_request_means : List ℕ → Outcome (Unit {0})
 tpc_request_means = fixed 0 (λ c. tt) (λ u. false)

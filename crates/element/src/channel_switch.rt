@@ -1,10 +1,9 @@
 // Element 37, Channel Switch Announcement (7.3.2.20).
 ghost use Rattle.std.specs.Prelude.{◌≡◌};
 ghost use Rattle.octets.specs.Writing.{Written};
-ghost use Rattle.element.specs.ChannelSwitch.{switch_told, switch_forbids, switch_means, switch_may, switch_octets};
+ghost use Rattle.element.specs.ChannelSwitch.{switch_forbids, switch_means, switch_may, switch_octets};
 
 use answer::Refusal;
-use octets::Wrote;
 
 pub const ID: u8 = 37;
 
@@ -14,12 +13,6 @@ pub struct ChannelSwitch {
     pub mode: u8,
     pub channel: u8,
     pub count: u8,
-}
-
-#[derive(Clone, Copy)]
-pub enum Reading {
-    Refused(Refusal),
-    Is(ChannelSwitch),
 }
 
 // The mode is over 1, or the channel is over 200.
@@ -32,11 +25,11 @@ fn is_forbidden(switch: ChannelSwitch) -> bool
     channel::HIGHEST < switch.channel
 }
 
-pub fn read(contents: &[u8]) -> Reading
-    ensures { switch_told result ≡ switch_means contents.now }
+pub fn read(contents: &[u8]) -> Result<ChannelSwitch, Refusal>
+    ensures { result ≡ switch_means contents.now }
 {
     if contents.len() != 3 {
-        return Reading::Refused(Refusal::WrongLength);
+        return Err(Refusal::WrongLength);
     }
     let switch = ChannelSwitch {
         mode: contents[0],
@@ -44,9 +37,9 @@ pub fn read(contents: &[u8]) -> Reading
         count: contents[2],
     };
     if is_forbidden(switch) {
-        return Reading::Refused(Refusal::ForbiddenValue);
+        return Err(Refusal::ForbiddenValue);
     }
-    Reading::Is(switch)
+    Ok(switch)
 }
 
 // Whether the reader would take the announcement back.
@@ -56,7 +49,7 @@ pub fn may_write(switch: ChannelSwitch) -> bool
     !is_forbidden(switch)
 }
 
-pub fn write(switch: ChannelSwitch, buffer: &mut [u8], at: usize) -> Wrote
+pub fn write(switch: ChannelSwitch, buffer: &mut [u8], at: usize) -> Result<usize, Refusal>
     ensures { Written (switch_may switch) (switch_octets switch) at buffer.old result buffer.new }
 {
     let element = [ID, 3, switch.mode, switch.channel, switch.count];

@@ -1,11 +1,9 @@
 // Element 41, IBSS DFS (document 02, Five; 7.3.2.24).
-ghost use Rattle.std.specs.Prelude.{◌≡◌};
-ghost use Rattle.answer.specs.Checks.{refused};
+ghost use Rattle.std.specs.Prelude.{◌≡◌, Err};
 ghost use Rattle.octets.specs.Writing.{Written};
-ghost use Rattle.element.specs.IbssDfs.{pairs_in, dfs_forbids, dfs_means, dfs_laid, pair_told, pair_means, dfs_of, dfs_may_of, dfs_may, dfs_octets};
+ghost use Rattle.element.specs.IbssDfs.{pairs_in, dfs_forbids, dfs_means, dfs_laid, pair_means, dfs_of, dfs_may_of, dfs_may, dfs_octets};
 
-use answer::{Answer, Refusal};
-use octets::Wrote;
+use answer::Refusal;
 
 pub const ID: u8 = 41;
 
@@ -38,7 +36,7 @@ pub const NONE: IbssDfs = IbssDfs {
 // The answer, and what was read; beside a refusal everything is 0.
 #[derive(Clone, Copy)]
 pub struct Reading {
-    pub answer: Answer,
+    pub answer: Result<(), Refusal>,
     pub dfs: IbssDfs,
 }
 
@@ -47,12 +45,6 @@ pub struct Reading {
 pub struct ChannelMap {
     pub channel: u8,
     pub map: u8,
-}
-
-#[derive(Clone, Copy)]
-pub enum Pair {
-    Refused(Refusal),
-    Is(ChannelMap),
 }
 
 // The recovery interval is 0, or the owner is a group.
@@ -76,10 +68,10 @@ fn pairs_in(length: usize) -> usize
 }
 
 fn refused(refusal: Refusal) -> Reading
-    ensures { result ≡ dfs_laid (refused refusal) }
+    ensures { result ≡ dfs_laid (Err refusal) }
 {
     Reading {
-        answer: Answer::Refused(refusal),
+        answer: Err(refusal),
         dfs: NONE,
     }
 }
@@ -107,7 +99,7 @@ pub fn read(contents: &[u8]) -> Reading
     }
     let pairs = pairs_in(contents.len());
     Reading {
-        answer: Answer::Accepted,
+        answer: Ok(()),
         dfs: IbssDfs {
             owner,
             recovery,
@@ -117,14 +109,14 @@ pub fn read(contents: &[u8]) -> Reading
 }
 
 // The pair at an index, in the contents that hold it.
-pub fn pair_at(contents: &[u8], index: usize) -> Pair
-    ensures { pair_told result ≡ pair_means index contents.now }
+pub fn pair_at(contents: &[u8], index: usize) -> Result<ChannelMap, Refusal>
+    ensures { result ≡ pair_means index contents.now }
 {
     if pairs_in(contents.len()) <= index {
-        return Pair::Refused(Refusal::Impossible);
+        return Err(Refusal::Impossible);
     }
     let at = FIXED_LENGTH + PAIR * index;
-    Pair::Is(ChannelMap {
+    Ok(ChannelMap {
         channel: contents[at],
         map: contents[at + 1],
     })
@@ -144,7 +136,7 @@ fn may_write(owner: [u8; 6], recovery: u8, length: usize) -> bool
 }
 
 // The pairs are handed in as their octets, channel and map in turn.
-pub fn write(owner: [u8; 6], recovery: u8, pairs: &[u8], buffer: &mut [u8], at: usize) -> Wrote
+pub fn write(owner: [u8; 6], recovery: u8, pairs: &[u8], buffer: &mut [u8], at: usize) -> Result<usize, Refusal>
     ensures { Written (dfs_may (dfs_of owner recovery pairs.now)) (dfs_octets (dfs_of owner recovery pairs.now)) at buffer.old result buffer.new }
 {
     if !may_write(owner, recovery, pairs.len()) {

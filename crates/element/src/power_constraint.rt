@@ -1,10 +1,9 @@
 // Element 32, Power Constraint (7.3.2.15).
 ghost use Rattle.std.specs.Prelude.{◌≡◌};
 ghost use Rattle.octets.specs.Writing.{Written};
-ghost use Rattle.element.specs.PowerConstraint.{power_told, power_means, power_may, power_octets};
+ghost use Rattle.element.specs.PowerConstraint.{power_means, power_may, power_octets};
 
 use answer::Refusal;
-use octets::Wrote;
 
 pub const ID: u8 = 32;
 
@@ -14,24 +13,18 @@ pub struct PowerConstraint {
     pub decibels: u8,
 }
 
-#[derive(Clone, Copy)]
-pub enum Reading {
-    Refused(Refusal),
-    Is(PowerConstraint),
-}
-
-pub fn read(contents: &[u8]) -> Reading
-    ensures { power_told result ≡ power_means contents.now }
+pub fn read(contents: &[u8]) -> Result<PowerConstraint, Refusal>
+    ensures { result ≡ power_means contents.now }
 {
     if contents.len() != 1 {
-        return Reading::Refused(Refusal::WrongLength);
+        return Err(Refusal::WrongLength);
     }
-    Reading::Is(PowerConstraint {
+    Ok(PowerConstraint {
         decibels: contents[0],
     })
 }
 
-pub fn write(constraint: PowerConstraint, buffer: &mut [u8], at: usize) -> Wrote
+pub fn write(constraint: PowerConstraint, buffer: &mut [u8], at: usize) -> Result<usize, Refusal>
     ensures { Written (power_may constraint) (power_octets constraint) at buffer.old result buffer.new }
 {
     let element = [ID, 1, constraint.decibels];

@@ -1,10 +1,9 @@
 // Element 40, Quiet (7.3.2.23).
 ghost use Rattle.std.specs.Prelude.{◌≡◌};
 ghost use Rattle.octets.specs.Writing.{Written};
-ghost use Rattle.element.specs.Quiet.{quiet_told, quiet_forbids, quiet_means, quiet_may, quiet_octets};
+ghost use Rattle.element.specs.Quiet.{quiet_forbids, quiet_means, quiet_may, quiet_octets};
 
 use answer::Refusal;
-use octets::Wrote;
 
 pub const ID: u8 = 40;
 
@@ -17,12 +16,6 @@ pub struct Quiet {
     pub offset: u16,
 }
 
-#[derive(Clone, Copy)]
-pub enum Reading {
-    Refused(Refusal),
-    Is(Quiet),
-}
-
 // The count is 0, which is reserved, or the offset is not within the beacon interval.
 fn is_forbidden(quiet: Quiet, interval: u16) -> bool
     ensures { result ≡ quiet_forbids interval quiet }
@@ -33,11 +26,11 @@ fn is_forbidden(quiet: Quiet, interval: u16) -> bool
     interval <= quiet.offset
 }
 
-pub fn read(contents: &[u8], interval: u16) -> Reading
-    ensures { quiet_told result ≡ quiet_means interval contents.now }
+pub fn read(contents: &[u8], interval: u16) -> Result<Quiet, Refusal>
+    ensures { result ≡ quiet_means interval contents.now }
 {
     if contents.len() != 6 {
-        return Reading::Refused(Refusal::WrongLength);
+        return Err(Refusal::WrongLength);
     }
     let quiet = Quiet {
         count: contents[0],
@@ -46,12 +39,12 @@ pub fn read(contents: &[u8], interval: u16) -> Reading
         offset: octets::number16(contents, 4),
     };
     if is_forbidden(quiet, interval) {
-        return Reading::Refused(Refusal::ForbiddenValue);
+        return Err(Refusal::ForbiddenValue);
     }
-    Reading::Is(quiet)
+    Ok(quiet)
 }
 
-pub fn write(quiet: Quiet, interval: u16, buffer: &mut [u8], at: usize) -> Wrote
+pub fn write(quiet: Quiet, interval: u16, buffer: &mut [u8], at: usize) -> Result<usize, Refusal>
     ensures { Written (quiet_may interval quiet) (quiet_octets quiet) at buffer.old result buffer.new }
 {
     let duration = octets::octets16(quiet.duration);

@@ -1,10 +1,9 @@
 // Element 35, TPC Report (7.3.2.18).
 ghost use Rattle.std.specs.Prelude.{◌≡◌};
 ghost use Rattle.octets.specs.Writing.{Written};
-ghost use Rattle.element.specs.TpcReport.{tpc_report_told, tpc_report_means, tpc_report_may, tpc_report_octets};
+ghost use Rattle.element.specs.TpcReport.{tpc_report_means, tpc_report_may, tpc_report_octets};
 
 use answer::Refusal;
-use octets::Wrote;
 
 pub const ID: u8 = 35;
 
@@ -15,24 +14,18 @@ pub struct TpcReport {
     pub margin: i8,
 }
 
-#[derive(Clone, Copy)]
-pub enum Reading {
-    Refused(Refusal),
-    Is(TpcReport),
-}
-
-pub fn read(contents: &[u8]) -> Reading
-    ensures { tpc_report_told result ≡ tpc_report_means contents.now }
+pub fn read(contents: &[u8]) -> Result<TpcReport, Refusal>
+    ensures { result ≡ tpc_report_means contents.now }
 {
     if contents.len() != 2 {
-        return Reading::Refused(Refusal::WrongLength);
+        return Err(Refusal::WrongLength);
     }
     let power = octets::to_signed(contents[0]);
     let margin = octets::to_signed(contents[1]);
-    Reading::Is(TpcReport { power, margin })
+    Ok(TpcReport { power, margin })
 }
 
-pub fn write(report: TpcReport, buffer: &mut [u8], at: usize) -> Wrote
+pub fn write(report: TpcReport, buffer: &mut [u8], at: usize) -> Result<usize, Refusal>
     ensures { Written (tpc_report_may report) (tpc_report_octets report) at buffer.old result buffer.new }
 {
     let power = report.power;

@@ -1,12 +1,10 @@
 -- Busy fraction and densities (01, "Replies", its last paragraph): the ceiling of 255 times a time in µs over 1,024 times the
 -- duration in TU. Duration 0, or times whose sum is over 1,024 times the duration: 16.
-use Rattle.std.specs.Prelude.{Bool, not, ◌&&◌, List, [], ◌∷◌, map, ℕ, ◌+◌, ◌-◌, ◌*◌, ◌/◌, replicate, leb, eqb}
-use Rattle.answer.specs.Checks.{Outcome, refused, accepted, ◌⇒◌, judged}
+use Rattle.std.specs.Prelude.{Bool, not, ◌&&◌, List, [], ◌∷◌, map, ℕ, ◌+◌, ◌-◌, ◌*◌, ◌/◌, replicate, leb, eqb, Ok, Err}
+use Rattle.answer.specs.Checks.{Outcome, ◌⇒◌, judged}
 use Rattle.octets.specs.Sums.{sum_of}
-use Rattle.answer.specs.declared.Answer.{Answer}
 use Rattle.answer.specs.declared.Refusal.{Refusal}
 use Rattle.fraction.specs.declared.Densities.{Densities}
-use Rattle.fraction.specs.declared.Fraction.{Fraction}
 
 -- the least number that times d is n or more, for d over 0
 unfoldable pub ceiling : ℕ → ℕ → ℕ
@@ -19,11 +17,6 @@ fraction_of duration time = ceiling (255 * time) (1024 * duration)
 unfoldable pub possible : ℕ → ℕ → Bool
 possible duration sum = not (eqb duration 0) && leb sum (1024 * duration)
 
--- the outcome that each case of the answer stands for
-abbrev pub fraction_told : Fraction → Outcome ℕ
-fraction_told (Fraction.Refused r) = refused r
-fraction_told (Fraction.Is f) = accepted f
-
 unfoldable pub busy_of : ℕ → ℕ → Outcome ℕ
 busy_of duration time = judged (not (possible duration time) ⇒ Refusal.Impossible ∷ []) (fraction_of duration time)
 
@@ -34,5 +27,5 @@ densities_of duration times =
 
 -- the answer with its eight numbers beside it, all 0 beside a refusal
 abbrev pub laid : Outcome (List ℕ) → Densities
-laid (refused r) = record { answer = Answer.Refused r; values = replicate 8 0 }
-laid (accepted ds) = record { answer = Answer.Accepted; values = ds }
+laid (Err r) = record { answer = Err r; values = replicate 8 0 }
+laid (Ok ds) = record { answer = Ok tt; values = ds }

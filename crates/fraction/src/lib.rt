@@ -3,21 +3,14 @@
 
 ghost use Rattle.std.specs.Prelude.{◌≡◌, ◌*◌, ◌<◌, ◌≤◌};
 ghost use Rattle.octets.specs.Sums.{sum_of};
-ghost use Rattle.fraction.specs.Fractions.{possible, fraction_of, fraction_told, busy_of, laid, densities_of};
+ghost use Rattle.fraction.specs.Fractions.{possible, fraction_of, busy_of, laid, densities_of};
 
-use answer::{Answer, Refusal};
-
-// What asking for a busy fraction answers.
-#[derive(Clone, Copy)]
-pub enum Fraction {
-    Refused(Refusal),
-    Is(u8),
-}
+use answer::Refusal;
 
 // What asking for densities answers; a refusal leaves eight zeros.
 #[derive(Clone, Copy)]
 pub struct Densities {
-    pub answer: Answer,
+    pub answer: Result<(), Refusal>,
     pub values: [u8; 8],
 }
 
@@ -41,13 +34,13 @@ fn share(time: u32, duration: u16) -> u8
 }
 
 // The busy fraction of a time in µs within a duration in TU.
-pub fn busy_fraction(time: u32, duration: u16) -> Fraction
-    ensures { fraction_told result ≡ busy_of duration time }
+pub fn busy_fraction(time: u32, duration: u16) -> Result<u8, Refusal>
+    ensures { result ≡ busy_of duration time }
 {
     if !is_possible(time as u64, duration) {
-        return Fraction::Refused(Refusal::Impossible);
+        return Err(Refusal::Impossible);
     }
-    Fraction::Is(share(time, duration))
+    Ok(share(time, duration))
 }
 
 // The sum of the times, which no eight numbers of 32 bits make wrap.
@@ -71,7 +64,7 @@ pub fn rpi_densities(times: [u32; 8], duration: u16) -> Densities
     let mut values = [0u8; 8];
     if !is_possible(total(times), duration) {
         return Densities {
-            answer: Answer::Refused(Refusal::Impossible),
+            answer: Err(Refusal::Impossible),
             values,
         };
     }
@@ -81,7 +74,7 @@ pub fn rpi_densities(times: [u32; 8], duration: u16) -> Densities
         i += 1;
     }
     Densities {
-        answer: Answer::Accepted,
+        answer: Ok(()),
         values,
     }
 }

@@ -1,4 +1,5 @@
 -- An action body is accepted exactly where its fixed fields and what stands after them are. Assumes nothing.
+use Rattle.std.specs.Prelude.{Ok, Err}
 use mathlib.Core.Path.{◌≡◌, refl, ap, subst, ◌∙◌}
 use mathlib.Core.Bool.{Bool, true, false, not}
 use mathlib.Core.List.{List, [], ◌∷◌, ◌++◌}
@@ -9,7 +10,7 @@ use lib.Dec.{ltb, eqb}
 use lib.ListN.{length, drop}
 use Rattle.action.specs.Openings.{fixed_fields, switch_fixed_fields, Opens, switching, with, opens_with, forbids_token}
 use Rattle.single_body.specs.Singles.{single}
-use Rattle.answer.specs.Checks.{refused, accepted, pick, ◌⇒◌, checked, judged, and_then}
+use Rattle.answer.specs.Checks.{pick, ◌⇒◌, checked, judged, and_then}
 use Rattle.answer.specs.Faults.{fault_at, fault_nowhere, Placed}
 use Rattle.answer.specs.declared.Refusal.{Refusal}
 use Rattle.answer.proofs.Booleans.{clash}
@@ -34,30 +35,30 @@ lead (switch s) = 0 ∷ 4 ∷ []
 
 -- a body's token may stand, and a run holds its records
 abbrev pub Holds : Body → List ℕ → Type 0
-Holds (requests token rs) run = (not (eqb token 0) ≡ true) × (measurements_in request_sort run ≡ accepted rs)
-Holds (reports token rs) run = measurements_in report_sort run ≡ accepted rs
-Holds (tpc_request token) run = (not (eqb token 0) ≡ true) × (single fixed_fields 34 tpc_request_means (handed_in run) ≡ accepted tt)
-Holds (tpc_report token t) run = single fixed_fields 35 tpc_report_means (handed_in run) ≡ accepted t
-Holds (switch s) run = single switch_fixed_fields 37 switch_means (handed_in run) ≡ accepted s
+Holds (requests token rs) run = (not (eqb token 0) ≡ true) × (measurements_in request_sort run ≡ Ok rs)
+Holds (reports token rs) run = measurements_in report_sort run ≡ Ok rs
+Holds (tpc_request token) run = (not (eqb token 0) ≡ true) × (single fixed_fields 34 tpc_request_means (handed_in run) ≡ Ok tt)
+Holds (tpc_report token t) run = single fixed_fields 35 tpc_report_means (handed_in run) ≡ Ok t
+Holds (switch s) run = single switch_fixed_fields 37 switch_means (handed_in run) ≡ Ok s
 
 module _ (run : List ℕ) where
-  pub opens : (action token : ℕ) → action ≤ 3 → forbids_token action token ≡ false → opens_with (0 ∷ action ∷ token ∷ run) ≡ accepted (with action token)
+  pub opens : (action token : ℕ) → action ≤ 3 → forbids_token action token ≡ false → opens_with (0 ∷ action ∷ token ∷ run) ≡ Ok (with action token)
   unfolding opens_with checked
   opens action token h k =
       let n = length (0 ∷ action ∷ token ∷ run) in
       simp (le-ltb n 1 (omega arith), le-ltb n 2 (omega arith), le-ltb 4 action (omega arith), ne_eqb action 4 (λ e. omega arith), le-ltb n 3 (omega arith), k)
 
-  pub opens_switch : opens_with (0 ∷ 4 ∷ run) ≡ accepted switching
+  pub opens_switch : opens_with (0 ∷ 4 ∷ run) ≡ Ok switching
   unfolding opens_with checked
   opens_switch =
       let n = length (0 ∷ 4 ∷ run) in
       simp (le-ltb n 1 (omega arith), le-ltb n 2 (omega arith))
 
-  pub by_lead : (c : List ℕ) (o : Opens) → opens_with c ≡ accepted o → action_means c ≡ after_opening c o
+  pub by_lead : (c : List ℕ) (o : Opens) → opens_with c ≡ Ok o → action_means c ≡ after_opening c o
   unfolding action_means
   by_lead c o e = ap (λ (x : Placed Opens). and_then x (after_opening c)) e
 
-  pub reads : (body : Body) → Holds body run → action_means (lead body ++ run) ≡ accepted body
+  pub reads : (body : Body) → Holds body run → action_means (lead body ++ run) ≡ Ok body
   reads (requests token rs) h = by_lead _ _ (opens 0 token (omega arith) (not-true (eqb token 0) h.0)) ∙ simp h.1
   reads (reports token rs) h = by_lead _ _ (opens 1 token (omega arith) refl) ∙ simp h
   reads (tpc_request token) h = by_lead _ _ (opens 2 token (omega arith) (not-true (eqb token 0) h.0)) ∙ simp h.1
@@ -79,7 +80,7 @@ Begins c (with action token) = (c ≡ 0 ∷ action ∷ token ∷ drop fixed_fiel
 module _ (y : ℕ) where
   -- after category 0 and an action up to 4
   by_action : (r : List ℕ) (o : Opens) (t : Bool) → eqb y 4 ≡ t → y ≤ 4
-      → pick t (accepted switching) (judged (ltb (length (0 ∷ y ∷ r)) fixed_fields ⇒ fault_nowhere Refusal.TooShort ∷ forbids_token y (octet 2 (0 ∷ y ∷ r)) ⇒ fault_at 2 Refusal.ForbiddenValue ∷ []) (with y (octet 2 (0 ∷ y ∷ r)))) ≡ accepted o
+      → pick t (Ok switching) (judged (ltb (length (0 ∷ y ∷ r)) fixed_fields ⇒ fault_nowhere Refusal.TooShort ∷ forbids_token y (octet 2 (0 ∷ y ∷ r)) ⇒ fault_at 2 Refusal.ForbiddenValue ∷ []) (with y (octet 2 (0 ∷ y ∷ r)))) ≡ Ok o
       → Begins (0 ∷ y ∷ r) o
   by_action r o true u h e =
       let k : switching ≡ o = cc in
@@ -91,7 +92,7 @@ module _ (y : ℕ) where
       let k : with y token ≡ o = kept _ q.1 in
       subst (Begins (0 ∷ y ∷ token ∷ r)) k (refl, omega (arith, eqb-false y 4 u), q.0)
 
-pub begins : (c : List ℕ) (o : Opens) → opens_with c ≡ accepted o → Begins c o
+pub begins : (c : List ℕ) (o : Opens) → opens_with c ≡ Ok o → Begins c o
 unfolding opens_with
 begins [] o e = clash (passed _ _ _ e).0
 begins (x ∷ []) o e = clash (passed _ _ _ (passed _ _ _ (passed _ _ _ e).1).1).0
@@ -102,12 +103,12 @@ begins (x ∷ y ∷ r) o e =
     subst (λ (n : ℕ). Begins (n ∷ y ∷ r) o) zeroed (by_action y r o (eqb y 4) refl (ltb-false 4 y q.0) (stands _ q.1))
 
 module _ (c : List ℕ) (body : Body) where
-  made : {A : Type 0} (make : A → Body) (o : Placed A) → ((a : A) → o ≡ accepted a → Parts c (make a))
-      → and_then o (λ a. accepted (make a)) ≡ accepted body → Parts c body
-  made make (refused r) k e = absurd (never e)
-  made make (accepted a) k e = let g : make a ≡ body = cc in subst (Parts c) g (k a refl)
+  made : {A : Type 0} (make : A → Body) (o : Placed A) → ((a : A) → o ≡ Ok a → Parts c (make a))
+      → and_then o (λ a. Ok (make a)) ≡ Ok body → Parts c body
+  made make (Err r) k e = absurd (never e)
+  made make (Ok a) k e = let g : make a ≡ body = cc in subst (Parts c) g (k a refl)
 
-  by_opening : (o : Opens) → Begins c o → after_opening c o ≡ accepted body → Parts c body
+  by_opening : (o : Opens) → Begins c o → after_opening c o ≡ Ok body → Parts c body
   by_opening switching b e = made switch _ (λ s h. record { run = drop switch_fixed_fields c; front = b; holds = h }) e
   by_opening (with zero token) b e =
       made (requests token) _ (λ rs h. record { run = drop fixed_fields c; front = b.0; holds = (ap not b.2, h) }) e
@@ -117,6 +118,6 @@ module _ (c : List ℕ) (body : Body) where
   by_opening (with (suc (suc (suc zero))) token) b e = made (tpc_report token) _ (λ t h. record { run = drop fixed_fields c; front = b.0; holds = h }) e
   by_opening (with (suc (suc (suc (suc n)))) token) b e = absurd (omega arith)
 
-  pub parts : action_means c ≡ accepted body → Parts c body
+  pub parts : action_means c ≡ Ok body → Parts c body
   unfolding action_means
   parts e = let p = followed (opens_with c) (after_opening c) body e in by_opening p.0 (begins c p.0 p.1) p.2

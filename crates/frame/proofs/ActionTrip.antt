@@ -1,5 +1,6 @@
 -- Demand 2 for action bodies (01, "Octets"): from that for lists of measurement elements and for bodies of one element.
 -- Assumes nothing.
+use Rattle.std.specs.Prelude.{Ok}
 use mathlib.Core.Path.{◌≡◌, refl, sym, ap, subst, ◌∙◌}
 use mathlib.Core.Bool.{true, not}
 use mathlib.Core.List.{List, [], ◌++◌, append_cancel_left}
@@ -7,7 +8,6 @@ use Prim.Native.Nat.{ℕ}
 use lib.Dec.{eqb}
 use Rattle.action.specs.Openings.{fixed_fields, switch_fixed_fields}
 use Rattle.single_body.specs.Singles.{single}
-use Rattle.answer.specs.Checks.{accepted}
 use Rattle.answer.proofs.Booleans.{both}
 use Rattle.element.specs.ChannelSwitch.{switch_means, switch_contents, switch_may, switch_octets}
 use Rattle.octets.specs.Elements.{RoundTrip}
@@ -102,10 +102,10 @@ fitting (switch s) run o h = tt
 
 -- ---- whole bodies
 
-there : (body : Body) → ActionFits body → action_may body ≡ true → action_means (action_octets body) ≡ accepted body
+there : (body : Body) → ActionFits body → action_may body ≡ true → action_means (action_octets body) ≡ Ok body
 there body f m = ap action_means (laid body) ∙ reads (elements body) body (held body f m)
 
-back : (c : List ℕ) (body : Body) → Octets c → action_means c ≡ accepted body → action_interpreted body ≡ true → action_clear c ≡ true
+back : (c : List ℕ) (body : Body) → Octets c → action_means c ≡ Ok body → action_interpreted body ≡ true → action_clear c ≡ true
     → (action_may body ≡ true) × (action_octets body ≡ c)
 back c body o e i k =
     let p = parts c body e in
@@ -115,13 +115,13 @@ back c body o e i k =
     in
     (w.0, laid body ∙ ap (λ (x : List ℕ). lead body ++ x) w.1 ∙ sym p.front)
 
-exact : (body : Body) → ActionFits body → action_means (action_octets body) ≡ accepted body → action_interpreted body ≡ true → action_may body ≡ true
+exact : (body : Body) → ActionFits body → action_means (action_octets body) ≡ Ok body → action_interpreted body ≡ true → action_may body ≡ true
 exact body f e i =
     let p = parts (action_octets body) body e in
     let same = append_cancel_left (lead body) p.run (elements body) (sym p.front ∙ laid body) in
     allowed body f (subst (Holds body) same p.holds) i
 
-fits : (c : List ℕ) (body : Body) → Octets c → action_means c ≡ accepted body → ActionFits body
+fits : (c : List ℕ) (body : Body) → Octets c → action_means c ≡ Ok body → ActionFits body
 fits c body o e =
     let p = parts c body e in
     fitting body p.run (octets_after (lead body) p.run (subst Octets p.front o)) p.holds

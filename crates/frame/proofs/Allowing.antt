@@ -1,4 +1,5 @@
 -- An accepted frame says nothing that is not allowed. Assumes nothing.
+use Rattle.std.specs.Prelude.{Ok, Err}
 use mathlib.Core.Bool.{false}
 use mathlib.Core.List.{List}
 use mathlib.Core.Path.{◌≡◌, refl, sym, subst}
@@ -10,7 +11,6 @@ use Rattle.action.specs.Openings.{fixed_fields, switch_fixed_fields, Opens, swit
 use Rattle.single_body.specs.Singles.{single}
 use Rattle.answer.proofs.Yielding.{Yields, of_refusal, of_value, either_way_lem, after_value}
 use Rattle.answer.proofs.Placing.{placed_value, past_value}
-use Rattle.answer.specs.Checks.{refused, accepted}
 use Rattle.answer.specs.Faults.{Placed, placed_at, nowhere, placed_past}
 use Rattle.beacon.proofs.Allowing.{switch_allowed, beacon_allowed}
 use Rattle.beacon.specs.Beacons.{beacon_means}
@@ -79,16 +79,16 @@ module _ (b : ℕ) where
   kind_allowed Subtype.ProbeResponse body = after_value (KindAllowed b) (beacon_means b body) _ (λ t e. of_value (KindAllowed b) (beacon_allowed b body t e))
   kind_allowed Subtype.Action body = after_value (KindAllowed b) (action_means body) _ (λ a e. of_value (KindAllowed b) (body_allowed body a e))
 
-  pub frame_allowed : (own ap' f : List ℕ) (x : Sent) → frame_means own ap' b f ≡ accepted x → KindAllowed b x.kind
+  pub frame_allowed : (own ap' f : List ℕ) (x : Sent) → frame_means own ap' b f ≡ Ok x → KindAllowed b x.kind
   unfolding frame_means
   frame_allowed own ap' f =
       after_value (λ (x : Sent). KindAllowed b x.kind) (nowhere (header_means Cell.Ap own ap' f)) _
       (λ h e. after_value (λ (x : Sent). KindAllowed b x.kind) (placed_past header_length (kind_of b h.subtype (body_of f))) _
       (λ k g. of_value (λ (x : Sent). KindAllowed b x.kind) (kind_allowed h.subtype (body_of f) k (past_value header_length (kind_of b h.subtype (body_of f)) g))))
 
-  pub received_allowed : (o : Placed Sent) → ((x : Sent) → o ≡ accepted x → KindAllowed b x.kind) → ReceivedAllowed b (frame_laid o)
-  received_allowed (refused r) h = tt
-  received_allowed (accepted x) h =
+  pub received_allowed : (o : Placed Sent) → ((x : Sent) → o ≡ Ok x → KindAllowed b x.kind) → ReceivedAllowed b (frame_laid o)
+  received_allowed (Err r) h = tt
+  received_allowed (Ok x) h =
       subst (FrameAllowed b (frame_of x.kind)) (sym (take_at (quiets_of x.kind) _ _ refl)) (h x refl)
 
   -- what `read` hands out says nothing that is not allowed

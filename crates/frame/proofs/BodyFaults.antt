@@ -1,4 +1,5 @@
 -- What breaks a body, and where: every fault that a body of one kind or the other may have, and no other. Assumes nothing.
+use Rattle.std.specs.Prelude.{Ok}
 use mathlib.Core.Path.{◌≡◌, refl, sym, ap, subst, ◌∙◌}
 use mathlib.Core.Bool.{Bool}
 use mathlib.Core.List.{List, [], ◌∷◌, ◌++◌}
@@ -11,7 +12,7 @@ use lib.ListN.{length, drop, length-append, length-drop}
 use Rattle.action.specs.Openings.{category_field, action_field, token_field, fixed_fields, switch_fixed_fields, forbids_token, Opens, switching, with, opens_with}
 use Rattle.answer.proofs.Placing.{placed_value}
 use Rattle.answer.proofs.Refusing.{Refuses, by_value, by_refusal, by_either, by_check, by_none, by_then, by_place, of_place}
-use Rattle.answer.specs.Checks.{Outcome, accepted, ◌⇒◌, judged, and_then}
+use Rattle.answer.specs.Checks.{Outcome, ◌⇒◌, judged, and_then}
 use Rattle.answer.specs.Faults.{fault_at, fault_nowhere, placed_at}
 use Rattle.answer.specs.declared.Fault.{Fault}
 use Rattle.answer.specs.declared.Refusal.{Refusal}
@@ -279,7 +280,7 @@ module _ (P : Fault → Type 0) (size : ℕ) (f : NoticeFaults P size) (b : ℕ)
     unread r (inl e) = subst At (sym e) (f.long n h)
     unread r (inr e) = subst At (sym e) (f.value n h)
 
-    read_by : {A : Type 0} (o : Outcome A) → Refuses Misread o → (make : A → Element) → Refuses At (and_then o (λ a. accepted (make a)))
+    read_by : {A : Type 0} (o : Outcome A) → Refuses Misread o → (make : A → Element) → Refuses At (and_then o (λ a. Ok (make a)))
     read_by o m make = by_then At o _ (λ r e. unread r (m r e)) (λ a e. by_value At _)
 
     element_by : (id : ℕ) (c : List ℕ) → Refuses At (element_means b id c)

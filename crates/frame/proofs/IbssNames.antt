@@ -1,4 +1,5 @@
 -- What the element 41 of an accepted frame may say: a recovery interval of 1 or more, and only in a beacon (02, Five). Assumes nothing.
+use Rattle.std.specs.Prelude.{Ok}
 use mathlib.Core.List.{List}
 use mathlib.Core.Logic.{◌⊎◌, inl, inr}
 use mathlib.Core.Path.{◌≡◌, refl, sym, ap, ◌∙◌, subst}
@@ -10,7 +11,6 @@ use lib.ListN.{drop}
 use Rattle.answer.proofs.Booleans.{neither}
 use Rattle.answer.proofs.Judged.{followed}
 use Rattle.answer.proofs.Placing.{past_value}
-use Rattle.answer.specs.Checks.{accepted}
 use Rattle.answer.specs.Faults.{Placed, nowhere, placed_past}
 use Rattle.beacon.proofs.InIbss.{accepted_sound}
 use Rattle.beacon.specs.Beacons.{Told, fixed_length}
@@ -24,11 +24,11 @@ use Rattle.walk.specs.Elements.{Elements, end, cut_header, cut_contents, more, e
 use Rattle.frame.specs.Frames.{beacon, kind_of}
 use Rattle.frame.specs.IbssFrames.{KindInIbss, SentInIbss, kind_in_ibss, ibss_frame_means}
 
-is_kind : {j k : KindInIbss} → ◌≡◌ {A = Placed KindInIbss} (accepted j) (accepted k) → j ≡ k
+is_kind : {j k : KindInIbss} → ◌≡◌ {A = Placed KindInIbss} (Ok j) (Ok k) → j ≡ k
 is_kind e = cc
 
 -- what an accepted element 41 says
-contents_recovery : (c : List ℕ) (d : Dfs) → dfs_means c ≡ accepted d → 1 ≤ d.recovery
+contents_recovery : (c : List ℕ) (d : Dfs) → dfs_means c ≡ Ok d → 1 ≤ d.recovery
 contents_recovery c d e = let some = eqb-false d.recovery 0 (neither (eqb d.recovery 0) _ (opened c d e).2).0 in omega (arith, some)
 
 one_recovery : (d : Dfs) (es : Elements) → OneDfs d es → 1 ≤ d.recovery
@@ -43,13 +43,13 @@ one_recovery d (more id c es) (inr h) = one_recovery d es h.1
 abbrev Names : KindInIbss → Type 0
 Names k = (k.dfs ≡ absent) ⊎ ((told : Told) × (d : Dfs) × (k.kind ≡ beacon told) × (k.dfs ≡ is d) × (1 ≤ d.recovery))
 
-kind_names : (b : ℕ) (s : Subtype) (body : List ℕ) (k : KindInIbss) → kind_in_ibss b s body ≡ accepted k → Names k
+kind_names : (b : ℕ) (s : Subtype) (body : List ℕ) (k : KindInIbss) → kind_in_ibss b s body ≡ Ok k → Names k
 kind_names b Subtype.Beacon body k e =
     let p = followed (ibss_beacon_means b body) _ k e in
     by p.0 (accepted_sound b body p.0 p.1) p.2
   where
     by : (t : ToldInIbss) → DfsSound t.dfs (elements_in (drop fixed_length body))
-        → ◌≡◌ {A = Placed KindInIbss} (accepted (record { kind = beacon t.told; dfs = t.dfs })) (accepted k) → Names k
+        → ◌≡◌ {A = Placed KindInIbss} (Ok (record { kind = beacon t.told; dfs = t.dfs })) (Ok k) → Names k
     by t sound g = by_dfs t.dfs refl sound
       where
         same : record { kind = beacon t.told; dfs = t.dfs } ≡ k
@@ -64,7 +64,7 @@ kind_names b Subtype.Action body k e = let p = followed (kind_of b Subtype.Actio
 
 -- ---- a frame
 
-module _ (own bss : List ℕ) (b : ℕ) (f : List ℕ) (x : SentInIbss) (e : ibss_frame_means own bss b f ≡ accepted x) where
+module _ (own bss : List ℕ) (b : ℕ) (f : List ℕ) (x : SentInIbss) (e : ibss_frame_means own bss b f ≡ Ok x) where
   -- it has no element 41 that is read, or is a beacon with one
   pub sent_names : (x.dfs ≡ absent) ⊎ ((told : Told) × (d : Dfs) × (x.sent.kind ≡ beacon told) × (x.dfs ≡ is d) × (1 ≤ d.recovery))
   unfolding ibss_frame_means

@@ -1,10 +1,11 @@
 -- From a body's outcome to the frame that is handed out. Assumes nothing.
+use Rattle.std.specs.Prelude.{Ok, Err}
 use mathlib.Core.Path.{◌≡◌, refl, sym, ap, ◌∙◌}
 use mathlib.Core.Bool.{Bool, true, false}
 use mathlib.Core.List.{List, []}
 use Prim.Native.Nat.{ℕ}
 use native.Mathlib.Omega.{arith}
-use Rattle.answer.specs.Checks.{Outcome, refused, accepted, and_then}
+use Rattle.answer.specs.Checks.{Outcome, and_then}
 use Rattle.answer.specs.Faults.{Placed, nowhere, fault_past, placed_past}
 use Rattle.answer.specs.declared.Fault.{Fault}
 use Rattle.answer.proofs.Judged.{never}
@@ -19,9 +20,8 @@ use Rattle.frame.specs.Actions.{Body}
 use Rattle.frame.specs.Frames.{beacon, probe_response, action, kind_of, sent, frame_means}
 use Rattle.frame.specs.CodeTerms.Located.{reading_past}
 use Rattle.frame.specs.CodeTerms.Notices.{notice_frame}
-use Rattle.frame.specs.Laid.{action_frame, frame_told, body_frame, received, frame_laid, notice_subtype}
+use Rattle.frame.specs.Laid.{action_frame, body_frame, received, frame_laid, notice_subtype}
 use Rattle.frame.specs.declared.Frame.{Frame}
-use Rattle.frame.specs.declared.Reading.{Reading}
 
 -- ---- beacons and probe responses
 
@@ -29,35 +29,35 @@ pub notice_read : (probe : Bool) (b : ℕ) (body : List ℕ) (to_all : Bool) {v 
     → notice_frame probe to_all v ≡ frame_laid (sent to_all (placed_past header_length (kind_of b (notice_subtype probe) body)))
 notice_read true b body to_all e = ap (notice_frame true to_all) e ∙ by (beacon_means b body)
   where
-    by : (o : Placed Told) → notice_frame true to_all (laid 0 (besides absent o)) ≡ frame_laid (sent to_all (placed_past header_length (and_then o (λ t. accepted (probe_response t)))))
-    by (refused x) = refl
-    by (accepted t) = refl
+    by : (o : Placed Told) → notice_frame true to_all (laid 0 (besides absent o)) ≡ frame_laid (sent to_all (placed_past header_length (and_then o (λ t. Ok (probe_response t)))))
+    by (Err x) = refl
+    by (Ok t) = refl
 notice_read false b body to_all e = ap (notice_frame false to_all) e ∙ by (beacon_means b body)
   where
-    by : (o : Placed Told) → notice_frame false to_all (laid 0 (besides absent o)) ≡ frame_laid (sent to_all (placed_past header_length (and_then o (λ t. accepted (beacon t)))))
-    by (refused x) = refl
-    by (accepted t) = refl
+    by : (o : Placed Told) → notice_frame false to_all (laid 0 (besides absent o)) ≡ frame_laid (sent to_all (placed_past header_length (and_then o (λ t. Ok (beacon t)))))
+    by (Err x) = refl
+    by (Ok t) = refl
 
 -- ---- action frames
 
 module _ (to_all : Bool) where
-  pub action_refused : (o : Placed Body) (r : Reading) (x : Fault) → frame_told r ≡ body_frame o → reading_past header_length r ≡ Reading.Refused x
-      → received (Reading.Refused x) false [] ≡ frame_laid (sent to_all (placed_past header_length (and_then o (λ a. accepted (action a)))))
-  action_refused (refused y) (Reading.Refused z) x e h =
+  pub action_refused : (o : Placed Body) (r : Placed Frame) (x : Fault) → r ≡ body_frame o → reading_past header_length r ≡ Err x
+      → received (Err x) false [] ≡ frame_laid (sent to_all (placed_past header_length (and_then o (λ a. Ok (action a)))))
+  action_refused (Err y) (Err z) x e h =
       let same : z ≡ y = cc in
-      ap (λ (w : Reading). received w false []) (sym h ∙ ap (λ (w : Fault). Reading.Refused (fault_past header_length w)) same)
-  action_refused (refused y) (Reading.Is f) x e h = absurd (never (sym e))
-  action_refused (accepted a) (Reading.Refused z) x e h = absurd (never e)
-  action_refused (accepted a) (Reading.Is f) x e h = absurd (let z : ◌≡◌ {A = ℕ} 0 1 = cc in omega arith)
+      ap (λ (w : Placed Frame). received w false []) (sym h ∙ ap (λ (w : Fault). Err (fault_past header_length w)) same)
+  action_refused (Err y) (Ok f) x e h = absurd (never (sym e))
+  action_refused (Ok a) (Err z) x e h = absurd (never e)
+  action_refused (Ok a) (Ok f) x e h = absurd (let z : ◌≡◌ {A = ℕ} 0 1 = cc in omega arith)
 
-  pub action_read : (o : Placed Body) (r : Reading) (f : Frame) → frame_told r ≡ body_frame o → reading_past header_length r ≡ Reading.Is f
-      → received (Reading.Is f) to_all [] ≡ frame_laid (sent to_all (placed_past header_length (and_then o (λ a. accepted (action a)))))
-  action_read (refused y) (Reading.Refused z) f e h = absurd (let z : ◌≡◌ {A = ℕ} 0 1 = cc in omega arith)
-  action_read (refused y) (Reading.Is g) f e h = absurd (never (sym e))
-  action_read (accepted a) (Reading.Refused z) f e h = absurd (never e)
-  action_read (accepted a) (Reading.Is g) f e h =
+  pub action_read : (o : Placed Body) (r : Placed Frame) (f : Frame) → r ≡ body_frame o → reading_past header_length r ≡ Ok f
+      → received (Ok f) to_all [] ≡ frame_laid (sent to_all (placed_past header_length (and_then o (λ a. Ok (action a)))))
+  action_read (Err y) (Err z) f e h = absurd (let z : ◌≡◌ {A = ℕ} 0 1 = cc in omega arith)
+  action_read (Err y) (Ok g) f e h = absurd (never (sym e))
+  action_read (Ok a) (Err z) f e h = absurd (never e)
+  action_read (Ok a) (Ok g) f e h =
       let same : g ≡ action_frame a = cc in
-      ap (λ (w : Reading). received w to_all []) (sym h ∙ ap Reading.Is same)
+      ap (λ (w : Placed Frame). received w to_all []) (sym h ∙ ap Ok same)
 
 -- ---- after the header
 
@@ -68,9 +68,9 @@ module _ (own ap' : List ℕ) (b : ℕ) (f : List ℕ) where
   framed o e = ap (λ (x : Outcome Head). and_then (nowhere x) (λ h. sent h.to_all (placed_past header_length (kind_of b h.subtype (body_of f))))) e
 
   -- with a body that was found after it, and its subtype
-  pub body_framed : (h : Head) → accepted h ≡ header_means Cell.Ap own ap' f → {t : Subtype} → h.subtype ≡ t → {body : List ℕ} → body ≡ body_of f
+  pub body_framed : (h : Head) → Ok h ≡ header_means Cell.Ap own ap' f → {t : Subtype} → h.subtype ≡ t → {body : List ℕ} → body ≡ body_of f
       → sent h.to_all (placed_past header_length (kind_of b t body)) ≡ frame_means own ap' b f
   body_framed h e {t} g k =
       ap (λ (s : List ℕ). sent h.to_all (placed_past header_length (kind_of b t s))) k
       ∙ ap (λ (x : Subtype). sent h.to_all (placed_past header_length (kind_of b x (body_of f)))) (sym g)
-      ∙ framed (accepted h) e
+      ∙ framed (Ok h) e

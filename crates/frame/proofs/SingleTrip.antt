@@ -1,4 +1,5 @@
 -- Demand 2 for a body of one element, from that for the element. Assumes nothing.
+use Rattle.std.specs.Prelude.{Ok}
 use mathlib.Core.Path.{◌≡◌, refl, sym, ap, subst, ◌∙◌}
 use mathlib.Core.Bool.{Bool, true}
 use mathlib.Core.List.{List, [], ◌∷◌, ◌++◌, append-nil}
@@ -6,7 +7,7 @@ use mathlib.Core.Logic.{inl, inr}
 use Prim.Native.Nat.{ℕ, suc}
 use lib.ListN.{length}
 use Rattle.single_body.specs.Singles.{single}
-use Rattle.answer.specs.Checks.{Outcome, accepted}
+use Rattle.answer.specs.Checks.{Outcome}
 use Rattle.answer.proofs.Booleans.{clash}
 use Rattle.answer.proofs.Judged.{never, followed}
 use Rattle.answer.proofs.Placing.{placed_value}
@@ -38,9 +39,9 @@ module _ {A : Type 0} (n id : ℕ) (means : List ℕ → Outcome A) where
     pub rest : Handed
     pub only : hs ≡ more id contents rest
     pub last_one : past_passed rest ≡ end
-    pub says : means contents ≡ accepted a
+    pub says : means contents ≡ Ok a
 
-  last : (k : ℕ) (hs : Handed) (x a : A) → nothing_left k hs x ≡ accepted a → (past_passed hs ≡ end) × (x ≡ a)
+  last : (k : ℕ) (hs : Handed) (x a : A) → nothing_left k hs x ≡ Ok a → (past_passed hs ≡ end) × (x ≡ a)
   unfolding nothing_left
   last k end x a e = (refl, cc)
   last k cut_header x a e = absurd (never e)
@@ -49,7 +50,7 @@ module _ {A : Type 0} (n id : ℕ) (means : List ℕ → Outcome A) where
   last k (passed c hs) x a e = last (past_element k c) hs x a e
   last k cut_passed x a e = absurd (never e)
 
-  pub one : (hs : Handed) (a : A) → single n id means hs ≡ accepted a → One hs a
+  pub one : (hs : Handed) (a : A) → single n id means hs ≡ Ok a → One hs a
   unfolding single
   one hs a e =
       let p = followed (placed_at n (required id hs)) _ a e in
@@ -61,10 +62,10 @@ module _ {A : Type 0} (n id : ℕ) (means : List ℕ → Outcome A) where
         rest = s.rest;
         only = whole id hs s (placed_value n (required id hs) p.1);
         last_one = r.0;
-        says = placed_value n (means s.contents) q.1 ∙ ap accepted r.1;
+        says = placed_value n (means s.contents) q.1 ∙ ap Ok r.1;
       }
 
-  reads : (c : List ℕ) (a : A) → means c ≡ accepted a → single n id means (more id c end) ≡ accepted a
+  reads : (c : List ℕ) (a : A) → means c ≡ Ok a → single n id means (more id c end) ≡ Ok a
   unfolding single nothing_left
   reads c a e = simp (Requiring.there id c end, e)
 
@@ -77,10 +78,10 @@ module _ {A : Type 0} (n id : ℕ) (means : List ℕ → Outcome A) where
     inner : (run c rest : List ℕ) → Octets run → run ≡ element id c ++ rest → Octets c
     inner run c rest o e = let w : Octets (element id c ++ rest) = subst Octets e o in octets_front c rest (λ j. w (suc (suc j)))
 
-    there : (a : A) → Fits a → may a ≡ true → single n id means (handed_in (element id (contents a))) ≡ accepted a
+    there : (a : A) → Fits a → may a ≡ true → single n id means (handed_in (element id (contents a))) ≡ Ok a
     there a f m = ap (single n id means) (written (contents a)) ∙ reads (contents a) a (t.there a f m)
 
-    back : (run : List ℕ) (a : A) → Octets run → single n id means (handed_in run) ≡ accepted a → vendorless (handed_in run) ≡ true
+    back : (run : List ℕ) (a : A) → Octets run → single n id means (handed_in run) ≡ Ok a → vendorless (handed_in run) ≡ true
         → (may a ≡ true) × (element id (contents a) ≡ run)
     unfolding vendorless
     back run a o e v =
@@ -91,14 +92,14 @@ module _ {A : Type 0} (n id : ℕ) (means : List ℕ → Outcome A) where
         let b = t.back p.contents a (inner run p.contents y.rest o y.octets) p.says refl refl in
         (b.0, ap (element id) b.1 ∙ sym l)
 
-    exact : (a : A) → Fits a → single n id means (handed_in (element id (contents a))) ≡ accepted a → may a ≡ true
+    exact : (a : A) → Fits a → single n id means (handed_in (element id (contents a))) ≡ Ok a → may a ≡ true
     exact a f e =
         let p = one (handed_in (element id (contents a))) a e in
         let g : more id (contents a) end ≡ more id p.contents p.rest = sym (written (contents a)) ∙ p.only in
         let same : contents a ≡ p.contents = cc in
         t.exact a f (ap means same ∙ p.says) refl
 
-    fits : (run : List ℕ) (a : A) → Octets run → single n id means (handed_in run) ≡ accepted a → Fits a
+    fits : (run : List ℕ) (a : A) → Octets run → single n id means (handed_in run) ≡ Ok a → Fits a
     fits run a o e =
         let p = one (handed_in run) a e in
         let y = walks_more run id p.contents p.rest (inl p.only) in

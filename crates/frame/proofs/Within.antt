@@ -1,4 +1,5 @@
 -- A fault of a body, or of a frame, lies in it or at its end. Assumes nothing.
+use Rattle.std.specs.Prelude.{Ok, Err, Some, None, Option}
 use mathlib.Core.Path.{◌≡◌, refl, sym, ap, subst, ◌∙◌}
 use mathlib.Core.Bool.{Bool, true, false}
 use mathlib.Core.List.{List}
@@ -8,10 +9,9 @@ use lib.ListN.{length, length-drop}
 use Rattle.answer.proofs.Judged.{never}
 use Rattle.answer.proofs.Placing.{nowhere_value}
 use Rattle.answer.proofs.Refusing.{Refuses, by_value, by_refusal, by_then}
-use Rattle.answer.specs.Checks.{Outcome, refused, accepted, and_then}
+use Rattle.answer.specs.Checks.{Outcome, and_then}
 use Rattle.answer.specs.Faults.{Placed, nowhere, offset_past, placed_past}
 use Rattle.answer.specs.declared.Fault.{Fault}
-use Rattle.answer.specs.declared.Offset.{Offset}
 use Rattle.beacon.specs.Beacons.{beacon_means}
 use Rattle.beacon.specs.IbssBeacons.{ToldInIbss, ibss_beacon_means, told_where}
 use Rattle.beacon.specs.Laid.{laid}
@@ -26,9 +26,9 @@ use Rattle.frame.specs.CodeTerms.Located.{OffsetWithin, ReadingWithin}
 use Rattle.frame.specs.CodeTerms.Notices.{VerdictWithin}
 use Rattle.frame.specs.Frames.{kind_of, frame_means}
 use Rattle.frame.specs.IbssFrames.{kind_in_ibss, ibss_frame_means}
-use Rattle.frame.specs.Laid.{frame_told, body_frame}
-use Rattle.frame.specs.declared.Reading.{Reading}
+use Rattle.frame.specs.Laid.{body_frame}
 use Rattle.frame.proofs.BodyFaults.{action_faults, NoticeFaults, notice_faults, ibss_notice_faults}
+use Rattle.frame.specs.declared.Frame.{Frame}
 
 -- no further than so many octets
 abbrev Lies : ℕ → Fault → Type 0
@@ -59,8 +59,8 @@ module _ {size : ℕ} (body : List ℕ) (h : length body ≤ size) where
   heard_within ibss b i v e = subst (λ (x : Heard). VerdictWithin size x.verdict) (sym e) (by (told_where ibss b body) (told_lies ibss b))
     where
       by : (o : Placed ToldInIbss) → Refuses (Lies size) o → VerdictWithin size (laid i o).verdict
-      by (refused x) h = h x refl
-      by (accepted t) h = tt
+      by (Err x) h = h x refl
+      by (Ok t) h = tt
 
   action_lies : Refuses (Lies size) (action_means body)
   action_lies =
@@ -82,34 +82,34 @@ module _ {size : ℕ} (body : List ℕ) (h : length body ≤ size) where
             };
       })
 
-  pub reading_within : (r : Reading) → frame_told r ≡ body_frame (action_means body) → ReadingWithin size r
+  pub reading_within : (r : Placed Frame) → r ≡ body_frame (action_means body) → ReadingWithin size r
   reading_within r e = by (action_means body) refl r e
     where
-      by : (o : Placed Body) → action_means body ≡ o → (r : Reading) → frame_told r ≡ body_frame o → ReadingWithin size r
-      by (refused x) g (Reading.Refused y) e = let same : x ≡ y = cc in action_lies y (g ∙ ap refused same)
-      by (refused x) g (Reading.Is f) e = tt
-      by (accepted a) g (Reading.Refused y) e = absurd (never e)
-      by (accepted a) g (Reading.Is f) e = tt
+      by : (o : Placed Body) → action_means body ≡ o → (r : Placed Frame) → r ≡ body_frame o → ReadingWithin size r
+      by (Err x) g (Err y) e = let same : x ≡ y = cc in action_lies y (g ∙ ap Err same)
+      by (Err x) g (Ok f) e = tt
+      by (Ok a) g (Err y) e = absurd (never e)
+      by (Ok a) g (Ok f) e = tt
 
 -- the body of a frame with a header that is heard is no longer than the longest
-pub body_short : (cell : Cell) (own bss f : List ℕ) (h : Head) → accepted h ≡ header_means cell own bss f → {body : List ℕ} → body ≡ body_of f → length body ≤ longest_body
+pub body_short : (cell : Cell) (own bss f : List ℕ) (h : Head) → Ok h ≡ header_means cell own bss f → {body : List ℕ} → body ≡ body_of f → length body ≤ longest_body
 body_short cell own bss f h e {body} g =
     omega (arith, ap length g, length-drop header_length f, has_header cell own bss f h (sym e), not_too_long cell own bss f h (sym e))
 
 -- ---- a frame's
 
 -- with so many octets more before it
-past_within : (n size : ℕ) (o : Offset) → OffsetWithin size o → OffsetWithin (n + size) (offset_past n o)
-past_within n size Offset.Absent h = tt
-past_within n size (Offset.At m) h = omega arith
+past_within : (n size : ℕ) (o : Option ℕ) → OffsetWithin size o → OffsetWithin (n + size) (offset_past n o)
+past_within n size None h = tt
+past_within n size (Some m) h = omega arith
 
 past_lies : {A : Type 0} (n size : ℕ) (o : Placed A) → Refuses (Lies size) o → Refuses (Lies (n + size)) (placed_past n o)
-past_lies n size (refused x) h = by_refusal _ (past_within n size x.offset (h x refl))
-past_lies n size (accepted a) h = by_value _ a
+past_lies n size (Err x) h = by_refusal _ (past_within n size x.offset (h x refl))
+past_lies n size (Ok a) h = by_value _ a
 
 nowhere_lies : {A : Type 0} (size : ℕ) (o : Outcome A) → Refuses (Lies size) (nowhere o)
-nowhere_lies size (refused r) = by_refusal _ tt
-nowhere_lies size (accepted a) = by_value _ a
+nowhere_lies size (Err r) = by_refusal _ tt
+nowhere_lies size (Ok a) = by_value _ a
 
 kind_lies : (b : ℕ) (s : Subtype) (body : List ℕ) → Refuses (Lies (length body)) (kind_of b s body)
 kind_lies b Subtype.Beacon body = by_then _ (beacon_means b body) _ (notice_lies body (omega arith) b) (λ t e. by_value _ _)
@@ -125,7 +125,7 @@ ibss_kind_lies b Subtype.Action body = by_then _ (kind_of b Subtype.Action body)
 -- a body of any kind after a header
 module _ {K A : Type 0} (cell : Cell) (own bss f : List ℕ) (kind : Subtype → Placed K) (make : Head → K → A) where
   framed_lies : ((s : Subtype) → Refuses (Lies (length (body_of f))) (kind s))
-      → Refuses (Lies (length f)) (and_then (nowhere (header_means cell own bss f)) (λ h. and_then (placed_past header_length (kind h.subtype)) (λ k. accepted (make h k))))
+      → Refuses (Lies (length f)) (and_then (nowhere (header_means cell own bss f)) (λ h. and_then (placed_past header_length (kind h.subtype)) (λ k. Ok (make h k))))
   framed_lies lies =
       by_then (Lies (length f)) (nowhere (header_means cell own bss f)) _ (nowhere_lies (length f) (header_means cell own bss f))
       (λ h e.
@@ -136,12 +136,12 @@ module _ {K A : Type 0} (cell : Cell) (own bss f : List ℕ) (kind : Subtype →
       in
       by_then (Lies (length f)) (placed_past header_length (kind h.subtype)) _ placed (λ k g. by_value (Lies (length f)) _))
 
-pub frame_within : (own ap' : List ℕ) (b : ℕ) (f : List ℕ) (x : Fault) → frame_means own ap' b f ≡ refused x → OffsetWithin (length f) x.offset
+pub frame_within : (own ap' : List ℕ) (b : ℕ) (f : List ℕ) (x : Fault) → frame_means own ap' b f ≡ Err x → OffsetWithin (length f) x.offset
 unfolding frame_means
 frame_within own ap' b f =
     framed_lies Cell.Ap own ap' f (λ s. kind_of b s (body_of f)) (λ h k. record { to_all = h.to_all; kind = k }) (λ s. kind_lies b s (body_of f))
 
-pub ibss_frame_within : (own bss : List ℕ) (b : ℕ) (f : List ℕ) (x : Fault) → ibss_frame_means own bss b f ≡ refused x → OffsetWithin (length f) x.offset
+pub ibss_frame_within : (own bss : List ℕ) (b : ℕ) (f : List ℕ) (x : Fault) → ibss_frame_means own bss b f ≡ Err x → OffsetWithin (length f) x.offset
 unfolding ibss_frame_means
 ibss_frame_within own bss b f =
     framed_lies Cell.Ibss own bss f (λ s. kind_in_ibss b s (body_of f)) (λ h k. record { sender = sa f; sent = record { to_all = h.to_all; kind = k.kind }; dfs = k.dfs })

@@ -1,4 +1,5 @@
 -- What the definitions say of single frames: one of each kind is accepted, and records are not mixed up. Assumes nothing.
+use Rattle.std.specs.Prelude.{Ok, Err}
 use mathlib.Core.Path.{◌≡◌, refl, sym, ap, ◌∙◌}
 use mathlib.Core.Bool.{true, false}
 use mathlib.Core.List.{List, [], ◌∷◌, ◌++◌}
@@ -7,7 +8,7 @@ use lib.IntN.{pos, negsuc}
 use lib.ListN.{replicate}
 use Rattle.action.specs.Openings.{opens_with}
 use Rattle.single_body.specs.Singles.{single}
-use Rattle.answer.specs.Checks.{refused, accepted, checked}
+use Rattle.answer.specs.Checks.{checked}
 use Rattle.answer.specs.Faults.{fault_at, fault_nowhere, Placed}
 use Rattle.answer.specs.declared.Refusal.{Refusal}
 use Rattle.beacon.specs.Beacons.{tells, element_means, takes, says, beacon_means}
@@ -61,7 +62,7 @@ abbrev action_frame : List ℕ → List ℕ
 action_frame body = frame 208 own body
 
 abbrev to_own : Kind → Placed Sent
-to_own k = accepted (record { to_all = false; kind = k })
+to_own k = Ok (record { to_all = false; kind = k })
 
 -- ---- the seven kinds
 
@@ -144,18 +145,18 @@ module _ (i : ℕ) where
   unfolding element_of
   of_three = simp three_requests
 
-pub third_request : element_of request_in 2 (heard (action_frame ((0 ∷ 0 ∷ 7 ∷ []) ++ asked 5 ++ asked 1 ++ asked 3))) ≡ accepted (asks 3)
+pub third_request : element_of request_in 2 (heard (action_frame ((0 ∷ 0 ∷ 7 ∷ []) ++ asked 5 ++ asked 1 ++ asked 3))) ≡ Ok (asks 3)
 third_request = of_three 2 ∙ unfold nth in refl
 
-pub no_fourth : element_of request_in 3 (heard (action_frame ((0 ∷ 0 ∷ 7 ∷ []) ++ asked 5 ++ asked 1 ++ asked 3))) ≡ refused Refusal.Impossible
+pub no_fourth : element_of request_in 3 (heard (action_frame ((0 ∷ 0 ∷ 7 ∷ []) ++ asked 5 ++ asked 1 ++ asked 3))) ≡ Err Refusal.Impossible
 no_fourth = of_three 3 ∙ unfold nth in refl
 
-pub no_report_lem : element_of report_in 0 (heard (action_frame ((0 ∷ 0 ∷ 7 ∷ []) ++ asked 5 ++ asked 1))) ≡ refused Refusal.Impossible
+pub no_report_lem : element_of report_in 0 (heard (action_frame ((0 ∷ 0 ∷ 7 ∷ []) ++ asked 5 ++ asked 1))) ≡ Err Refusal.Impossible
 unfolding element_of
 no_report_lem = simp two_requests
 
 -- a token used twice: the second element is at fault, after the header, the fixed fields and one element of five octets
-pub used_twice : heard (action_frame ((0 ∷ 0 ∷ 7 ∷ []) ++ asked 5 ++ asked 5)) ≡ refused (fault_at 32 Refusal.Repeated)
+pub used_twice : heard (action_frame ((0 ∷ 0 ∷ 7 ∷ []) ++ asked 5 ++ asked 5)) ≡ Err (fault_at 32 Refusal.Repeated)
 unfolding frame_means header_means management_means address_means foreign_header foreign_address to_all checked action_means opens_with measurements_in listed next_in required passing handing elements_in elements_after request_means used
 used_twice = refl
 
@@ -172,7 +173,7 @@ unfolding frame_means header_means management_means address_means foreign_header
 two_quiets = refl
 
 -- the same frame to all ones is told from one to the station
-pub to_all_lem : heard (frame 208 (replicate 6 255) (0 ∷ 2 ∷ 7 ∷ 34 ∷ 0 ∷ [])) ≡ accepted (record { to_all = true; kind = action (tpc_request 7) })
+pub to_all_lem : heard (frame 208 (replicate 6 255) (0 ∷ 2 ∷ 7 ∷ 34 ∷ 0 ∷ [])) ≡ Ok (record { to_all = true; kind = action (tpc_request 7) })
 unfolding frame_means header_means management_means address_means foreign_header foreign_address to_all checked action_means opens_with single required nothing_left passing handing elements_in elements_after tpc_request_means fixed
 to_all_lem = refl
 
@@ -192,7 +193,7 @@ abbrev naming : ℕ → List ℕ
 naming recovery = 41 ∷ 7 ∷ 2 ∷ 0 ∷ 0 ∷ 0 ∷ 0 ∷ 9 ∷ recovery ∷ []
 
 pub names_owner : heard_in_ibss (sent_by member 128 (naming 3))
-    ≡ accepted
+    ≡ Ok
     (record {
       sender = member;
       sent = record { to_all = false; kind = beacon (tells (elementless 0 1) []) };
@@ -201,21 +202,21 @@ pub names_owner : heard_in_ibss (sent_by member 128 (naming 3))
 unfolding ibss_frame_means header_means management_means address_means foreign_header foreign_address to_all checked ibss_beacon_means says takes_in_ibss elements_in elements_after dfs_means
 names_owner = refl
 
-pub no_interval : heard_in_ibss (sent_by member 128 (naming 0)) ≡ refused (fault_at 36 Refusal.ForbiddenValue)
+pub no_interval : heard_in_ibss (sent_by member 128 (naming 0)) ≡ Err (fault_at 36 Refusal.ForbiddenValue)
 unfolding ibss_frame_means header_means management_means address_means foreign_header foreign_address to_all checked ibss_beacon_means says takes_in_ibss elements_in elements_after dfs_means
 no_interval = refl
 
 -- in a probe response it is skipped
 pub probe_skips : heard_in_ibss (sent_by member 80 (naming 0))
-    ≡ accepted (record { sender = member; sent = record { to_all = false; kind = probe_response (tells (elementless 0 1) []) }; dfs = absent })
+    ≡ Ok (record { sender = member; sent = record { to_all = false; kind = probe_response (tells (elementless 0 1) []) }; dfs = absent })
 unfolding ibss_frame_means header_means management_means address_means foreign_header foreign_address to_all checked beacon_means says takes element_means elements_in elements_after
 probe_skips = refl
 
 -- a group sends nothing, and 01 hears no member but the AP
-pub from_group : heard_in_ibss (sent_by (3 ∷ 0 ∷ 0 ∷ 0 ∷ 0 ∷ 7 ∷ []) 128 []) ≡ refused (fault_nowhere Refusal.ForeignAddress)
+pub from_group : heard_in_ibss (sent_by (3 ∷ 0 ∷ 0 ∷ 0 ∷ 0 ∷ 7 ∷ []) 128 []) ≡ Err (fault_nowhere Refusal.ForeignAddress)
 unfolding ibss_frame_means header_means management_means address_means foreign_header foreign_address to_all checked
 from_group = refl
 
-pub from_member : heard (sent_by member 128 []) ≡ refused (fault_nowhere Refusal.ForeignAddress)
+pub from_member : heard (sent_by member 128 []) ≡ Err (fault_nowhere Refusal.ForeignAddress)
 unfolding frame_means header_means management_means address_means foreign_header foreign_address to_all checked
 from_member = refl

@@ -1,5 +1,5 @@
 -- What an accepted frame may say (01, "Octets", "Numbers that hold"), as far as a station goes by it. `b` is the beacon interval.
-use Rattle.std.specs.Prelude.{false, List, ◌≡◌, ℕ, take}
+use Rattle.std.specs.Prelude.{false, List, ◌≡◌, ℕ, take, Ok, Err}
 use Rattle.beacon.specs.Allowed.{Allowed}
 use Rattle.beacon.specs.Beacons.{tells}
 use Rattle.element.specs.ChannelSwitch.{switch_forbids}
@@ -7,8 +7,8 @@ use Rattle.element.specs.declared.quiet.Quiet.{Quiet}
 use Rattle.frame.specs.Frames.{Kind}
 use Rattle.frame.specs.Laid.{frame_of, quiets_of}
 use Rattle.frame.specs.declared.Frame.{Frame}
-use Rattle.frame.specs.declared.Reading.{Reading}
 use Rattle.frame.specs.declared.Received.{Received}
+use Rattle.answer.specs.Faults.{Placed}
 
 -- a frame, with the Quiet elements beside it
 abbrev pub FrameAllowed : ℕ → Frame → List Quiet → Type 0
@@ -23,9 +23,9 @@ FrameAllowed b (Frame.ChannelSwitch w) qs = switch_forbids w ≡ false
 abbrev pub KindAllowed : ℕ → Kind → Type 0
 KindAllowed b k = FrameAllowed b (frame_of k) (quiets_of k)
 
-abbrev pub ReadingAllowed : ℕ → Reading → List Quiet → Type 0
-ReadingAllowed b (Reading.Refused x) qs = Unit {0}
-ReadingAllowed b (Reading.Is f) qs = FrameAllowed b f qs
+abbrev pub ReadingAllowed : ℕ → Placed Frame → List Quiet → Type 0
+ReadingAllowed b (Err x) qs = Unit {0}
+ReadingAllowed b (Ok f) qs = FrameAllowed b f qs
 
 -- what a reader hands out
 abbrev pub ReceivedAllowed : ℕ → Received → Type 0

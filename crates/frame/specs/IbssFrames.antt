@@ -1,7 +1,7 @@
 -- What a frame means to a station of an IBSS (02, Five): "It accepts document 01's frames of its BSSID from any individual address", with the element 41 of a beacon
 -- beside them; "In probe responses 41 is skipped". `own` is the station's address, `bss` the BSSID of its IBSS, `b` its beacon interval.
-use Rattle.std.specs.Prelude.{Bool, List, ◌≡◌, ℕ, drop}
-use Rattle.answer.specs.Checks.{Outcome, accepted, and_then}
+use Rattle.std.specs.Prelude.{Bool, List, ◌≡◌, ℕ, drop, Ok}
+use Rattle.answer.specs.Checks.{Outcome, and_then}
 use Rattle.answer.specs.Faults.{Placed, nowhere, without_place, placed_past}
 use Rattle.beacon.specs.Beacons.{fixed_length}
 use Rattle.beacon.specs.IbssBeacons.{MaybeDfs, absent, ibss_beacon_means, pair_in, DfsSound}
@@ -25,15 +25,15 @@ pub record SentInIbss : Type 0 where
 
 -- a body with no element 41 read
 abbrev pub nameless : Placed Kind → Placed KindInIbss
-nameless o = and_then o (λ k. accepted (record { kind = k; dfs = absent }))
+nameless o = and_then o (λ k. Ok (record { kind = k; dfs = absent }))
 
 abbrev pub kind_in_ibss : ℕ → Subtype → List ℕ → Placed KindInIbss
-kind_in_ibss b Subtype.Beacon body = and_then (ibss_beacon_means b body) (λ t. accepted (record { kind = beacon t.told; dfs = t.dfs }))
+kind_in_ibss b Subtype.Beacon body = and_then (ibss_beacon_means b body) (λ t. Ok (record { kind = beacon t.told; dfs = t.dfs }))
 kind_in_ibss b Subtype.ProbeResponse body = nameless (kind_of b Subtype.ProbeResponse body)
 kind_in_ibss b Subtype.Action body = nameless (kind_of b Subtype.Action body)
 
 abbrev pub sent_in_ibss : List ℕ → Bool → Placed KindInIbss → Placed SentInIbss
-sent_in_ibss sender to_all o = and_then o (λ k. accepted (record { sender = sender; sent = record { to_all = to_all; kind = k.kind }; dfs = k.dfs }))
+sent_in_ibss sender to_all o = and_then o (λ k. Ok (record { sender = sender; sent = record { to_all = to_all; kind = k.kind }; dfs = k.dfs }))
 
 -- what the body means, with the header before it
 unfoldable pub ibss_frame_means : List ℕ → List ℕ → ℕ → List ℕ → Placed SentInIbss

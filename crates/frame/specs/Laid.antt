@@ -1,6 +1,6 @@
 -- A frame as the code hands it out: counts in place of lists, Quiet elements in slots beside it. A refusal leaves one fixed value.
-use Rattle.std.specs.Prelude.{Bool, true, false, List, [], length}
-use Rattle.answer.specs.Checks.{refused, accepted, and_then}
+use Rattle.std.specs.Prelude.{Bool, true, false, List, [], length, Ok, Err}
+use Rattle.answer.specs.Checks.{and_then}
 use Rattle.answer.specs.Faults.{Placed}
 use Rattle.beacon.specs.Laid.{slots}
 use Rattle.element.specs.declared.quiet.Quiet.{Quiet}
@@ -8,7 +8,6 @@ use Rattle.header.specs.declared.management.Subtype.{Subtype}
 use Rattle.frame.specs.Actions.{Body, requests, reports, tpc_request, tpc_report, switch}
 use Rattle.frame.specs.Frames.{Kind, beacon, probe_response, action, Sent}
 use Rattle.frame.specs.declared.Frame.{Frame}
-use Rattle.frame.specs.declared.Reading.{Reading}
 use Rattle.frame.specs.declared.Received.{Received}
 
 -- the action frame of a body
@@ -19,16 +18,11 @@ action_frame (tpc_request token) = Frame.TpcRequest token
 action_frame (tpc_report token t) = Frame.TpcReport token t
 action_frame (switch s) = Frame.ChannelSwitch s
 
--- the outcome that each case of the answer stands for
-abbrev pub frame_told : Reading → Placed Frame
-frame_told (Reading.Refused x) = refused x
-frame_told (Reading.Is f) = accepted f
-
 -- a body's frame, or its refusal
 abbrev pub body_frame : Placed Body → Placed Frame
-body_frame o = and_then o (λ body. accepted (action_frame body))
+body_frame o = and_then o (λ body. Ok (action_frame body))
 
-abbrev pub received : Reading → Bool → List Quiet → Received
+abbrev pub received : Placed Frame → Bool → List Quiet → Received
 received reading to_all qs = record { reading = reading; broadcast = to_all; quiets = slots qs; count = length qs }
 
 -- the frame of each kind, and the Quiet elements beside it
@@ -43,8 +37,8 @@ quiets_of (probe_response t) = t.quiets
 quiets_of (action body) = []
 
 abbrev pub frame_laid : Placed Sent → Received
-frame_laid (refused x) = received (Reading.Refused x) false []
-frame_laid (accepted s) = received (Reading.Is (frame_of s.kind)) s.to_all (quiets_of s.kind)
+frame_laid (Err x) = received (Err x) false []
+frame_laid (Ok s) = received (Ok (frame_of s.kind)) s.to_all (quiets_of s.kind)
 
 -- ---- the code's own terms, which no public promise cites
 

@@ -4,29 +4,29 @@ ghost use Rattle.action.specs.Openings.{with};
 ghost use Rattle.frame.specs.Actions.{after_opening, action_means};
 ghost use Rattle.frame.specs.CodeTerms.Located.{unplaced, placed, located};
 ghost use Rattle.frame.specs.CodeTerms.SingleFrames.{single_frame, single_reading};
-ghost use Rattle.frame.specs.Laid.{frame_told, body_frame};
+ghost use Rattle.frame.specs.Laid.{body_frame};
 ghost use Rattle.measurement_body.specs.Kinds.{sort_of};
 ghost use Rattle.single_body.specs.Kinds.{contents_mean, id_of, fields_before};
 ghost use Rattle.single_body.specs.Singles.{single};
 ghost use Rattle.walk.specs.Handed.{handed_in};
 
-use crate::{Frame, Reading};
+use crate::Frame;
 use action::Opening;
-use answer::Verdict;
 use measurement_body::{Kind, Place};
 use single_body::Single;
+use answer::Fault;
 
 // A body that was read, and where the contents of its request or its report at an index lie: absent past the last, and in a body of
 // another kind.
 #[derive(Clone, Copy)]
 pub struct Located {
-    pub reading: Reading,
+    pub reading: Result<Frame, Fault>,
     pub request: Place,
     pub report: Place,
 }
 
 // A reading with no element to be asked for.
-pub fn unplaced(reading: Reading) -> Located
+pub fn unplaced(reading: Result<Frame, Fault>) -> Located
     ensures { result ≡ unplaced reading }
 {
     Located {
@@ -42,12 +42,12 @@ fn placed(kind: Kind, token: u8, count: usize, place: Place) -> Located
 {
     match kind {
         Kind::Requests => Located {
-            reading: Reading::Is(Frame::MeasurementRequest { token, count }),
+            reading: Ok(Frame::MeasurementRequest { token, count }),
             request: place,
             report: Place::Absent,
         },
         Kind::Reports => Located {
-            reading: Reading::Is(Frame::MeasurementReport { token, count }),
+            reading: Ok(Frame::MeasurementReport { token, count }),
             request: Place::Absent,
             report: place,
         },
@@ -62,8 +62,8 @@ fn read_measurements(body: &[u8], kind: Kind, token: u8, index: usize) -> Locate
     let verdict = found.verdict;
     let place = found.place;
     match verdict {
-        Verdict::Refused(fault) => unplaced(Reading::Refused(fault)),
-        Verdict::Accepted => placed(kind, token, found.count, place),
+        Err(fault) => unplaced(Err(fault)),
+        Ok(()) => placed(kind, token, found.count, place),
     }
 }
 
@@ -83,8 +83,8 @@ fn read_single(body: &[u8], kind: single_body::Kind, token: u8) -> Located
     ensures { result ≡ unplaced (single_reading token (single (fields_before kind) (id_of kind) (contents_mean kind) (handed_in (drop (fields_before kind) body.now)))) }
 {
     match single_body::read(body, kind) {
-        single_body::Reading::Refused(fault) => unplaced(Reading::Refused(fault)),
-        single_body::Reading::Is(said) => unplaced(Reading::Is(single_frame(said, token))),
+        Err(fault) => unplaced(Err(fault)),
+        Ok(said) => unplaced(Ok(single_frame(said, token))),
     }
 }
 
@@ -93,7 +93,7 @@ pub fn read_at(body: &[u8], index: usize) -> Located
     ensures { result ≡ located index body.now (action_means body.now) }
 {
     match action::open(body) {
-        Opening::Refused(fault) => unplaced(Reading::Refused(fault)),
+        Opening::Refused(fault) => unplaced(Err(fault)),
         Opening::Switch => read_single(body, single_body::Kind::ChannelSwitch, 0),
         Opening::Token { action, token } => match action {
             0 => read_measurements(body, Kind::Requests, token, index),
@@ -105,8 +105,8 @@ pub fn read_at(body: &[u8], index: usize) -> Located
 }
 
 // The body of an action frame, as the frame that it makes. The place of a fault is counted from the body's first octet.
-pub fn read_body(body: &[u8]) -> Reading
-    ensures { frame_told result ≡ body_frame (action_means body.now) }
+pub fn read_body(body: &[u8]) -> Result<Frame, Fault>
+    ensures { result ≡ body_frame (action_means body.now) }
 {
     let found = read_at(body, 0);
     found.reading

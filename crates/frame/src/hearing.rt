@@ -8,25 +8,27 @@ ghost use Rattle.frame.specs.Laid.{received, frame_laid, notice_subtype};
 ghost use Rattle.header.specs.Headers.{header_length};
 ghost use Rattle.measurement_body.specs.Bodies.{longest_body};
 
-use crate::{BodyKind, Frame, Reading, places};
-use answer::{Fault, Verdict};
-use beacon::{MaybePower, MaybeSwitch, NO_QUIET, Notice, QUIETS};
+use crate::{BodyKind, Frame, places};
+use answer::Fault;
+use beacon::{NO_QUIET, Notice, QUIETS};
 use element::quiet::Quiet;
 use header::{Cell, Header};
+use element::power_constraint::PowerConstraint;
+use element::channel_switch::ChannelSwitch;
 
 // Whether the Quiet elements of a frame replace all schedules, its Power Constraint, and its announcement.
 #[derive(Clone, Copy)]
 pub struct Change {
     pub replaces: bool,
-    pub power: MaybePower,
-    pub switch: MaybeSwitch,
+    pub power: Option<PowerConstraint>,
+    pub switch: Option<ChannelSwitch>,
 }
 
 impl Change {
     const NOTHING: Change = Change {
         replaces: false,
-        power: MaybePower::Absent,
-        switch: MaybeSwitch::Absent,
+        power: None,
+        switch: None,
     };
 
     // By a beacon or a probe response.
@@ -50,7 +52,7 @@ impl Change {
             Frame::Beacon(notice) => Change::by_notice(notice),
             Frame::ProbeResponse(notice) => Change::by_notice(notice),
             Frame::ChannelSwitch(switch) => Change {
-                switch: MaybeSwitch::Is(switch),
+                switch: Some(switch),
                 ..Change::NOTHING
             },
             Frame::MeasurementRequest { token: _, count: _ } => Change::NOTHING,
@@ -64,37 +66,37 @@ impl Change {
     }
 
     // By what was read: a refused frame changes nothing.
-    pub fn by_reading(reading: Reading) -> Change
+    pub fn by_reading(reading: Result<Frame, Fault>) -> Change
         ensures { result ≡ by_reading reading }
     {
         match reading {
-            Reading::Refused(_) => Change::NOTHING,
-            Reading::Is(frame) => Change::by_frame(frame),
+            Err(_) => Change::NOTHING,
+            Ok(frame) => Change::by_frame(frame),
         }
     }
 }
 
 // The verdict on what was read.
-pub fn verdict_on(reading: Reading) -> Verdict
+pub fn verdict_on(reading: Result<Frame, Fault>) -> Result<(), Fault>
     ensures { result ≡ verdict_on reading }
 {
     match reading {
-        Reading::Refused(fault) => Verdict::Refused(fault),
-        Reading::Is(_) => Verdict::Accepted,
+        Err(fault) => Err(fault),
+        Ok(_) => Ok(()),
     }
 }
 
 // The first `count` slots are the Quiet elements in the order of the frame, and the others are blank.
 #[derive(Clone, Copy)]
 pub struct Hearing {
-    pub verdict: Verdict,
+    pub verdict: Result<(), Fault>,
     pub change: Change,
     pub quiets: [Quiet; QUIETS],
     pub count: usize,
 }
 
 // What is heard of a reading with no Quiet element beside it, whoever the frame was sent to.
-fn heard_alone(reading: Reading) -> Hearing
+fn heard_alone(reading: Result<Frame, Fault>) -> Hearing
     ensures { result ≡ hearing_of (received reading false []) }
 {
     let verdict = verdict_on(reading);
@@ -118,8 +120,8 @@ fn hear_notice(body: &[u8], interval: u16) -> Hearing
     let notice = heard.notice;
     let quiets = heard.quiets;
     match verdict {
-        Verdict::Refused(fault) => heard_alone(Reading::Refused(places::fault_in_frame(fault))),
-        Verdict::Accepted => Hearing {
+        Err(fault) => heard_alone(Err(places::fault_in_frame(fault))),
+        Ok(()) => Hearing {
             verdict,
             change: Change::by_notice(notice),
             quiets,
@@ -134,7 +136,7 @@ pub fn hear(frame: &[u8], own: [u8; 6], ap: [u8; 6], interval: u16) -> Hearing
     ensures { result ≡ hearing_of (frame_laid (frame_means own ap interval frame.now)) }
 {
     match header::read(frame, Cell::Ap, own, ap) {
-        Header::Refused(refusal) => heard_alone(Reading::Refused(Fault::nowhere(refusal))),
+        Header::Refused(refusal) => heard_alone(Err(Fault::nowhere(refusal))),
         Header::Is { subtype, to_all: _ } => {
             let body = header::body(frame);
             match crate::body_kind(subtype) {

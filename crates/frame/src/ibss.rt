@@ -2,7 +2,6 @@
 // responses element 41 is skipped.
 ghost use Rattle.std.specs.Prelude.{◌≡◌, ◌≤◌, length};
 ghost use Rattle.answer.specs.Faults.{placed_past};
-ghost use Rattle.element.specs.IbssDfs.{pair_told};
 ghost use Rattle.frame.specs.CodeTerms.InIbss.{sent_by, heard_laid};
 ghost use Rattle.frame.specs.IbssFrames.{kind_in_ibss, sent_in_ibss, ibss_frame_means, pair_of};
 ghost use Rattle.frame.specs.IbssLaid.{ibss_laid};
@@ -10,11 +9,13 @@ ghost use Rattle.header.specs.Headers.{header_length};
 ghost use Rattle.header.specs.declared.management.Subtype.{Subtype};
 ghost use Rattle.measurement_body.specs.Bodies.{longest_body};
 
-use crate::{Reading, Received};
+use crate::Received;
 use answer::Fault;
 use beacon::HeardDfs;
-use element::ibss_dfs::{IbssDfs, Pair};
+use element::ibss_dfs::IbssDfs;
 use header::{Cell, Header, Subtype};
+use answer::Refusal;
+use element::ibss_dfs::ChannelMap;
 
 // What was received, who sent it, and whether it names a DFS owner, by the element 41 of a beacon. A refusal leaves everything else at one fixed value.
 #[derive(Clone, Copy)]
@@ -39,12 +40,12 @@ fn sent_by(received: Received, sender: [u8; 6], dfs: HeardDfs) -> HeardInIbss
 {
     let reading = received.reading;
     match reading {
-        Reading::Refused(_) => HeardInIbss {
+        Err(_) => HeardInIbss {
             received,
             sender: [0; 6],
             dfs: HeardDfs::NONE,
         },
-        Reading::Is(_) => HeardInIbss {
+        Ok(_) => HeardInIbss {
             received,
             sender,
             dfs,
@@ -77,7 +78,7 @@ fn hear(frame: &[u8], own: [u8; 6], bssid: [u8; 6], interval: u16, index: usize)
         Header::Refused(refusal) => {
             let fault = Fault::nowhere(refusal);
             sent_by(
-                crate::alone(Reading::Refused(fault), false),
+                crate::alone(Err(fault), false),
                 sender,
                 HeardDfs::NONE,
             )
@@ -120,18 +121,18 @@ pub fn read_in_ibss(frame: &[u8], own: [u8; 6], bssid: [u8; 6], interval: u16) -
 }
 
 // The pair of its element 41 at an index.
-pub fn dfs_pair_at(frame: &[u8], own: [u8; 6], bssid: [u8; 6], interval: u16, index: usize) -> Pair
-    ensures { pair_told result ≡ pair_of index (ibss_frame_means own bssid interval frame.now) }
+pub fn dfs_pair_at(frame: &[u8], own: [u8; 6], bssid: [u8; 6], interval: u16, index: usize) -> Result<ChannelMap, Refusal>
+    ensures { result ≡ pair_of index (ibss_frame_means own bssid interval frame.now) }
 {
     let heard = hear(frame, own, bssid, interval, index);
     let received = heard.received;
     let reading = received.reading;
     match reading {
-        Reading::Refused(fault) => {
+        Err(fault) => {
             let refusal = fault.refusal;
-            Pair::Refused(refusal)
+            Err(refusal)
         }
-        Reading::Is(_) => {
+        Ok(_) => {
             let named = heard.dfs;
             named.pair
         }

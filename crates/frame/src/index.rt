@@ -5,55 +5,57 @@ ghost use Rattle.answer.specs.Faults.{placed_past, without_place};
 ghost use Rattle.frame.specs.Actions.{action_means};
 ghost use Rattle.frame.specs.CodeTerms.Located.{PlaceWithin, read_there, located_in, kind_means};
 ghost use Rattle.frame.specs.Frames.{kind_of, frame_means, request_in, report_in, element_of};
-ghost use Rattle.frame.specs.Laid.{frame_told, body_frame};
+ghost use Rattle.frame.specs.Laid.{body_frame};
 ghost use Rattle.header.specs.Headers.{header_length, body_of};
 ghost use Rattle.measurement_body.specs.Bodies.{longest_body};
 ghost use Rattle.header.specs.declared.management.Subtype.{Subtype};
 ghost use Rattle.measurement_element.specs.MeasurementReport.{report_means, report_laid};
-ghost use Rattle.measurement_element.specs.MeasurementRequest.{request_told, request_means};
+ghost use Rattle.measurement_element.specs.MeasurementRequest.{request_means};
 
 use crate::bodies::Located;
-use crate::{Reading, bodies, places};
+use crate::{bodies, places};
 use answer::{Fault, Refusal};
 use header::{Cell, Header, Subtype};
 use measurement_body::Place;
 use measurement_element::{measurement_report, measurement_request};
+use measurement_element::measurement_request::Request;
+use crate::Frame;
 
 // An action body, and its request at an index.
 #[derive(Clone, Copy)]
 pub struct Asked {
-    pub reading: Reading,
-    pub request: measurement_request::Reading,
+    pub reading: Result<Frame, Fault>,
+    pub request: Result<Request, Refusal>,
 }
 
 // The request at a place of a body that was read so: a refused body keeps its refusal, and no place is 16.
-fn request_there(body: &[u8], reading: Reading, place: Place) -> measurement_request::Reading
+fn request_there(body: &[u8], reading: Result<Frame, Fault>, place: Place) -> Result<Request, Refusal>
     requires { PlaceWithin body.now place }
-    ensures { request_told result ≡ read_there request_means body.now reading place }
+    ensures { result ≡ read_there request_means body.now reading place }
 {
     match reading {
-        Reading::Refused(fault) => {
+        Err(fault) => {
             let refusal = fault.refusal;
-            measurement_request::Reading::Refused(refusal)
+            Err(refusal)
         }
-        Reading::Is(_) => match place {
-            Place::Absent => measurement_request::Reading::Refused(Refusal::Impossible),
+        Ok(_) => match place {
+            Place::Absent => Err(Refusal::Impossible),
             Place::Contents { start, end } => measurement_request::read(&body[start..end]),
         },
     }
 }
 
 // The same of a report.
-fn report_there(body: &[u8], reading: Reading, place: Place) -> measurement_report::Reading
+fn report_there(body: &[u8], reading: Result<Frame, Fault>, place: Place) -> measurement_report::Reading
     requires { PlaceWithin body.now place }
     ensures { result ≡ report_laid (read_there report_means body.now reading place) }
 {
     match reading {
-        Reading::Refused(fault) => {
+        Err(fault) => {
             let refusal = fault.refusal;
             measurement_report::refused(refusal)
         }
-        Reading::Is(_) => match place {
+        Ok(_) => match place {
             Place::Absent => measurement_report::refused(Refusal::Impossible),
             Place::Contents { start, end } => measurement_report::read(&body[start..end]),
         },
@@ -62,8 +64,8 @@ fn report_there(body: &[u8], reading: Reading, place: Place) -> measurement_repo
 
 // An action body and its request at an index, in one walk.
 pub fn read_request(body: &[u8], index: usize) -> Asked
-    ensures reading_value { frame_told result.reading ≡ body_frame (action_means body.now) }
-    ensures request_value { request_told result.request ≡ and_then (without_place (action_means body.now)) (request_in index) }
+    ensures reading_value { result.reading ≡ body_frame (action_means body.now) }
+    ensures request_value { result.request ≡ and_then (without_place (action_means body.now)) (request_in index) }
 {
     let found = bodies::read_at(body, index);
     let reading = found.reading;
@@ -73,8 +75,8 @@ pub fn read_request(body: &[u8], index: usize) -> Asked
 }
 
 // The request at an index of an action body.
-pub fn request_in(body: &[u8], index: usize) -> measurement_request::Reading
-    ensures { request_told result ≡ and_then (without_place (action_means body.now)) (request_in index) }
+pub fn request_in(body: &[u8], index: usize) -> Result<Request, Refusal>
+    ensures { result ≡ and_then (without_place (action_means body.now)) (request_in index) }
 {
     let asked = read_request(body, index);
     asked.request
@@ -101,7 +103,7 @@ fn locate(frame: &[u8], own: [u8; 6], ap: [u8; 6], interval: u16, index: usize) 
     ensures { result ≡ located_in index (body_of frame.now) (kind_means own ap interval frame.now) }
 {
     match header::read(frame, Cell::Ap, own, ap) {
-        Header::Refused(refusal) => bodies::unplaced(Reading::Refused(Fault::nowhere(refusal))),
+        Header::Refused(refusal) => bodies::unplaced(Err(Fault::nowhere(refusal))),
         Header::Is { subtype, to_all: _ } => {
             let body = header::body(frame);
             match subtype {
@@ -128,8 +130,8 @@ pub fn request_at(
     ap: [u8; 6],
     interval: u16,
     index: usize,
-) -> measurement_request::Reading
-    ensures { request_told result ≡ element_of request_in index (frame_means own ap interval frame.now) }
+) -> Result<Request, Refusal>
+    ensures { result ≡ element_of request_in index (frame_means own ap interval frame.now) }
 {
     let found = locate(frame, own, ap, interval, index);
     let reading = found.reading;

@@ -17,7 +17,7 @@ ghost use Rattle.header.specs.Headers.{header_length};
 ghost use Rattle.header.specs.declared.management.Subtype.{Subtype};
 ghost use Rattle.measurement_body.specs.Bodies.{longest_body};
 
-use answer::{Fault, Verdict};
+use answer::Fault;
 use beacon::{Heard, NO_QUIET, Notice, QUIETS};
 pub use bodies::read_body;
 use element::channel_switch::ChannelSwitch;
@@ -40,24 +40,18 @@ pub enum Frame {
     ChannelSwitch(ChannelSwitch),
 }
 
-#[derive(Clone, Copy)]
-pub enum Reading {
-    Refused(Fault),
-    Is(Frame),
-}
-
 // What was received: the frame, whether it was sent to all ones, and the Quiet elements of a beacon or a probe response beside it,
 // the first `count` slots in the order of the frame and the others blank. A refusal leaves everything else at one fixed value.
 #[derive(Clone, Copy)]
 pub struct Received {
-    pub reading: Reading,
+    pub reading: Result<Frame, Fault>,
     pub broadcast: bool,
     pub quiets: [Quiet; QUIETS],
     pub count: usize,
 }
 
 // A reading with no Quiet element beside it.
-fn alone(reading: Reading, broadcast: bool) -> Received
+fn alone(reading: Result<Frame, Fault>, broadcast: bool) -> Received
     ensures { result ≡ received reading broadcast [] }
 {
     let quiets = [NO_QUIET; QUIETS];
@@ -78,15 +72,15 @@ fn notice_frame(heard: Heard, probe: bool, broadcast: bool) -> Received
     let notice = heard.notice;
     let quiets = heard.quiets;
     match verdict {
-        Verdict::Refused(fault) => alone(Reading::Refused(places::fault_in_frame(fault)), false),
-        Verdict::Accepted => {
+        Err(fault) => alone(Err(places::fault_in_frame(fault)), false),
+        Ok(()) => {
             let frame = if probe {
                 Frame::ProbeResponse(notice)
             } else {
                 Frame::Beacon(notice)
             };
             Received {
-                reading: Reading::Is(frame),
+                reading: Ok(frame),
                 broadcast,
                 quiets,
                 count: heard.count,
@@ -111,8 +105,8 @@ fn read_action(body: &[u8], broadcast: bool) -> Received
 {
     let reading = places::reading_in_frame(read_body(body));
     match reading {
-        Reading::Refused(fault) => alone(Reading::Refused(fault), false),
-        Reading::Is(frame) => alone(Reading::Is(frame), broadcast),
+        Err(fault) => alone(Err(fault), false),
+        Ok(frame) => alone(Ok(frame), broadcast),
     }
 }
 
@@ -138,7 +132,7 @@ pub fn read(frame: &[u8], own: [u8; 6], ap: [u8; 6], interval: u16) -> Received
     ensures { result ≡ frame_laid (frame_means own ap interval frame.now) }
 {
     match header::read(frame, Cell::Ap, own, ap) {
-        Header::Refused(refusal) => alone(Reading::Refused(Fault::nowhere(refusal)), false),
+        Header::Refused(refusal) => alone(Err(Fault::nowhere(refusal)), false),
         Header::Is {
             subtype,
             to_all: broadcast,

@@ -5,8 +5,8 @@ ghost use Rattle.frame.specs.CodeTerms.Located.{OffsetWithin, ReadingWithin, rea
 ghost use Rattle.header.specs.Headers.{header_length};
 ghost use Rattle.measurement_body.specs.Bodies.{longest_body};
 
-use crate::Reading;
-use answer::{Fault, Offset};
+use answer::Fault;
+use crate::Frame;
 
 // A body's fault, as the frame's.
 pub fn fault_in_frame(fault: Fault) -> Fault
@@ -16,18 +16,18 @@ pub fn fault_in_frame(fault: Fault) -> Fault
     let refusal = fault.refusal;
     let offset = fault.offset;
     match offset {
-        Offset::Absent => Fault::nowhere(refusal),
-        Offset::At(before) => Fault::at(refusal, header::LENGTH + before),
+        None => Fault::nowhere(refusal),
+        Some(before) => Fault::at(refusal, header::LENGTH + before),
     }
 }
 
 // What was read of a body, as what was read of the frame.
-pub fn reading_in_frame(reading: Reading) -> Reading
+pub fn reading_in_frame(reading: Result<Frame, Fault>) -> Result<Frame, Fault>
     requires { ReadingWithin longest_body reading }
     ensures { result ≡ reading_past header_length reading }
 {
     match reading {
-        Reading::Refused(fault) => Reading::Refused(fault_in_frame(fault)),
-        Reading::Is(_) => reading,
+        Err(fault) => Err(fault_in_frame(fault)),
+        Ok(_) => reading,
     }
 }

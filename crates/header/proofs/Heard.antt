@@ -1,4 +1,5 @@
 -- What an accepted header says of the frame, and which headers are accepted. Assumes nothing.
+use Rattle.std.specs.Prelude.{Ok}
 use mathlib.Core.Bool.{Bool, false}
 use mathlib.Core.List.{List}
 use mathlib.Core.Path.{◌≡◌, sym, ap, ◌∙◌}
@@ -6,14 +7,13 @@ use Prim.Native.Nat.{ℕ, ◌≤◌}
 use borrow.Author.Tests.{ltb-false, le-ltb}
 use lib.ListN.{length}
 use Rattle.answer.proofs.Judged.{passed, kept, followed, past, done}
-use Rattle.answer.specs.Checks.{accepted}
 use Rattle.header.specs.Headers.{Head, header_length, longest_frame, subtype, subtype_of, to_all, foreign_header, foreign_address, management_means, address_means, header_means}
 use Rattle.header.specs.declared.address.Cell.{Cell}
 use Rattle.header.specs.declared.management.Subtype.{Subtype}
 
 module _ (cell : Cell) (own bss f : List ℕ) where
-  module _ (h : Head) (e : header_means cell own bss f ≡ accepted h) where
-    of_management : (s : Subtype) × (management_means f ≡ accepted s)
+  module _ (h : Head) (e : header_means cell own bss f ≡ Ok h) where
+    of_management : (s : Subtype) × (management_means f ≡ Ok s)
     unfolding header_means
     of_management = let p = followed (management_means f) _ h e in (p.0, p.1)
 
@@ -37,10 +37,10 @@ module _ (cell : Cell) (own bss f : List ℕ) where
 
   -- past each check
   pub heard_as : (s : Subtype) (t : Bool) → header_length ≤ length f → length f ≤ longest_frame → foreign_header f ≡ false → foreign_address cell own bss f ≡ false
-      → subtype_of (subtype f) ≡ s → to_all f ≡ t → header_means cell own bss f ≡ accepted (record { subtype = s; to_all = t })
+      → subtype_of (subtype f) ≡ s → to_all f ≡ t → header_means cell own bss f ≡ Ok (record { subtype = s; to_all = t })
   unfolding header_means management_means address_means
   heard_as s t long short header address is to =
-      let managed : management_means f ≡ accepted s =
-      sym (past _ _ _ (le-ltb (length f) header_length long) (past _ _ _ (le-ltb longest_frame (length f) short) (past _ _ _ header (ap accepted (sym is) ∙ done _)))) in
-      let addressed : address_means cell own bss f ≡ accepted t = sym (past _ _ _ address (ap accepted (sym to) ∙ done _)) in
+      let managed : management_means f ≡ Ok s =
+      sym (past _ _ _ (le-ltb (length f) header_length long) (past _ _ _ (le-ltb longest_frame (length f) short) (past _ _ _ header (ap Ok (sym is) ∙ done _)))) in
+      let addressed : address_means cell own bss f ≡ Ok t = sym (past _ _ _ address (ap Ok (sym to) ∙ done _)) in
       rw (managed, addressed)

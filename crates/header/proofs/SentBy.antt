@@ -1,4 +1,5 @@
 -- A frame of an IBSS beside the same frame from an AP (02, Five: "It accepts document 01's frames of its BSSID from any individual address"). Assumes nothing.
+use Rattle.std.specs.Prelude.{Ok, Err}
 use mathlib.Core.Bool.{Bool, true, false, not, ◌||◌}
 use mathlib.Core.List.{List, [], ◌∷◌, ◌++◌}
 use mathlib.Core.Logic.{⊎_elim}
@@ -11,7 +12,7 @@ use lib.ListN.{length, take, drop, replicate, length-append, length-take, length
 use lib.Seq.{length-take-le, get_or-append-add, drop-append-add, drop-drop}
 use Rattle.answer.proofs.Booleans.{either, neither}
 use Rattle.answer.proofs.Judged.{stop, passed, followed}
-use Rattle.answer.specs.Checks.{Outcome, refused, accepted, ◌⇒◌, judged, and_then}
+use Rattle.answer.specs.Checks.{Outcome, ◌⇒◌, judged, and_then}
 use Rattle.answer.specs.declared.Refusal.{Refusal}
 use Rattle.octets.proofs.JoinSplit.{all_from}
 use Rattle.octets.specs.Numbers.{octet, octets_from, bit}
@@ -94,7 +95,7 @@ module _ (a : List ℕ) (six : length a ≡ 6) (f : List ℕ) where
     same_whole : (own : List ℕ) → bit 0 (octet 0 (sa f)) ≡ false → header_means Cell.Ibss own a f ≡ header_means Cell.Ap own a (from_ap a f)
     unfolding header_means address_means
     same_whole own single =
-        ap₂ (λ (o : Outcome Subtype) (to : Outcome Bool). and_then o (λ s. and_then to (λ t. accepted (record { subtype = s; to_all = t })))) (sym same_management)
+        ap₂ (λ (o : Outcome Subtype) (to : Outcome Bool). and_then o (λ s. and_then to (λ t. Ok (record { subtype = s; to_all = t })))) (sym same_management)
         (ap₂ (λ (foreign all : Bool). judged (foreign ⇒ Refusal.ForeignAddress ∷ []) all) (same_address own single) (sym same_to_all))
 
   -- a frame with no whole header has none with another SA either
@@ -102,9 +103,9 @@ module _ (a : List ℕ) (six : length a ≡ 6) (f : List ℕ) where
   unfolding from_ap
   still_short h = simp (length-append, length-drop) (omega (arith, length-take 10 f, six))
 
-  too_short : (cell : Cell) (own bss g : List ℕ) → length g ≤ 23 → refused Refusal.TooShort ≡ header_means cell own bss g
+  too_short : (cell : Cell) (own bss g : List ℕ) → length g ≤ 23 → Err Refusal.TooShort ≡ header_means cell own bss g
   unfolding header_means management_means
-  too_short cell own bss g h = ap (λ (o : Outcome Subtype). and_then o (λ s. and_then (address_means cell own bss g) (λ t. accepted (record { subtype = s; to_all = t })))) (stop _ _ _ (lt-ltb (length g) header_length (omega arith)))
+  too_short cell own bss g h = ap (λ (o : Outcome Subtype). and_then o (λ s. and_then (address_means cell own bss g) (λ t. Ok (record { subtype = s; to_all = t })))) (stop _ _ _ (lt-ltb (length g) header_length (omega arith)))
 
   -- from an individual address it is heard as from the AP
   pub heard_as_from_ap : (own : List ℕ) → bit 0 (octet 0 (sa f)) ≡ false → header_means Cell.Ibss own a f ≡ header_means Cell.Ap own a (from_ap a f)
@@ -132,7 +133,7 @@ module _ (a : List ℕ) (six : length a ≡ 6) (f : List ℕ) where
       (either (ltb (length f) header_length))
 
 -- whoever is heard in an IBSS has an individual address
-pub individual : (own bss f : List ℕ) (h : Head) → header_means Cell.Ibss own bss f ≡ accepted h → bit 0 (octet 0 (sa f)) ≡ false
+pub individual : (own bss f : List ℕ) (h : Head) → header_means Cell.Ibss own bss f ≡ Ok h → bit 0 (octet 0 (sa f)) ≡ false
 unfolding header_means address_means foreign_address
 individual own bss f h e =
     let m = followed (management_means f) _ h e in

@@ -1,13 +1,11 @@
 -- The header (01, "Octets": octet 0 is version in bits 0-1, type in 2-3, subtype in 4-7; then flags, duration (2), DA, SA, BSSID,
 -- sequence control (2)) and what is refused of it, in 01's order: 1, 2, 3, 4. `own` is the station's address, `bss` the BSSID of its cell.
-use Rattle.std.specs.Prelude.{Bool, true, false, not, ◌&&◌, ◌||◌, List, [], ◌∷◌, ◌++◌, ℕ, ◌/◌, ◌%◌, ltb, eqb, length, take, drop, replicate}
-use Rattle.answer.specs.Checks.{Outcome, refused, accepted, pick, ◌⇒◌, judged, and_then}
+use Rattle.std.specs.Prelude.{Bool, true, false, not, ◌&&◌, ◌||◌, List, [], ◌∷◌, ◌++◌, ℕ, ◌/◌, ◌%◌, ltb, eqb, length, take, drop, replicate, Ok, Err}
+use Rattle.answer.specs.Checks.{Outcome, pick, ◌⇒◌, judged, and_then}
 use Rattle.answer.specs.declared.Refusal.{Refusal}
 use Rattle.octets.specs.Numbers.{octet, octets_from, bit}
 use Rattle.header.specs.declared.Header.{Header}
-use Rattle.header.specs.declared.address.Addressed.{Addressed}
 use Rattle.header.specs.declared.address.Cell.{Cell}
-use Rattle.header.specs.declared.management.Management.{Management}
 use Rattle.header.specs.declared.management.Subtype.{Subtype}
 
 -- how many octets a header has, and the most that a frame has
@@ -104,7 +102,7 @@ pub record Head : Type 0 where
 
 unfoldable pub header_means : Cell → List ℕ → List ℕ → List ℕ → Outcome Head
 header_means cell own bss f =
-    and_then (management_means f) (λ s. and_then (address_means cell own bss f) (λ a. accepted (record { subtype = s; to_all = a })))
+    and_then (management_means f) (λ s. and_then (address_means cell own bss f) (λ a. Ok (record { subtype = s; to_all = a })))
 
 -- the frame as an AP at this address would have sent it: SA replaced
 unfoldable pub from_ap : List ℕ → List ℕ → List ℕ
@@ -112,15 +110,6 @@ from_ap a f = take 10 f ++ (a ++ drop 16 f)
 
 -- ---- the outcome that each case of an answer stands for
 
-abbrev pub management_told : Management → Outcome Subtype
-management_told (Management.Refused r) = refused r
-management_told (Management.Is s) = accepted s
-
-abbrev pub address_told : Addressed → Outcome Bool
-address_told (Addressed.Refused r) = refused r
-address_told Addressed.ToStation = accepted false
-address_told Addressed.ToAll = accepted true
-
 abbrev pub header_told : Header → Outcome Head
-header_told (Header.Refused r) = refused r
-header_told (Header.Is s a) = accepted (record { subtype = s; to_all = a })
+header_told (Header.Refused r) = Err r
+header_told (Header.Is s a) = Ok (record { subtype = s; to_all = a })

@@ -1,7 +1,7 @@
 // Whose a frame must be (document 01, "Answer numbers", 4; 02, Five).
 ghost use Rattle.std.specs.Prelude.{◌≡◌, [], ◌∷◌, ◌≤◌};
 ghost use Rattle.octets.specs.Numbers.{octets_from};
-ghost use Rattle.header.specs.Headers.{same, da, sa, to_all, foreign_sender, foreign_address, address_told, address_means};
+ghost use Rattle.header.specs.Headers.{same, da, sa, to_all, foreign_sender, foreign_address, address_means};
 
 use answer::Refusal;
 
@@ -10,14 +10,6 @@ use answer::Refusal;
 pub enum Cell {
     Ap,
     Ibss,
-}
-
-// To whom an accepted frame was sent: to the station alone, or to all ones.
-#[derive(Clone, Copy)]
-pub enum Addressed {
-    Refused(Refusal),
-    ToStation,
-    ToAll,
 }
 
 // Where the header has its addresses.
@@ -129,14 +121,14 @@ fn is_elsewhere(frame: &[u8], cell: Cell, own: [u8; 6], bssid: [u8; 6]) -> bool
 }
 
 // To whom a frame was sent that this station takes.
-pub fn read_address(frame: &[u8], cell: Cell, own: [u8; 6], bssid: [u8; 6]) -> Addressed
-    ensures { address_told result ≡ address_means cell own bssid frame.now }
+pub fn read_address(frame: &[u8], cell: Cell, own: [u8; 6], bssid: [u8; 6]) -> Result<bool, Refusal>
+    ensures { result ≡ address_means cell own bssid frame.now }
 {
     if is_elsewhere(frame, cell, own, bssid) {
-        return Addressed::Refused(Refusal::ForeignAddress);
+        return Err(Refusal::ForeignAddress);
     }
     if is_to_all(frame) {
-        return Addressed::ToAll;
+        return Ok(true);
     }
-    Addressed::ToStation
+    Ok(false)
 }

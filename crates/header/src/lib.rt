@@ -8,9 +8,9 @@ mod parts;
 ghost use Rattle.std.specs.Prelude.{◌≡◌};
 ghost use Rattle.header.specs.Headers.{header_told, header_means};
 
-pub use address::{Addressed, Cell, are_same, read_address, receiver, sender};
+pub use address::{Cell, are_same, read_address, receiver, sender};
 use answer::Refusal;
-pub use management::{LENGTH, LONGEST_FRAME, Management, Subtype, read_management};
+pub use management::{LENGTH, LONGEST_FRAME, Subtype, read_management};
 pub use parts::body;
 
 // What the header of a frame that is taken says: which frame it is, and whether it was sent to all ones.
@@ -25,14 +25,14 @@ pub fn read(frame: &[u8], cell: Cell, own: [u8; 6], bssid: [u8; 6]) -> Header
     ensures { header_told result ≡ header_means cell own bssid frame.now }
 {
     match read_management(frame) {
-        Management::Refused(refusal) => Header::Refused(refusal),
-        Management::Is(subtype) => match read_address(frame, cell, own, bssid) {
-            Addressed::Refused(refusal) => Header::Refused(refusal),
-            Addressed::ToStation => Header::Is {
+        Err(refusal) => Header::Refused(refusal),
+        Ok(subtype) => match read_address(frame, cell, own, bssid) {
+            Err(refusal) => Header::Refused(refusal),
+            Ok(false) => Header::Is {
                 subtype,
                 to_all: false,
             },
-            Addressed::ToAll => Header::Is {
+            Ok(true) => Header::Is {
                 subtype,
                 to_all: true,
             },

@@ -1,6 +1,6 @@
 // What every management frame must be (document 01, "Answer numbers", 1 to 3; the base standard's header, with 802.11h 7.2.3).
 ghost use Rattle.std.specs.Prelude.{◌≡◌};
-ghost use Rattle.header.specs.Headers.{is_read, has_foreign_flag, foreign_header, subtype_of, management_told, management_means};
+ghost use Rattle.header.specs.Headers.{is_read, has_foreign_flag, foreign_header, subtype_of, management_means};
 
 use answer::Refusal;
 
@@ -15,12 +15,6 @@ pub enum Subtype {
     ProbeResponse,
     Beacon,
     Action,
-}
-
-#[derive(Clone, Copy)]
-pub enum Management {
-    Refused(Refusal),
-    Is(Subtype),
 }
 
 // Probe Response is 5, Beacon 8 and Action 13.
@@ -85,18 +79,18 @@ fn is_foreign(frame: &[u8]) -> bool
 }
 
 // Which of the frames that are read it is, whoever sent it and to whom.
-pub fn read_management(frame: &[u8]) -> Management
-    ensures { management_told result ≡ management_means frame.now }
+pub fn read_management(frame: &[u8]) -> Result<Subtype, Refusal>
+    ensures { result ≡ management_means frame.now }
 {
     if frame.len() < LENGTH {
-        return Management::Refused(Refusal::TooShort);
+        return Err(Refusal::TooShort);
     }
     if LONGEST_FRAME < frame.len() {
-        return Management::Refused(Refusal::TooLong);
+        return Err(Refusal::TooLong);
     }
     if is_foreign(frame) {
-        return Management::Refused(Refusal::ForeignHeader);
+        return Err(Refusal::ForeignHeader);
     }
     let control = octets::octet_at(frame, 0);
-    Management::Is(subtype_of(control / 16))
+    Ok(subtype_of(control / 16))
 }

@@ -7,11 +7,11 @@ ghost use Rattle.station.specs.Asking.{permission_of};
 ghost use Rattle.station.specs.Clock.{advance_of};
 ghost use Rattle.station.specs.Validity.{Valid};
 
-use answer::Answer;
 use station::{Permission, Station};
+use answer::Refusal;
 
 // The clock goes on by so many TU; where that is refused the station that is lent stays as it was.
-pub fn advance(station: &mut Station, units: u32) -> Answer
+pub fn advance(station: &mut Station, units: u32) -> Result<(), Refusal>
     requires { Valid station.old }
     ensures value { (result ≡ (advance_of station.old units).answer) × (station.new ≡ (advance_of station.old units).station) }
     ensures kept { Valid station.new }

@@ -1,4 +1,5 @@
 -- Pieces of a file, listed one after the other. Assumes nothing.
+use Rattle.std.specs.Prelude.{Ok, Err}
 use mathlib.Core.Bool.{true}
 use mathlib.Core.List.{List, [], ◌++◌}
 use mathlib.Core.Logic.{◌⊎◌}
@@ -7,13 +8,12 @@ use Prim.Native.Nat.{ℕ, ◌%◌, ◌≤◌}
 use native.Mathlib.Omega.{arith}
 use lib.ListN.{length, take, length-append, length-take}
 use Rattle.answer.proofs.Booleans.{clash}
-use Rattle.answer.specs.Checks.{Outcome, refused, accepted}
+use Rattle.answer.specs.Checks.{Outcome}
 use Rattle.block.specs.Blocks.{block_size}
 use Rattle.capture.proofs.Cutting.{cut_at_block}
 use Rattle.capture.proofs.FedBlocks.{told_after}
 use Rattle.capture.proofs.Fitting.{has_lines, fed_is}
 use Rattle.octets.proofs.Storing.{filled_inside}
-use Rattle.octets.specs.declared.writing.Wrote.{Wrote}
 use Rattle.capture.specs.Feeding.{listing_of, FedWith}
 use Rattle.capture.specs.Listers.{fresh}
 use Rattle.capture.specs.Lists.{Told, blocks_after, blocks_in, blocks_told, file_told}
@@ -27,15 +27,15 @@ use Rattle.list.specs.declared.output.Progress.{Progress}
 -- ---- a piece
 
 -- the lines that were put lie in the buffer
-pub within : {o : Outcome Told} {l : Lister} {out exit : List ℕ} {x : Listing} → FedWith o l out x exit → length exit ≡ length out → (w : Wrote) → x.wrote ≡ w → CountWithin w (length exit)
-within h same (Wrote.Refused r) e = tt
-within {out = out} {exit = exit} h same (Wrote.Length n) e =
+pub within : {o : Outcome Told} {l : Lister} {out exit : List ℕ} {x : Listing} → FedWith o l out x exit → length exit ≡ length out → (w : Outcome ℕ) → x.wrote ≡ w → CountWithin w (length exit)
+within h same (Err r) e = tt
+within {out = out} {exit = exit} h same (Ok n) e =
     let w = has_lines h e in
     omega (arith, w.2, filled_inside w.0.text out exit w.4 same)
 
 stands_by : (o : Outcome Told) (l : Lister) (said fate : Fate) → WroteAs (listing_of l o).wrote said fate → FateAfter o said fate
-stands_by (refused r) l said fate w = w
-stands_by (accepted t) l said fate w = w
+stands_by (Err r) l said fate w = w
+stands_by (Ok t) l said fate w = w
 
 pub listed_as_lem : {l : Lister} {piece out exit : List ℕ} {x : Listing} {said : Fate} {p : Progress} → FedWith (fed l piece (length out)) l out x exit
     → (p.lister ≡ x.lister) × WroteAs x.wrote said p.fate → PieceListed l piece out said p exit
@@ -71,10 +71,10 @@ not_broken (◌⊎◌.inr a) (◌⊎◌.inl b) = let z : ◌≡◌ {A = ℕ} 0 1
 not_broken (◌⊎◌.inr a) (◌⊎◌.inr b) = let z : ◌≡◌ {A = ℕ} 0 1 = cc in omega arith
 
 -- then the piece was listed, and the listing stands as was said
-unbroken : (o : Outcome Told) (said fate : Fate) → FateAfter o said fate → Unbroken fate → (t : Told) × (o ≡ accepted t) × (fate ≡ said)
-unbroken (refused r) said fate w u = absurd (not_broken u (◌⊎◌.inl w))
-unbroken (accepted t) said fate (◌⊎◌.inl e) u = (t, refl, e)
-unbroken (accepted t) said fate (◌⊎◌.inr e) u = absurd (not_broken u (◌⊎◌.inr e))
+unbroken : (o : Outcome Told) (said fate : Fate) → FateAfter o said fate → Unbroken fate → (t : Told) × (o ≡ Ok t) × (fate ≡ said)
+unbroken (Err r) said fate w u = absurd (not_broken u (◌⊎◌.inl w))
+unbroken (Ok t) said fate (◌⊎◌.inl e) u = (t, refl, e)
+unbroken (Ok t) said fate (◌⊎◌.inr e) u = absurd (not_broken u (◌⊎◌.inr e))
 
 pub is_going : (f : Fate) → going f ≡ true → f ≡ Fate.Going
 is_going Fate.Going e = refl

@@ -1,7 +1,7 @@
 -- The program (01, "Capture blocks and the evening list"): the file is read piece by piece, each piece is listed into a buffer, and what stands there is written. What is
 -- read and written no contract can say, so these are promises about the buffers and the lister.
-use Rattle.std.specs.Prelude.{List, ◌⊎◌, ◌≡◌, ℕ, ◌%◌, ◌<◌, ◌≤◌, length, take}
-use Rattle.answer.specs.Checks.{Outcome, refused, accepted}
+use Rattle.std.specs.Prelude.{List, ◌⊎◌, ◌≡◌, ℕ, ◌%◌, ◌<◌, ◌≤◌, length, take, Ok, Err}
+use Rattle.answer.specs.Checks.{Outcome}
 use Rattle.block.specs.Blocks.{block_size}
 use Rattle.capture.specs.Feeding.{feed_means, listing_of, filled_by}
 use Rattle.capture.specs.Lists.{Told, blocks_in, blocks_told, file_told}
@@ -23,8 +23,8 @@ fed l piece size = feed_means l (length (blocks_in piece)) (blocks_told (blocks_
 
 -- how the listing stands after it: as was said, unless it could not be listed or written
 abbrev pub FateAfter : Outcome Told → Fate → Fate → Type 0
-FateAfter (refused r) said fate = fate ≡ Fate.TooLong
-FateAfter (accepted t) said fate = (fate ≡ said) ⊎ (fate ≡ Fate.WriteFailed)
+FateAfter (Err r) said fate = fate ≡ Fate.TooLong
+FateAfter (Ok t) said fate = (fate ≡ said) ⊎ (fate ≡ Fate.WriteFailed)
 
 pub record PieceListed (l : Lister) (piece out : List ℕ) (said : Fate) (p : Progress) (exit : List ℕ) : Type 0 where
   pub same : p.lister ≡ (listing_of l (fed l piece (length out))).lister

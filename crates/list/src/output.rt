@@ -5,8 +5,8 @@ ghost use Rattle.list.specs.Program.{ClosedAs, PieceListed};
 ghost use Rattle.list.specs.CodeTerms.Writing.{CountWithin, WroteAs, going};
 
 use capture::Lister;
-use octets::Wrote;
 use std::io::Write;
+use answer::Refusal;
 
 // How the listing stands, or ended.
 #[derive(Clone, Copy)]
@@ -38,13 +38,13 @@ pub fn goes_on(progress: Progress) -> bool
 }
 
 // Writes the lines that stand in front of the buffer. The listing then stands as `said`, unless they could not be made or written.
-fn write_lines<W: Write>(to: &mut W, wrote: Wrote, out: &[u8], said: Fate) -> Fate
+fn write_lines<W: Write>(to: &mut W, wrote: Result<usize, Refusal>, out: &[u8], said: Fate) -> Fate
     requires { CountWithin wrote (length out.now) }
     ensures { WroteAs wrote said result }
 {
     match wrote {
-        Wrote::Refused(_) => Fate::TooLong,
-        Wrote::Length(count) => {
+        Err(_) => Fate::TooLong,
+        Ok(count) => {
             if to.write_all(&out[..count]).is_ok() {
                 return said;
             }

@@ -1,7 +1,7 @@
 -- The report that is owed for one element of a Measurement Request (01, "Replies"): same token and type; type over 2 gives Incapable; else a
 -- start that is not 0 and lies before the clock times 1,024 gives Late; else the caller's own Refused or readings.
-use Rattle.std.specs.Prelude.{Bool, not, ◌&&◌, List, ℕ, ◌*◌, ltb, eqb}
-use Rattle.answer.specs.Checks.{Outcome, refused, accepted, pick, and_then}
+use Rattle.std.specs.Prelude.{Bool, not, ◌&&◌, List, ℕ, ◌*◌, ltb, eqb, Ok, Err}
+use Rattle.answer.specs.Checks.{Outcome, pick, and_then}
 use Rattle.answer.specs.declared.Refusal.{Refusal}
 use Rattle.measurement_element.specs.MeasurementReport.{no_densities}
 use Rattle.measurement_element.specs.declared.found.Found.{Found}
@@ -22,20 +22,20 @@ plain token kind m = record { token = token; kind = kind; matter = m; densities 
 -- ---- the readings, as the type asks: a map, busy µs, or eight times; another kind is 16
 
 abbrev pub map_report : ℕ → ℕ → Span → ℕ → Outcome Report
-map_report token kind s m = pick (eqb kind 0) (accepted (plain token kind (Matter.Measured s (Found.Map m)))) (refused Refusal.Impossible)
+map_report token kind s m = pick (eqb kind 0) (Ok (plain token kind (Matter.Measured s (Found.Map m)))) (Err Refusal.Impossible)
 
 abbrev pub busy_report : ℕ → ℕ → Span → ℕ → Outcome Report
 busy_report token kind s time =
-    pick (eqb kind 1) (and_then (busy_of s.duration time) (λ f. accepted (plain token kind (Matter.Measured s (Found.Busy f))))) (refused Refusal.Impossible)
+    pick (eqb kind 1) (and_then (busy_of s.duration time) (λ f. Ok (plain token kind (Matter.Measured s (Found.Busy f))))) (Err Refusal.Impossible)
 
 abbrev pub rpi_report : ℕ → ℕ → Span → List ℕ → Outcome Report
 rpi_report token kind s times =
     pick (eqb kind 2)
-    (and_then (densities_of s.duration times) (λ ds. accepted (record { token = token; kind = kind; matter = Matter.Measured s Found.Densities; densities = ds })))
-    (refused Refusal.Impossible)
+    (and_then (densities_of s.duration times) (λ ds. Ok (record { token = token; kind = kind; matter = Matter.Measured s Found.Densities; densities = ds })))
+    (Err Refusal.Impossible)
 
 abbrev pub found : ℕ → ℕ → Span → Finding → List ℕ → Outcome Report
-found token kind s Finding.Refused times = accepted (plain token kind (Matter.NotMeasured Reason.Refused))
+found token kind s Finding.Refused times = Ok (plain token kind (Matter.NotMeasured Reason.Refused))
 found token kind s (Finding.Map m) times = map_report token kind s m
 found token kind s (Finding.Busy time) times = busy_report token kind s time
 found token kind s Finding.Times times = rpi_report token kind s times
@@ -55,14 +55,14 @@ begun clock s =
 
 abbrev pub measured_report : ℕ → ℕ → Span → ℕ → Readings → Outcome Report
 measured_report token kind s clock readings =
-    pick (is_late clock s) (accepted (plain token kind (Matter.NotMeasured Reason.Late))) (found_report token kind (begun clock s) readings)
+    pick (is_late clock s) (Ok (plain token kind (Matter.NotMeasured Reason.Late))) (found_report token kind (begun clock s) readings)
 
 -- ---- what was asked: an Enable element gets none
 
 abbrev pub by_matter : Asked.Matter → ℕ → ℕ → ℕ → Readings → Outcome Report
-by_matter (Asked.Matter.Enable q p) token kind clock readings = refused Refusal.NoReplyDue
+by_matter (Asked.Matter.Enable q p) token kind clock readings = Err Refusal.NoReplyDue
 by_matter (Asked.Matter.Measure s) token kind clock readings = measured_report token kind s clock readings
-by_matter Asked.Matter.Uninterpreted token kind clock readings = accepted (plain token kind (Matter.NotMeasured Reason.Incapable))
+by_matter Asked.Matter.Uninterpreted token kind clock readings = Ok (plain token kind (Matter.NotMeasured Reason.Incapable))
 
 abbrev pub report_for : ℕ → Readings → Request → Outcome Report
 report_for clock readings q = by_matter q.matter q.token q.kind clock readings

@@ -1,13 +1,11 @@
 // The report that is owed for an element of a Measurement Request (document 01, "Replies").
 #![tactic(auto)]
 
-ghost use Rattle.std.specs.Prelude.{◌≡◌};
-ghost use Rattle.answer.specs.Checks.{accepted};
+ghost use Rattle.std.specs.Prelude.{◌≡◌, Ok};
 ghost use Rattle.measurement_element.specs.MeasurementReport.{report_laid};
 ghost use Rattle.measured_report.specs.Reports.{plain, map_report, busy_report, rpi_report, found_report, measured_report, report_for};
 
-use answer::{Answer, Refusal};
-use fraction::Fraction;
+use answer::Refusal;
 use measurement_element::measurement_report::{Matter, Reason, Report};
 use measurement_element::measurement_request::Request;
 use measurement_element::{Found, Span, measurement_report, measurement_request};
@@ -29,7 +27,7 @@ pub struct Readings {
 
 // A report with no densities beside it.
 fn plain(token: u8, kind: u8, matter: Matter) -> measurement_report::Reading
-    ensures { result ≡ report_laid (accepted (plain token kind matter)) }
+    ensures { result ≡ report_laid (Ok (plain token kind matter)) }
 {
     let report = Report {
         token,
@@ -37,7 +35,7 @@ fn plain(token: u8, kind: u8, matter: Matter) -> measurement_report::Reading
         matter,
         densities: [0; 8],
     };
-    let answer = Answer::Accepted;
+    let answer = Ok(());
     measurement_report::Reading { answer, report }
 }
 
@@ -60,8 +58,8 @@ fn busy_report(token: u8, kind: u8, span: Span, time: u32) -> measurement_report
         return measurement_report::refused(Refusal::Impossible);
     }
     match fraction::busy_fraction(time, span.duration) {
-        Fraction::Refused(refusal) => measurement_report::refused(refusal),
-        Fraction::Is(busy) => {
+        Err(refusal) => measurement_report::refused(refusal),
+        Ok(busy) => {
             let found = Found::Busy(busy);
             plain(token, kind, Matter::Measured { span, found })
         }
@@ -79,8 +77,8 @@ fn rpi_report(token: u8, kind: u8, span: Span, times: [u32; 8]) -> measurement_r
     let answer = found.answer;
     let densities = found.values;
     match answer {
-        Answer::Refused(refusal) => measurement_report::refused(refusal),
-        Answer::Accepted => {
+        Err(refusal) => measurement_report::refused(refusal),
+        Ok(()) => {
             let found = Found::Densities;
             let matter = Matter::Measured { span, found };
             let report = Report {

@@ -1,5 +1,6 @@
 -- A list that may be written and whose body is not too long, written by one call of `append` for each record into a buffer with
 -- room: every call is accepted, and the body's octets are then in front, with the rest of the buffer as it was. Assumes nothing.
+use Rattle.std.specs.Prelude.{Ok}
 use mathlib.Core.Path.{◌≡◌, refl, sym, ap, ap₂, ◌∙◌}
 use mathlib.Core.Bool.{Bool, true, false, ◌&&◌}
 use mathlib.Core.List.{List, [], ◌∷◌, ◌++◌, append-nil, append_assoc}
@@ -10,7 +11,7 @@ use lib.Dec.{ltb, leb, eqb}
 use lib.ListN.{length, take, drop, length-append}
 use lib.Seq.{append_snoc, take-append_seam}
 use Rattle.action.specs.Openings.{fixed_fields}
-use Rattle.answer.specs.Checks.{Outcome, accepted, pick}
+use Rattle.answer.specs.Checks.{Outcome, pick}
 use Rattle.answer.proofs.Booleans.{clash, both}
 use Rattle.octets.specs.Numbers.{Octets}
 use Rattle.octets.specs.Writing.{wrote, left, filled}
@@ -124,7 +125,7 @@ module _ {A : Type 0} (s : Sort A) (Fits : A → Type 0) (t : Trip s Fits) (toke
       (may_snoc l (before ++ (x ∷ [])) a p.2 may (ap (repeats s a) (append_snoc before x l) ∙ new))
 
   abbrev holding : List ℕ → List ℕ → Buffer
-  holding os buffer = record { used = accepted (length os); octets = filled os buffer }
+  holding os buffer = record { used = Ok (length os); octets = filled os buffer }
 
   all : (xs l : List A) (buffer : List ℕ) → AllFit Fits l → may_all s [] l ≡ true → AllFit Fits xs → may_all s l xs ≡ true
       → length (there (l ++ xs)) ≤ longest_body → length (there (l ++ xs)) ≤ length buffer
@@ -143,17 +144,17 @@ module _ {A : Type 0} (s : Sort A) (Fits : A → Type 0) (t : Trip s Fits) (toke
   module _ (buffer : List ℕ) where
     pub append_all : (xs : List A) → AllFit Fits xs → may_list s xs ≡ true → length (body_octets s token xs) ≤ longest_body
         → length (body_octets s token xs) ≤ length buffer → appends s token xs 0 buffer
-        ≡ record { used = accepted (length (body_octets s token xs)); octets = filled (body_octets s token xs) buffer }
+        ≡ record { used = Ok (length (body_octets s token xs)); octets = filled (body_octets s token xs) buffer }
     unfolding may_list may_all
     append_all [] f m short room = clash (sym m)
     append_all (x ∷ xs) f m short room =
         all (x ∷ xs) [] buffer tt refl f (both (ltb 0 (length (x ∷ xs))) (may_all s [] (x ∷ xs)) m).1 short room
 
     -- so the records of an accepted run, with nothing uninterpreted and no reserved bit set, are written back octet for octet
-    pub append_back : (run : List ℕ) (xs : List A) → Octets run → measurements_in s run ≡ accepted xs → all_interpreted s xs ≡ true
+    pub append_back : (run : List ℕ) (xs : List A) → Octets run → measurements_in s run ≡ Ok xs → all_interpreted s xs ≡ true
         → all_clear s (handed_in run) ≡ true → length (0 ∷ s.action ∷ token ∷ run) ≤ longest_body
         → length (0 ∷ s.action ∷ token ∷ run) ≤ length buffer → appends s token xs 0 buffer
-        ≡ record { used = accepted (length (0 ∷ s.action ∷ token ∷ run)); octets = filled (0 ∷ s.action ∷ token ∷ run) buffer }
+        ≡ record { used = Ok (length (0 ∷ s.action ∷ token ∷ run)); octets = filled (0 ∷ s.action ∷ token ∷ run) buffer }
     append_back run xs o h i c short room =
         let b = list_back s Fits t run xs o h i c in
         let size = ap length b.1 in

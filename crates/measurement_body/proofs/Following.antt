@@ -1,5 +1,6 @@
 -- An element that is to follow what is there: the test of it is the one for its record, and what is lent to the one writer are the octets
 -- that are to be put. Assumes nothing.
+use Rattle.std.specs.Prelude.{Ok, Err}
 use mathlib.Core.Path.{◌≡◌, refl, sym, ap, ap₂, ◌∙◌}
 use mathlib.Core.Bool.{Bool, true, false, not, ◌&&◌, ◌||◌}
 use mathlib.Core.List.{List, [], ◌∷◌, ◌++◌}
@@ -10,12 +11,11 @@ use lib.Dec.{leb, eqb}
 use lib.ListN.{length, take, drop, length-append, length-take}
 use lib.Seq.{take-append_seam, take-nil, length-take-le}
 use Rattle.action.specs.Openings.{fixed_fields}
-use Rattle.answer.specs.Checks.{refused, accepted, pick}
+use Rattle.answer.specs.Checks.{pick, Outcome}
 use Rattle.answer.specs.Faults.{Placed}
 use Rattle.octets.proofs.Overwriting.{written_as}
 use Rattle.octets.proofs.Storing.{room_left}
 use Rattle.octets.specs.Writing.{Written, left}
-use Rattle.octets.specs.declared.writing.Wrote.{Wrote}
 use Rattle.walk.specs.Handed.{handed_in}
 use Rattle.measurement_body.specs.Bodies.{longest_body, opening, begins, may_open, joins, appended, may_append}
 use Rattle.measurement_body.specs.CodeTerms.Appending.{Fronts, longest_element, may_follow, following}
@@ -43,8 +43,8 @@ module _ {A : Type 0} (s : Sort A) (token : ℕ) (a : A) (there : List ℕ) wher
     where
       by : (o : Placed (List A)) → (all_clear s (handed_in (drop fixed_fields there)) && joins s a o)
           ≡ ((surveyed_as s 0 (s.token a) there o).plain && not (s.once && (surveyed_as s 0 (s.token a) there o).hit))
-      by (refused r) = and-false (all_clear s (handed_in (drop fixed_fields there)))
-      by (accepted l) = and_assoc (all_clear s (handed_in (drop fixed_fields there))) (all_interpreted s l) (not (s.once && used s (s.token a) l))
+      by (Err r) = and-false (all_clear s (handed_in (drop fixed_fields there)))
+      by (Ok l) = and_assoc (all_clear s (handed_in (drop fixed_fields there))) (all_interpreted s l) (not (s.once && used s (s.token a) l))
 
   pub may_follow_lem : may_follow s token (s.token a) (length (s.octets a)) (s.may a) there ≡ may_append s token a there
   unfolding may_follow may_append
@@ -104,7 +104,7 @@ module _ {A : Type 0} (s : Sort A) (token used : ℕ) (buffer element : List ℕ
   pub part : take there buffer ≡ take used buffer
   part = ap (λ (n : ℕ). take n buffer) all ∙ take_min used buffer
 
-  pub put_as : {may may' : Bool} {os : List ℕ} {answer : Wrote} {exit : List ℕ} → may ≡ may' → os ≡ pick (eqb there 0) (opening s.action token) [] ++ element
+  pub put_as : {may may' : Bool} {os : List ℕ} {answer : Outcome ℕ} {exit : List ℕ} → may ≡ may' → os ≡ pick (eqb there 0) (opening s.action token) [] ++ element
       → Written may os used buffer answer exit
       → Written may' (following s token (take used buffer) element) used buffer answer exit
   put_as m o w =
@@ -123,7 +123,7 @@ module _ (bytes : List ℕ) {n size : ℕ} (long : length bytes ≡ size) (withi
 
 -- what is promised of these octets is promised of the record
 module _ {A : Type 0} (s : Sort A) (token : ℕ) (a : A) (used : ℕ) (buffer bytes : List ℕ) where
-  pub of_record : {may : Bool} {n : ℕ} {answer : Wrote} {exit : List ℕ}
+  pub of_record : {may : Bool} {n : ℕ} {answer : Outcome ℕ} {exit : List ℕ}
       → may ≡ s.may a → take (length (s.octets a)) bytes ≡ s.octets a → n ≡ length (s.octets a)
       → let element = take n bytes in
       Written (may_follow s token (s.token a) (length element) may (take used buffer)) (following s token (take used buffer) element) used buffer answer exit

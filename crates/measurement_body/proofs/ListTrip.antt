@@ -1,5 +1,6 @@
 -- Demand 2 for a list of elements, from that for one element: a list that may be written reads back the same, and an accepted run
 -- with nothing uninterpreted and no reserved bit set is what would be written of its records. Assumes nothing.
+use Rattle.std.specs.Prelude.{Ok}
 use mathlib.Core.Path.{◌≡◌, refl, sym, ap, subst, ◌∙◌}
 use mathlib.Core.Bool.{true, false, not, ◌&&◌}
 use mathlib.Core.List.{List, [], ◌∷◌, ◌++◌, append-nil}
@@ -10,7 +11,6 @@ use borrow.Author.Tests.{lt-ltb, ltb-true, eqb-false, ne_eqb, not-true}
 use lib.Dec.{ltb, eqb}
 use lib.ListN.{length, length-append}
 use lib.Seq.{append_snoc}
-use Rattle.answer.specs.Checks.{accepted}
 use Rattle.answer.proofs.Booleans.{clash, both}
 use Rattle.octets.specs.Elements.{element, RoundTrip}
 use Rattle.action.specs.Openings.{fixed_fields}
@@ -62,24 +62,24 @@ module _ {A : Type 0} (s : Sort A) (Fits : A → Type 0) (t : Trip s Fits) where
 
   -- ---- there
 
-  read_on : (n : ℕ) (a : A) (c : List ℕ) (hs : Handed) (before : List A) → s.means c ≡ accepted a → repeats s a before ≡ false
+  read_on : (n : ℕ) (a : A) (c : List ℕ) (hs : Handed) (before : List A) → s.means c ≡ Ok a → repeats s a before ≡ false
       → listed s n (more s.id c hs) before ≡ listed s (past_element n c) hs (before ++ (a ∷ []))
   read_on n a c hs before m r = onward s n (more s.id c hs) (record { contents = c; rest = hs }) (Requiring.there s.id c hs) before m r
 
   there : (n : ℕ) (xs before : List A) → AllFit Fits xs → may_all s before xs ≡ true → 0 < length (before ++ xs)
-      → listed s n (passing_in (all_octets s xs)) before ≡ accepted (before ++ xs)
+      → listed s n (passing_in (all_octets s xs)) before ≡ Ok (before ++ xs)
   unfolding all_octets listed
   there n [] before f m h =
       let some : eqb (length before) 0 ≡ false = ne_eqb (length before) 0 (λ z. omega (arith, length-append before [])) in
-      simp (none_passing, some) (ap accepted (sym (append-nil before)))
+      simp (none_passing, some) (ap Ok (sym (append-nil before)))
   there n (a ∷ xs) before f m h =
       let p = first before a xs m in
       ap (λ (hs : Handed). listed s n hs before) (written a xs)
       ∙ read_on n a (t.contents a) (passing_in (all_octets s xs)) before (t.trip.there a f.0 p.0) p.1
       ∙ there (past_element n (t.contents a)) xs (before ++ (a ∷ [])) f.1 p.2 (subst (λ (l : List A). 0 < length l) (sym (append_snoc before a xs)) h)
-      ∙ ap accepted (append_snoc before a xs)
+      ∙ ap Ok (append_snoc before a xs)
 
-  pub list_there : (xs : List A) → AllFit Fits xs → may_list s xs ≡ true → measurements_in s (all_octets s xs) ≡ accepted xs
+  pub list_there : (xs : List A) → AllFit Fits xs → may_list s xs ≡ true → measurements_in s (all_octets s xs) ≡ Ok xs
   unfolding may_list measurements_in
   list_there xs f m =
       let p = both (ltb 0 (length xs)) (may_all s [] xs) m in
@@ -120,7 +120,7 @@ module _ {A : Type 0} (s : Sort A) (Fits : A → Type 0) (t : Trip s Fits) where
   known_one (x ∷ before) a l i = known_one before a l (both (s.interpreted x) _ i).1
 
   back : (n : ℕ) (hs : Handed) (run : List ℕ) (before l : List A) → Walks run hs → Octets run → all_interpreted s l ≡ true → all_clear s hs ≡ true
-      → listed s n hs before ≡ accepted l → Rest run before l
+      → listed s n hs before ≡ Ok l → Rest run before l
   unfolding all_clear all_octets may_all
   back n end run before l e o i c h =
       let p = ended s n before l h in
@@ -157,7 +157,7 @@ module _ {A : Type 0} (s : Sort A) (Fits : A → Type 0) (t : Trip s Fits) where
   back n (passed x hs) run before l e o i c h = clash (sym c)
   back n cut_passed run before l e o i c h = absurd (not_cut_passed s n before l h)
 
-  module _ (run : List ℕ) (xs : List A) (o : Octets run) (h : measurements_in s run ≡ accepted xs) (i : all_interpreted s xs ≡ true)
+  module _ (run : List ℕ) (xs : List A) (o : Octets run) (h : measurements_in s run ≡ Ok xs) (i : all_interpreted s xs ≡ true)
       (c : all_clear s (handed_in run) ≡ true) where
     rest : Rest run [] xs
     unfolding measurements_in
@@ -175,7 +175,7 @@ module _ {A : Type 0} (s : Sort A) (Fits : A → Type 0) (t : Trip s Fits) where
     whole : l ≡ before ++ tail
     fit : Octets run → AllFit Fits tail
 
-  ends : (n : ℕ) (hs : Handed) (run : List ℕ) (before l : List A) → Walks run hs → listed s n hs before ≡ accepted l → Ends run before l
+  ends : (n : ℕ) (hs : Handed) (run : List ℕ) (before l : List A) → Walks run hs → listed s n hs before ≡ Ok l → Ends run before l
   unfolding listed
   ends n end run before l e h =
       record { tail = []; whole = sym (append-nil before ∙ (ended s n before l h).1); fit = λ o. tt }
@@ -202,7 +202,7 @@ module _ {A : Type 0} (s : Sort A) (Fits : A → Type 0) (t : Trip s Fits) where
       record { tail = z.tail; whole = z.whole; fit = λ o. z.fit (octets_after (element vendor_id x) y.rest (subst Octets y.octets o)) }
   ends n cut_passed run before l e h = absurd (not_cut_passed s n before l h)
 
-  pub list_fits : (run : List ℕ) (xs : List A) → Octets run → measurements_in s run ≡ accepted xs → AllFit Fits xs
+  pub list_fits : (run : List ℕ) (xs : List A) → Octets run → measurements_in s run ≡ Ok xs → AllFit Fits xs
   unfolding measurements_in
   list_fits run xs o h =
       let z = ends fixed_fields (handed_in run) run [] xs (inl refl) h in
@@ -214,40 +214,40 @@ module _ {A : Type 0} (s : Sort A) (Fits : A → Type 0) (t : Trip s Fits) where
   same (x ∷ before) a b xs ys e = same before a b xs ys (cc)
 
   -- the element in front says the record that the list goes on with
-  leads : (n : ℕ) (x run : List ℕ) (before xs : List A) (a : A) → listed s n (more s.id x (passing_in run)) before ≡ accepted (before ++ (a ∷ xs))
-      → (s.means x ≡ accepted a) × (repeats s a before ≡ false) × (listed s (past_element n x) (passing_in run) (before ++ (a ∷ [])) ≡ accepted (before ++ (a ∷ xs)))
+  leads : (n : ℕ) (x run : List ℕ) (before xs : List A) (a : A) → listed s n (more s.id x (passing_in run)) before ≡ Ok (before ++ (a ∷ xs))
+      → (s.means x ≡ Ok a) × (repeats s a before ≡ false) × (listed s (past_element n x) (passing_in run) (before ++ (a ∷ [])) ≡ Ok (before ++ (a ∷ xs)))
   leads n x run before xs a h =
       let g = lists s n s.id x (passing_in run) before (before ++ (a ∷ xs)) h in
       let b = g.one in
       let z = ends (past_element n x) (passing_in run) run (before ++ (b ∷ [])) (before ++ (a ∷ xs)) (inr refl) g.on in
       let e : b ≡ a = sym (same before a b xs z.tail (z.whole ∙ append_snoc before b z.tail)) in (
-        g.says ∙ ap accepted e,
+        g.says ∙ ap Ok e,
         subst (λ (y : A). repeats s y before ≡ false) e g.new,
-        subst (λ (y : A). listed s (past_element n x) (passing_in run) (before ++ (y ∷ [])) ≡ accepted (before ++ (a ∷ xs))) e g.on,
+        subst (λ (y : A). listed s (past_element n x) (passing_in run) (before ++ (y ∷ [])) ≡ Ok (before ++ (a ∷ xs))) e g.on,
       )
 
   exact : (n : ℕ) (xs before : List A) → AllFit Fits xs → all_interpreted s xs ≡ true
-      → listed s n (passing_in (all_octets s xs)) before ≡ accepted (before ++ xs) → may_all s before xs ≡ true
+      → listed s n (passing_in (all_octets s xs)) before ≡ Ok (before ++ xs) → may_all s before xs ≡ true
   unfolding may_all all_interpreted
   exact n [] before f i h = refl
   exact n (a ∷ xs) before f i h =
       let p = leads n (t.contents a) (all_octets s xs) before xs a (ap (λ (hs : Handed). listed s n hs before) (sym (written a xs)) ∙ h) in
       let k = both (s.interpreted a) (all_interpreted s xs) i in
       may_first before a xs (t.trip.exact a f.0 p.0 k.0) p.1
-      (exact (past_element n (t.contents a)) xs (before ++ (a ∷ [])) f.1 k.1 (p.2 ∙ ap accepted (sym (append_snoc before a xs))))
+      (exact (past_element n (t.contents a)) xs (before ++ (a ∷ [])) f.1 k.1 (p.2 ∙ ap Ok (sym (append_snoc before a xs))))
 
   -- an accepted list has one record or more
-  some : (n : ℕ) (xs : List A) → listed s n (passing_in (all_octets s xs)) [] ≡ accepted xs → ltb 0 (length xs) ≡ true
+  some : (n : ℕ) (xs : List A) → listed s n (passing_in (all_octets s xs)) [] ≡ Ok xs → ltb 0 (length xs) ≡ true
   unfolding all_octets
   some n [] h =
-      let g : listed s n end [] ≡ accepted [] = ap (λ (hs : Handed). listed s n hs []) (sym none_passing) ∙ h in
+      let g : listed s n end [] ≡ Ok [] = ap (λ (hs : Handed). listed s n hs []) (sym none_passing) ∙ h in
       clash (ended s n [] [] g).0
   some n (a ∷ xs) h = lt-ltb 0 (length (a ∷ xs)) (omega arith)
 
-  list_exact : (xs : List A) → AllFit Fits xs → measurements_in s (all_octets s xs) ≡ accepted xs → all_interpreted s xs ≡ true → may_list s xs ≡ true
+  list_exact : (xs : List A) → AllFit Fits xs → measurements_in s (all_octets s xs) ≡ Ok xs → all_interpreted s xs ≡ true → may_list s xs ≡ true
   unfolding measurements_in may_list
   list_exact xs f h i =
-      let later : listed s fixed_fields (passing_in (all_octets s xs)) [] ≡ accepted xs = ap (λ (hs : Handed). listed s fixed_fields hs []) (sym (all_handed xs)) ∙ h in
+      let later : listed s fixed_fields (passing_in (all_octets s xs)) [] ≡ Ok xs = ap (λ (hs : Handed). listed s fixed_fields hs []) (sym (all_handed xs)) ∙ h in
       simp (some fixed_fields xs later, exact fixed_fields xs [] f i later)
 
   -- demand 2 for a run

@@ -1,4 +1,5 @@
 -- The records of a run, by the element in front. Assumes nothing.
+use Rattle.std.specs.Prelude.{Ok, Err}
 use mathlib.Core.Path.{◌≡◌, refl, sym, ap, subst, ◌∙◌}
 use mathlib.Core.Bool.{Bool, true, false, ◌&&◌}
 use mathlib.Core.List.{List, [], ◌∷◌, ◌++◌}
@@ -11,7 +12,7 @@ use Rattle.answer.proofs.Booleans.{clash, and_stop}
 use Rattle.answer.proofs.Judged.{kept, followed}
 use Rattle.answer.proofs.Judged as Judged
 use Rattle.answer.proofs.Placing.{placed_value}
-use Rattle.answer.specs.Checks.{refused, accepted, pick, checked, and_then}
+use Rattle.answer.specs.Checks.{pick, checked, and_then}
 use Rattle.answer.specs.Faults.{fault_at, placed_at}
 use Rattle.answer.specs.declared.Refusal.{Refusal}
 use Rattle.walk.proofs.Requiring.{whole, there}
@@ -25,31 +26,31 @@ use Rattle.measurement_body.specs.Lists.{Sort, repeats, next_in, listed, all_cle
 
 module _ {A : Type 0} (s : Sort A) where
   -- an element that has to be there and is not: past the last the run may end
-  pub stops : (n : ℕ) (es : Elements) (before : List A) {r : Refusal} → (es ≡ Raw.end → length before ≡ 0) → required s.id (handing es) ≡ refused r
-      → listed s n (handing es) before ≡ refused (fault_at n r)
+  pub stops : (n : ℕ) (es : Elements) (before : List A) {r : Refusal} → (es ≡ Raw.end → length before ≡ 0) → required s.id (handing es) ≡ Err r
+      → listed s n (handing es) before ≡ Err (fault_at n r)
   unfolding listed next_in handing
   stops n Raw.end before none e = simp (eq-eqb (length before) 0 (none refl), e)
   stops n (Raw.cut_header o) before none e = simp e
   stops n (Raw.cut_contents id) before none e = simp e
   stops n (Raw.more id c es) before none e = simp e
 
-  module _ (n : ℕ) (hs : Handed) (e : Standing) (h : required s.id hs ≡ accepted e) (before : List A) where
+  module _ (n : ℕ) (hs : Handed) (e : Standing) (h : required s.id hs ≡ Ok e) (before : List A) where
     in_front_lem : listed s n hs before ≡ listed s n (more s.id e.contents e.rest) before
     in_front_lem = ap (λ (x : Handed). listed s n x before) (whole s.id hs e h)
 
-    pub misread : {r : Refusal} → s.means e.contents ≡ refused r → listed s n hs before ≡ refused (fault_at n r)
+    pub misread : {r : Refusal} → s.means e.contents ≡ Err r → listed s n hs before ≡ Err (fault_at n r)
     unfolding listed next_in
     misread m = in_front_lem ∙ simp (there s.id e.contents e.rest, m)
 
-    pub repeated : {a : A} → s.means e.contents ≡ accepted a → repeats s a before ≡ true → listed s n hs before ≡ refused (fault_at n Refusal.Repeated)
+    pub repeated : {a : A} → s.means e.contents ≡ Ok a → repeats s a before ≡ true → listed s n hs before ≡ Err (fault_at n Refusal.Repeated)
     unfolding listed next_in checked
     repeated m r = in_front_lem ∙ simp (there s.id e.contents e.rest, m, r)
 
-    pub onward : {a : A} → s.means e.contents ≡ accepted a → repeats s a before ≡ false → listed s n hs before ≡ listed s (past_element n e.contents) e.rest (before ++ (a ∷ []))
+    pub onward : {a : A} → s.means e.contents ≡ Ok a → repeats s a before ≡ false → listed s n hs before ≡ listed s (past_element n e.contents) e.rest (before ++ (a ∷ []))
     unfolding listed next_in checked
     onward m r = in_front_lem ∙ simp (there s.id e.contents e.rest, m, r)
 
-  pub clear_in_front : (hs : Handed) (e : Standing) → required s.id hs ≡ accepted e → all_clear s hs ≡ (s.clear e.contents && all_clear s e.rest)
+  pub clear_in_front : (hs : Handed) (e : Standing) → required s.id hs ≡ Ok e → all_clear s hs ≡ (s.clear e.contents && all_clear s e.rest)
   unfolding all_clear
   clear_in_front hs e h = ap (all_clear s) (whole s.id hs e h)
 
@@ -65,7 +66,7 @@ module _ {A : Type 0} (s : Sort A) where
     listed_onward (passed c hs) n h = listed_onward hs (past_element n c) h
     listed_onward cut_passed n h = clash h
 
-    pub listed_cut : (hs : Handed) (n : ℕ) → (next_after n hs).cut ≡ true → listed s n hs before ≡ refused (fault_at (next_after n hs).at Refusal.ElementCut)
+    pub listed_cut : (hs : Handed) (n : ℕ) → (next_after n hs).cut ≡ true → listed s n hs before ≡ Err (fault_at (next_after n hs).at Refusal.ElementCut)
     unfolding listed next_in required next_after
     listed_cut end n h = clash (sym h)
     listed_cut cut_header n h = clash (sym h)
@@ -91,10 +92,10 @@ module _ {A : Type 0} (s : Sort A) where
   record Heads (hs : Handed) (before : List A) (a : A) : Type 0 where
     element : Standing
     front_is : hs ≡ more s.id element.contents element.rest
-    says : s.means element.contents ≡ accepted a
+    says : s.means element.contents ≡ Ok a
     new : repeats s a before ≡ false
 
-  heads : (hs : Handed) (before : List A) (a : A) → next_in s hs before ≡ accepted a → Heads hs before a
+  heads : (hs : Handed) (before : List A) (a : A) → next_in s hs before ≡ Ok a → Heads hs before a
   unfolding next_in
   heads hs before a h =
       let p = followed (required s.id hs) _ a h in
@@ -104,7 +105,7 @@ module _ {A : Type 0} (s : Sort A) where
       record {
         element = p.0;
         front_is = whole s.id hs p.0 p.1;
-        says = q.1 ∙ ap accepted same;
+        says = q.1 ∙ ap Ok same;
         new = subst (λ (x : A). repeats s x before ≡ false) same r.0;
       }
 
@@ -112,11 +113,11 @@ module _ {A : Type 0} (s : Sort A) where
   pub record Lists (n id : ℕ) (x : List ℕ) (hs : Handed) (before l : List A) : Type 0 where
     pub own : id ≡ s.id
     pub one : A
-    pub says : s.means x ≡ accepted one
+    pub says : s.means x ≡ Ok one
     pub new : repeats s one before ≡ false
-    pub on : listed s (past_element n x) hs (before ++ (one ∷ [])) ≡ accepted l
+    pub on : listed s (past_element n x) hs (before ++ (one ∷ [])) ≡ Ok l
 
-  pub lists : (n id : ℕ) (x : List ℕ) (hs : Handed) (before l : List A) → listed s n (more id x hs) before ≡ accepted l → Lists n id x hs before l
+  pub lists : (n id : ℕ) (x : List ℕ) (hs : Handed) (before l : List A) → listed s n (more id x hs) before ≡ Ok l → Lists n id x hs before l
   unfolding listed
   lists n id x hs before l h =
       let p = followed (placed_at n (next_in s (more id x hs) before)) _ l h in
@@ -126,31 +127,31 @@ module _ {A : Type 0} (s : Sort A) where
       record { own = cc; one = p.0; says = ap s.means same ∙ g.says; new = g.new; on = p.2 }
 
   -- it ends where a record has come, and where nothing is cut
-  pub ended : (n : ℕ) (before l : List A) → listed s n end before ≡ accepted l → (eqb (length before) 0 ≡ false) × (before ≡ l)
+  pub ended : (n : ℕ) (before l : List A) → listed s n end before ≡ Ok l → (eqb (length before) 0 ≡ false) × (before ≡ l)
   unfolding listed
   ended n before l h = by (eqb (length before) 0) h
     where
-      by : (t : Bool) → pick t (and_then (placed_at n (next_in s end before)) (λ a. accepted (a ∷ []))) (accepted before) ≡ accepted l → (t ≡ false) × (before ≡ l)
+      by : (t : Bool) → pick t (and_then (placed_at n (next_in s end before)) (λ a. Ok (a ∷ []))) (Ok before) ≡ Ok l → (t ≡ false) × (before ≡ l)
       by true e =
           let p = followed (placed_at n (next_in s end before)) _ l e in
           absurd (let f = (heads end before p.0 (placed_value n (next_in s end before) p.1)).front_is in let z : ◌≡◌ {A = ℕ} 0 1 = cc in omega arith)
       by false e = (refl, cc)
 
-  pub not_cut_header : (n : ℕ) (before l : List A) → listed s n cut_header before ≡ accepted l → ⊥
+  pub not_cut_header : (n : ℕ) (before l : List A) → listed s n cut_header before ≡ Ok l → ⊥
   unfolding listed
   not_cut_header n before l h =
       let p = followed (placed_at n (next_in s cut_header before)) _ l h in
       let f = (heads cut_header before p.0 (placed_value n (next_in s cut_header before) p.1)).front_is in
       let z : ◌≡◌ {A = ℕ} 0 1 = cc in omega arith
 
-  pub not_cut_contents : (n id : ℕ) (before l : List A) → listed s n (cut_contents id) before ≡ accepted l → ⊥
+  pub not_cut_contents : (n id : ℕ) (before l : List A) → listed s n (cut_contents id) before ≡ Ok l → ⊥
   unfolding listed
   not_cut_contents n id before l h =
       let p = followed (placed_at n (next_in s (cut_contents id) before)) _ l h in
       let f = (heads (cut_contents id) before p.0 (placed_value n (next_in s (cut_contents id) before) p.1)).front_is in
       let z : ◌≡◌ {A = ℕ} 0 1 = cc in omega arith
 
-  pub not_cut_passed : (n : ℕ) (before l : List A) → listed s n cut_passed before ≡ accepted l → ⊥
+  pub not_cut_passed : (n : ℕ) (before l : List A) → listed s n cut_passed before ≡ Ok l → ⊥
   unfolding listed
   not_cut_passed n before l h =
       let p = followed (placed_at n (next_in s cut_passed before)) _ l h in

@@ -1,10 +1,10 @@
 -- Demand 2 for lists of Measurement Requests and of Measurement Reports, and for their bodies. Assumes nothing.
+use Rattle.std.specs.Prelude.{Ok}
 use mathlib.Core.Path.{◌≡◌}
 use mathlib.Core.Bool.{true}
 use mathlib.Core.List.{List, ◌++◌}
 use Prim.Native.Nat.{ℕ, ◌≤◌}
 use lib.ListN.{length}
-use Rattle.answer.specs.Checks.{accepted}
 use Rattle.measurement_element.specs.MeasurementReport.{ReportFits}
 use Rattle.measurement_element.specs.MeasurementRequest.{RequestFits}
 use Rattle.octets.specs.Elements.{RoundTrip}
@@ -40,12 +40,12 @@ module _ (k : Kind) where
     pub measurements_append_all : (xs : List (Measurement k)) → AllFit (MeasurementFits k) xs → may_list (sort_of k) xs ≡ true
         → length (body_octets (sort_of k) token xs) ≤ longest_body → length (body_octets (sort_of k) token xs) ≤ length buffer
         → appends (sort_of k) token xs 0 buffer
-        ≡ record { used = accepted (length (body_octets (sort_of k) token xs)); octets = filled (body_octets (sort_of k) token xs) buffer }
+        ≡ record { used = Ok (length (body_octets (sort_of k) token xs)); octets = filled (body_octets (sort_of k) token xs) buffer }
     measurements_append_all = append_all (sort_of k) (MeasurementFits k) (one k) token allowed buffer
 
-    pub measurements_append_back : (run : List ℕ) (xs : List (Measurement k)) → Octets run → measurements_in (sort_of k) run ≡ accepted xs
+    pub measurements_append_back : (run : List ℕ) (xs : List (Measurement k)) → Octets run → measurements_in (sort_of k) run ≡ Ok xs
         → all_interpreted (sort_of k) xs ≡ true → all_clear (sort_of k) (handed_in run) ≡ true
         → length (opening (sort_of k).action token ++ run) ≤ longest_body → length (opening (sort_of k).action token ++ run) ≤ length buffer
         → appends (sort_of k) token xs 0 buffer
-        ≡ record { used = accepted (length (opening (sort_of k).action token ++ run)); octets = filled (opening (sort_of k).action token ++ run) buffer }
+        ≡ record { used = Ok (length (opening (sort_of k).action token ++ run)); octets = filled (opening (sort_of k).action token ++ run) buffer }
     measurements_append_back = append_back (sort_of k) (MeasurementFits k) (one k) token allowed buffer

@@ -1,4 +1,5 @@
 -- However many calls of `append` are made one after the other, they write no body that is too long. Assumes nothing.
+use Rattle.std.specs.Prelude.{Ok, Err}
 use mathlib.Core.Path.{◌≡◌, refl}
 use mathlib.Core.List.{List, [], ◌∷◌}
 use Prim.Native.Nat.{ℕ, ◌+◌, ◌≤◌}
@@ -9,7 +10,7 @@ use lib.ListN.{length, take}
 use lib.Seq.{length-take-le}
 use Rattle.answer.proofs.Booleans.{both}
 use Rattle.answer.proofs.Judged.{never, passed, kept}
-use Rattle.answer.specs.Checks.{Outcome, refused, accepted}
+use Rattle.answer.specs.Checks.{Outcome}
 use Rattle.octets.specs.Writing.{room, wrote}
 use Rattle.measurement_body.specs.Bodies.{longest_body, may_open, may_append, appended}
 use Rattle.measurement_body.specs.Calls.{Buffer, after_put, may_put, put, appends}
@@ -17,14 +18,14 @@ use Rattle.measurement_body.specs.Lists.{Sort}
 
 -- after an accepted call the next ones are made
 on : (o : Outcome ℕ) (used : ℕ) (buffer : List ℕ) (next : ℕ → List ℕ → Buffer) {n : ℕ} {P : Type 0}
-    → ((k : ℕ) → o ≡ accepted k → (next (used + k) buffer).used ≡ accepted n → P) → (after_put o used buffer next).used ≡ accepted n → P
-on (refused r) used buffer next f e = absurd (never e)
-on (accepted k) used buffer next f e = f k refl e
+    → ((k : ℕ) → o ≡ Ok k → (next (used + k) buffer).used ≡ Ok n → P) → (after_put o used buffer next).used ≡ Ok n → P
+on (Err r) used buffer next f e = absurd (never e)
+on (Ok k) used buffer next f e = f k refl e
 
 module _ {A : Type 0} (s : Sort A) (token : ℕ) where
   -- what an accepted call has put is still within the longest body
   within : (a : A) (used : ℕ) (buffer : List ℕ) (n : ℕ)
-      → wrote (may_put s token a used buffer) (put s token a used buffer) used buffer ≡ accepted n → used + n ≤ longest_body
+      → wrote (may_put s token a used buffer) (put s token a used buffer) used buffer ≡ Ok n → used + n ≤ longest_body
   unfolding wrote room may_append
   within a used buffer n e =
       let p = passed _ _ _ e in
@@ -34,7 +35,7 @@ module _ {A : Type 0} (s : Sort A) (token : ℕ) where
       let short = both (leb (length (take used buffer) + length (appended s token a (take used buffer))) longest_body) _ starts.1 in
       omega (arith, leb-true (length (take used buffer) + length (appended s token a (take used buffer))) longest_body short.0, length-take-le used buffer (omega arith))
 
-  pub never_longer : (xs : List A) (used : ℕ) (buffer : List ℕ) (n : ℕ) → used ≤ longest_body → (appends s token xs used buffer).used ≡ accepted n
+  pub never_longer : (xs : List A) (used : ℕ) (buffer : List ℕ) (n : ℕ) → used ≤ longest_body → (appends s token xs used buffer).used ≡ Ok n
       → n ≤ longest_body
   unfolding appends
   never_longer [] used buffer n short e = let same : used ≡ n = cc in omega arith

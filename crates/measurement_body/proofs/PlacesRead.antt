@@ -1,4 +1,5 @@
 -- The contents at the place of an index mean the record at that index. Assumes nothing.
+use Rattle.std.specs.Prelude.{Ok, Err}
 use mathlib.Core.Path.{◌≡◌, refl, sym, ap, subst, ◌∙◌}
 use mathlib.Core.List.{List, [], ◌∷◌, ◌++◌, append-nil}
 use mathlib.Core.Logic.{inl, inr}
@@ -7,7 +8,7 @@ use native.Mathlib.Omega.{arith}
 use lib.ListN.{length, take, drop}
 use lib.Seq.{append_snoc}
 use Rattle.action.specs.Openings.{fixed_fields}
-use Rattle.answer.specs.Checks.{Outcome, refused, accepted}
+use Rattle.answer.specs.Checks.{Outcome}
 use Rattle.answer.specs.declared.Refusal.{Refusal}
 use Rattle.walk.proofs.Passing.{Walks, walks_more, walks_passed}
 use Rattle.walk.proofs.RunLaws.{Lying, lying}
@@ -20,7 +21,7 @@ use Rattle.measurement_body.proofs.Listing.{Lists, lists, ended, not_cut_header,
 
 -- what is at a place of a body: no record (16), or what the contents there mean
 abbrev pub Reads : {A : Type 0} → Sort A → List ℕ → Outcome A → Place → Type 0
-Reads s body o Place.Absent = o ≡ refused Refusal.Impossible
+Reads s body o Place.Absent = o ≡ Err Refusal.Impossible
 Reads s body o (Place.Contents start stop) = (start ≤ stop) × (stop ≤ length body) × (s.means (take (stop - start) (drop start body)) ≡ o)
 
 module _ {A : Type 0} (s : Sort A) (body : List ℕ) where
@@ -30,7 +31,7 @@ module _ {A : Type 0} (s : Sort A) (body : List ℕ) where
     whole : l ≡ before ++ tail
     reads : (i : ℕ) → Reads s body (nth i tail) (place_after at i hs)
 
-  rest : (hs : Handed) (at : ℕ) (before l : List A) → Walks (drop at body) hs → listed s at hs before ≡ accepted l → Rest at hs before l
+  rest : (hs : Handed) (at : ℕ) (before l : List A) → Walks (drop at body) hs → listed s at hs before ≡ Ok l → Rest at hs before l
   unfolding listed place_after nth
   rest end at before l e h = record { tail = []; whole = sym (append-nil before ∙ (ended s at before l h).1); reads = λ i. refl }
   rest cut_header at before l e h = absurd (not_cut_header s at before l h)
@@ -57,7 +58,7 @@ module _ {A : Type 0} (s : Sort A) (body : List ℕ) where
       record { tail = z.tail; whole = z.whole; reads = z.reads }
   rest cut_passed at before l e h = absurd (not_cut_passed s at before l h)
 
-  pub place_reads : (xs : List A) → measurements_in s (drop fixed_fields body) ≡ accepted xs → (i : ℕ) → Reads s body (nth i xs) (place_in i body)
+  pub place_reads : (xs : List A) → measurements_in s (drop fixed_fields body) ≡ Ok xs → (i : ℕ) → Reads s body (nth i xs) (place_in i body)
   unfolding measurements_in
   place_reads xs h i =
       let r = rest (handed_in (drop fixed_fields body)) fixed_fields [] xs (inl refl) h in

@@ -1,4 +1,5 @@
 -- One walk of a body: listing the rest from a place on, after what was read so far, is listing the whole. Assumes nothing.
+use Rattle.std.specs.Prelude.{Ok, Err}
 use mathlib.Core.Path.{◌≡◌, refl, sym, ap, subst, ◌∙◌}
 use mathlib.Core.Bool.{Bool, true, false, ◌&&◌, ◌||◌}
 use mathlib.Core.List.{List, [], ◌∷◌, ◌++◌}
@@ -9,12 +10,11 @@ use lib.Dec.{ltb, eqb}
 use lib.ListN.{length, take, drop, get_or, set, replicate, length-append, length-drop}
 use Rattle.action.specs.Openings.{fixed_fields}
 use Rattle.answer.proofs.Booleans.{neither, or_go}
-use Rattle.answer.specs.Checks.{refused, accepted, pick}
+use Rattle.answer.specs.Checks.{pick}
 use Rattle.answer.specs.Faults as Faults
 use Rattle.answer.specs.Faults.{fault_at}
 use Rattle.answer.specs.declared.Fault.{Fault}
 use Rattle.answer.specs.declared.Refusal.{Refusal}
-use Rattle.answer.specs.declared.Verdict.{Verdict}
 use Rattle.walk.proofs.Passing.{onward_at, no_further_back}
 use Rattle.walk.proofs.Requiring.{Lies, whole, long, past}
 use Rattle.walk.proofs.RunLaws.{empty}
@@ -79,8 +79,8 @@ module _ {A : Type 0} {s : Sort A} {body : List ℕ} {index : ℕ} {marks : List
 
   -- ---- an element that has to be there
 
-  pub absent : (id : ℕ) → id ≡ s.id → more ≡ true → {r : Refusal} → required id (handed_in (drop at body)) ≡ refused r
-      → measurements_in s (drop fixed_fields body) ≡ refused (fault_at at r)
+  pub absent : (id : ℕ) → id ≡ s.id → more ≡ true → {r : Refusal} → required id (handed_in (drop at body)) ≡ Err r
+      → measurements_in s (drop fixed_fields body) ≡ Err (fault_at at r)
   absent id own m e =
       as_whole
       (stops s at (elements_in (drop at body)) w.before (λ h. none_before (over h))
@@ -104,7 +104,7 @@ module _ {A : Type 0} {s : Sort A} {body : List ℕ} {index : ℕ} {marks : List
     abbrev contents : List ℕ
     contents = take (stop - start) (drop start body)
 
-    pub unfit : {r : Refusal} → s.means contents ≡ refused r → measurements_in s (drop fixed_fields body) ≡ refused (fault_at at r)
+    pub unfit : {r : Refusal} → s.means contents ≡ Err r → measurements_in s (drop fixed_fields body) ≡ Err (fault_at at r)
     unfit m = as_whole (misread s at (handed_in (drop at body)) (between body start stop) l.stands w.before m)
 
     module _ {token : ℕ} {is_plain : Bool} (h : Holds s contents token is_plain) (small : token < 256) where
@@ -115,7 +115,7 @@ module _ {A : Type 0} {s : Sort A} {body : List ℕ} {index : ℕ} {marks : List
           ∙ ap (λ (b : Bool). s.once && b) (sym (w.marked.at token small))
           ∙ e
 
-      pub again : (s.once && get_or marks token false) ≡ true → measurements_in s (drop fixed_fields body) ≡ refused (fault_at at Refusal.Repeated)
+      pub again : (s.once && get_or marks token false) ≡ true → measurements_in s (drop fixed_fields body) ≡ Err (fault_at at Refusal.Repeated)
       again e = as_whole (repeated s at (handed_in (drop at body)) (between body start stop) l.stands w.before h.says (marked_by e))
 
       -- after it, past what is passed over
@@ -129,7 +129,7 @@ module _ {A : Type 0} {s : Sort A} {body : List ℕ} {index : ℕ} {marks : List
           ∙ sym (onward s at (handed_in (drop at body)) (between body start stop) l.stands w.before h.says (marked_by e)) ∙ w.same
 
       pub cut_after : (s.once && get_or marks token false) ≡ false → next.cut ≡ true
-          → measurements_in s (drop fixed_fields body) ≡ refused (fault_at next.at Refusal.ElementCut)
+          → measurements_in s (drop fixed_fields body) ≡ Err (fault_at next.at Refusal.ElementCut)
       cut_after e cut = sym (listed_after e) ∙ listed_cut s (w.before ++ (h.one ∷ [])) (passing_in (drop stop body)) stop cut
 
       pub further : (s.once && get_or marks token false) ≡ false → next.cut ≡ false
@@ -181,7 +181,7 @@ module _ {A : Type 0} {s : Sort A} {body : List ℕ} {index : ℕ} {marks : List
     unfolding handing
     none_left = ap handing (at_end body at (ltb-false at (length body) tests.1))
 
-    all_read : measurements_in s (drop fixed_fields body) ≡ accepted w.before
+    all_read : measurements_in s (drop fixed_fields body) ≡ Ok w.before
     unfolding listed
     all_read =
         as_whole
@@ -196,10 +196,10 @@ module _ {A : Type 0} {s : Sort A} {body : List ℕ} {index : ℕ} {marks : List
     found = final (subst (λ (x : Handed). Placed (place_in index body) x index count at place) none_left w.placed)
 
     pub read : (token : ℕ) → token < 256
-        → record { verdict = Verdict.Accepted; count = count; place = place; hit = get_or marks token false; plain = plain } ≡ surveyed s index token body
+        → record { verdict = Ok tt; count = count; place = place; hit = get_or marks token false; plain = plain } ≡ surveyed s index token body
     read token small = rw (all_read, all_clear_lem, w.counted, w.plainly, found, w.marked.at token small)
 
 -- a refusal, as it is handed out
 pub refused_as : {A : Type 0} (s : Sort A) (index token : ℕ) (body : List ℕ) {x : Surveyed} {r : Fault} → x ≡ not_surveyed r
-    → measurements_in s (drop fixed_fields body) ≡ refused r → x ≡ surveyed s index token body
+    → measurements_in s (drop fixed_fields body) ≡ Err r → x ≡ surveyed s index token body
 refused_as s index token body h e = h ∙ ap (surveyed_as s index token body) (sym e)

@@ -1,8 +1,8 @@
 -- Bodies of one or more measurement elements, written one element at a time (01, "Octets": 0, action, token, elements). What is
 -- there already is a body of the same action and token with nothing uninterpreted, no reserved bit set and no vendor's element, or nothing.
-use Rattle.std.specs.Prelude.{Bool, false, not, ◌&&◌, ◌||◌, List, [], ◌∷◌, ◌++◌, ℕ, ◌+◌, leb, eqb, length, drop}
+use Rattle.std.specs.Prelude.{Bool, false, not, ◌&&◌, ◌||◌, List, [], ◌∷◌, ◌++◌, ℕ, ◌+◌, leb, eqb, length, drop, Ok, Err}
 use Rattle.action.specs.Openings.{fixed_fields, forbids_token}
-use Rattle.answer.specs.Checks.{refused, accepted, pick}
+use Rattle.answer.specs.Checks.{pick}
 use Rattle.answer.specs.Faults.{Placed}
 use Rattle.octets.specs.Numbers.{octet}
 use Rattle.walk.specs.Handed.{handed_in}
@@ -32,8 +32,8 @@ module _ {A : Type 0} (s : Sort A) where
 
   -- whether a record may stand after those of a run
   abbrev pub joins : A → Placed (List A) → Bool
-  joins a (refused x) = false
-  joins a (accepted before) = all_interpreted s before && not (repeats s a before)
+  joins a (Err x) = false
+  joins a (Ok before) = all_interpreted s before && not (repeats s a before)
 
   module _ (token : ℕ) (a : A) (there : List ℕ) where
     -- the octets that are put after what is there: with nothing there, the body's first three too

@@ -1,9 +1,9 @@
 -- One or more elements of one ID, in a run (01, "Octets": actions 0 and 1 have one or more of 38 or 39). For each element: the one that
 -- has to be there (7, 6, 21), its length and value (8, 9), repeat (10). The place of an element's fault is its ID octet (02, One). Vendors' elements between and
 -- after them are passed over, and count neither as elements nor in the index (02, Four).
-use Rattle.std.specs.Prelude.{Bool, true, false, not, ◌&&◌, ◌||◌, List, [], ◌∷◌, ◌++◌, ℕ, zero, suc, ltb, eqb, length}
+use Rattle.std.specs.Prelude.{Bool, true, false, not, ◌&&◌, ◌||◌, List, [], ◌∷◌, ◌++◌, ℕ, zero, suc, ltb, eqb, length, Ok, Err}
 use Rattle.action.specs.Openings.{fixed_fields}
-use Rattle.answer.specs.Checks.{Outcome, refused, accepted, pick, ◌⇒◌, judged, and_then}
+use Rattle.answer.specs.Checks.{Outcome, pick, ◌⇒◌, judged, and_then}
 use Rattle.answer.specs.Faults.{Placed, placed_at}
 use Rattle.answer.specs.declared.Refusal.{Refusal}
 use Rattle.walk.specs.Elements.{past_element}
@@ -45,12 +45,12 @@ module _ {A : Type 0} (s : Sort A) where
 
   -- the records in the run, n octets before it, after those that came before: where there is none yet, one has to come
   unfoldable pub listed : ℕ → Handed → List A → Placed (List A)
-  listed n end before = pick (eqb (length before) 0) (and_then (placed_at n (next_in end before)) (λ a. accepted (a ∷ []))) (accepted before)
-  listed n cut_header before = and_then (placed_at n (next_in cut_header before)) (λ a. accepted (before ++ (a ∷ [])))
-  listed n (cut_contents id) before = and_then (placed_at n (next_in (cut_contents id) before)) (λ a. accepted (before ++ (a ∷ [])))
+  listed n end before = pick (eqb (length before) 0) (and_then (placed_at n (next_in end before)) (λ a. Ok (a ∷ []))) (Ok before)
+  listed n cut_header before = and_then (placed_at n (next_in cut_header before)) (λ a. Ok (before ++ (a ∷ [])))
+  listed n (cut_contents id) before = and_then (placed_at n (next_in (cut_contents id) before)) (λ a. Ok (before ++ (a ∷ [])))
   listed n (more id c hs) before = and_then (placed_at n (next_in (more id c hs) before)) (λ a. listed (past_element n c) hs (before ++ (a ∷ [])))
   listed n (passed c hs) before = listed (past_element n c) hs before
-  listed n cut_passed before = and_then (placed_at n (next_in cut_passed before)) (λ a. accepted (before ++ (a ∷ [])))
+  listed n cut_passed before = and_then (placed_at n (next_in cut_passed before)) (λ a. Ok (before ++ (a ∷ [])))
 
   -- the records in the run after a body's fixed fields
   unfoldable pub measurements_in : List ℕ → Placed (List A)
@@ -86,8 +86,8 @@ module _ {A : Type 0} (s : Sort A) where
 
 -- the record at an index from 0; 16 past the last
 unfoldable pub nth : {A : Type 0} → ℕ → List A → Outcome A
-nth i [] = refused Refusal.Impossible
-nth zero (a ∷ xs) = accepted a
+nth i [] = Err Refusal.Impossible
+nth zero (a ∷ xs) = Ok a
 nth (suc i) (a ∷ xs) = nth i xs
 
 -- each record's fields fit their types

@@ -1,11 +1,9 @@
 -- What one walk of a body finds out: how many elements there are, where the contents of the one at an index lie, whether one has a
 -- certain token, and whether the body is plain, with nothing uninterpreted, no reserved bit set and no vendor's element. A refusal leaves one fixed value.
-use Rattle.std.specs.Prelude.{false, ◌&&◌, List, ℕ, zero, suc, ◌+◌, length, drop}
+use Rattle.std.specs.Prelude.{false, ◌&&◌, List, ℕ, zero, suc, ◌+◌, length, drop, Ok, Err}
 use Rattle.action.specs.Openings.{fixed_fields}
-use Rattle.answer.specs.Checks.{refused, accepted}
 use Rattle.answer.specs.Faults.{Placed}
 use Rattle.answer.specs.declared.Fault.{Fault}
-use Rattle.answer.specs.declared.Verdict.{Verdict}
 use Rattle.walk.specs.Elements.{past_element}
 use Rattle.walk.specs.Handed.{Handed, end, cut_header, cut_contents, more, passed, cut_passed, handed_in}
 use Rattle.measurement_body.specs.Lists.{Sort, used, measurements_in, all_clear, all_interpreted}
@@ -27,14 +25,14 @@ abbrev pub place_in : ℕ → List ℕ → Place
 place_in i body = place_after fixed_fields i (handed_in (drop fixed_fields body))
 
 abbrev pub not_surveyed : Fault → Surveyed
-not_surveyed x = record { verdict = Verdict.Refused x; count = 0; place = Place.Absent; hit = false; plain = false }
+not_surveyed x = record { verdict = Err x; count = 0; place = Place.Absent; hit = false; plain = false }
 
 module _ {A : Type 0} (s : Sort A) (index token : ℕ) (body : List ℕ) where
   abbrev pub surveyed_as : Placed (List A) → Surveyed
-  surveyed_as (refused x) = not_surveyed x
-  surveyed_as (accepted xs) =
+  surveyed_as (Err x) = not_surveyed x
+  surveyed_as (Ok xs) =
       record {
-        verdict = Verdict.Accepted;
+        verdict = Ok tt;
         count = length xs;
         place = place_in index body;
         hit = used s token xs;

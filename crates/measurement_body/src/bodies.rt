@@ -10,7 +10,7 @@ ghost use Rattle.measurement_body.specs.Kinds.{sort_of};
 use crate::kinds::Kind;
 use crate::surveying;
 use action::FIXED_FIELDS;
-use octets::Wrote;
+use answer::Refusal;
 
 // How many octets a body may have: a frame has at most 2,336, and 24 of them are its header.
 const LONGEST_BODY: usize = 2312;
@@ -122,7 +122,7 @@ pub fn append(
     own: u8,
     may: bool,
     element: &[u8],
-) -> Wrote
+) -> Result<usize, Refusal>
     requires { length element.now ≤ longest_element }
     ensures { Written (may_follow (sort_of kind) token own (length element.now) may (take used buffer.old)) (following (sort_of kind) token (take used buffer.old) element.now) used buffer.old result buffer.new }
 {

@@ -6,7 +6,7 @@ ghost use Rattle.measurement_body.specs.Reports.{report_sort};
 ghost use Rattle.measurement_body.specs.Requests.{request_sort};
 
 use crate::kinds::Kind;
-use answer::{Answer, Refusal};
+use answer::Refusal;
 use measurement_element::{measurement_report, measurement_request};
 
 // A refusal (8, 9), or the element's token and whether it is plain: interpreted, and no reserved bit set.
@@ -21,8 +21,8 @@ fn judge_request(contents: &[u8]) -> Judged
     ensures { result ≡ judgement request_sort contents.now }
 {
     match measurement_request::read(contents) {
-        measurement_request::Reading::Refused(refusal) => Judged::Refused(refusal),
-        measurement_request::Reading::Is(request) => {
+        Err(refusal) => Judged::Refused(refusal),
+        Ok(request) => {
             let token = request.token;
             if !measurement_request::is_clear(contents) {
                 return Judged::Is {
@@ -46,8 +46,8 @@ fn judge_report(contents: &[u8]) -> Judged
     let answer = reading.answer;
     let report = reading.report;
     match answer {
-        Answer::Refused(refusal) => Judged::Refused(refusal),
-        Answer::Accepted => {
+        Err(refusal) => Judged::Refused(refusal),
+        Ok(()) => {
             let token = report.token;
             if !measurement_report::is_clear(contents) {
                 return Judged::Is {

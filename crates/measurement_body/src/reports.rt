@@ -8,10 +8,10 @@ use crate::bodies;
 use crate::kinds::Kind;
 use measurement_element::measurement_report;
 use measurement_element::measurement_report::Report;
-use octets::Wrote;
+use answer::Refusal;
 
 // Writes a report after the first `used` octets of the buffer; with none used it starts a body with this token.
-pub fn append(buffer: &mut [u8], used: usize, token: u8, report: Report) -> Wrote
+pub fn append(buffer: &mut [u8], used: usize, token: u8, report: Report) -> Result<usize, Refusal>
     ensures { Written (may_append report_sort token report (take used buffer.old)) (appended report_sort token report (take used buffer.old)) used buffer.old result buffer.new }
 {
     let kind = Kind::Reports;

@@ -8,10 +8,10 @@ use crate::bodies;
 use crate::kinds::Kind;
 use measurement_element::measurement_request;
 use measurement_element::measurement_request::Request;
-use octets::Wrote;
+use answer::Refusal;
 
 // Writes a request after the first `used` octets of the buffer; with none used it starts a body with this token.
-pub fn append(buffer: &mut [u8], used: usize, token: u8, request: Request) -> Wrote
+pub fn append(buffer: &mut [u8], used: usize, token: u8, request: Request) -> Result<usize, Refusal>
     ensures { Written (may_append request_sort token request (take used buffer.old)) (appended request_sort token request (take used buffer.old)) used buffer.old result buffer.new }
 {
     let kind = Kind::Requests;

@@ -9,7 +9,7 @@ ghost use Rattle.measurement_body.specs.declared.surveying.Place.{Place};
 use crate::judging;
 use crate::judging::Judged;
 use crate::kinds::Kind;
-use answer::{Fault, Refusal, Verdict};
+use answer::{Fault, Refusal};
 use walk::Required;
 
 // Where the contents of an element lie in the body.
@@ -22,7 +22,7 @@ pub enum Place {
 // What one walk finds out.
 #[derive(Clone, Copy)]
 pub struct Surveyed {
-    pub verdict: Verdict,
+    pub verdict: Result<(), Fault>,
     // how many elements there are
     pub count: usize,
     // the one at the index that was asked for
@@ -39,7 +39,7 @@ fn refused(refusal: Refusal, at: usize) -> Surveyed
 {
     let fault = Fault::at(refusal, at);
     Surveyed {
-        verdict: Verdict::Refused(fault),
+        verdict: Err(fault),
         count: 0,
         place: Place::Absent,
         hit: false,
@@ -115,7 +115,7 @@ pub fn survey(body: &[u8], kind: Kind, index: usize, token: u8) -> Surveyed
     let mark = token as usize;
     let hit = marks[mark];
     Surveyed {
-        verdict: Verdict::Accepted,
+        verdict: Ok(()),
         count,
         place,
         hit,

@@ -1,4 +1,5 @@
 -- Demand 2 for Measurement Report. Assumes nothing.
+use Rattle.std.specs.Prelude.{Ok}
 use mathlib.Core.Path.{◌≡◌, refl, sym, ap, ap₂, subst, ◌∙◌}
 use mathlib.Core.Bool.{Bool, true, false, not, ◌&&◌, ◌||◌, and-false}
 use mathlib.Core.List.{List, [], ◌∷◌, ◌++◌}
@@ -7,7 +8,7 @@ use native.Mathlib.Omega.{arith}
 use borrow.Author.Tests.{le-ltb, lt-ltb, ltb-true, ltb-false, eq-eqb, eqb-true, eqb-false, not-true, not-false}
 use lib.Dec.{eqb, ltb}
 use lib.ListN.{length, replicate}
-use Rattle.answer.specs.Checks.{accepted, pick}
+use Rattle.answer.specs.Checks.{pick}
 use Rattle.octets.specs.Sums.{sum_of}
 use Rattle.answer.proofs.Booleans.{clash, both, and_go}
 use Rattle.answer.proofs.Judged.{passed, kept, past, done}
@@ -35,7 +36,7 @@ record Opened (c : List ℕ) (r : Report) : Type 0 where
   fitting : report_misfits (report_in c).matter (length c) ≡ false
   allowed : report_forbids (report_in c).matter ≡ false
 
-opened : (c : List ℕ) (r : Report) → report_means c ≡ accepted r → Opened c r
+opened : (c : List ℕ) (r : Report) → report_means c ≡ Ok r → Opened c r
 unfolding report_means
 opened c r e =
     let p = passed _ _ _ e in
@@ -45,7 +46,7 @@ opened c r e =
     record { same = kept _ u.1; single = ltb-false 1 _ q.0; fitting = s.0; allowed = u.0 }
 
 accepts : (c : List ℕ) (r : Report) → 3 ≤ length c → report_flags (octet 1 c) ≤ 1 → report_in c ≡ r
-    → report_misfits r.matter (length c) ≡ false → report_forbids r.matter ≡ false → report_means c ≡ accepted r
+    → report_misfits r.matter (length c) ≡ false → report_forbids r.matter ≡ false → report_means c ≡ Ok r
 unfolding report_means
 accepts c r l o e m f =
     sym
@@ -53,7 +54,7 @@ accepts c r l o e m f =
     (past _ _ _ (le-ltb 1 _ o)
     (past _ _ _ (ap (λ (x : Report). report_misfits x.matter (length c)) e ∙ m)
     (past _ _ _ (ap (λ (x : Report). report_forbids x.matter) e ∙ f) (done _)))))
-    ∙ ap accepted e
+    ∙ ap Ok e
 
 -- ---- a matter's own mode and size
 
@@ -114,7 +115,7 @@ module _ (t k : ℕ) (ds : List ℕ) (eight : length ds ≡ 8) where
   matter_there Matter.Uninterpreted f a = clash (sym a)
 
   there_made : (m : Matter) → ReportMatterFits m → report_may (made t k ds m) ≡ true
-      → report_means (report_contents (made t k ds m)) ≡ accepted (made t k ds m)
+      → report_means (report_contents (made t k ds m)) ≡ Ok (made t k ds m)
   unfolding report_may
   there_made m f w =
       let c = report_contents (made t k ds m) in
@@ -124,7 +125,7 @@ module _ (t k : ℕ) (ds : List ℕ) (eight : length ds ≡ 8) where
       ap (λ x. report_of t k x c) (matter_there m f q.1) ∙ ap (λ d. made t k d m) (densities_there m p.1) in
       accepts c (made t k ds m) (omega (arith, sized m, within m)) (own_mode m) same (ap (report_misfits m) (sized m) ∙ own_size m) (not-true (report_forbids m) q.0)
 
-there : (r : Report) → ReportFits r → report_may r ≡ true → report_means (report_contents r) ≡ accepted r
+there : (r : Report) → ReportFits r → report_may r ≡ true → report_means (report_contents r) ≡ Ok r
 there r f w = there_made r.token r.kind r.densities f.1 r.matter f.0 w
 
 -- ---- back: by which tests each matter came about, and what follows from them
@@ -233,7 +234,7 @@ module _ (c : List ℕ) where
   octets_back (measured u h) o e k i = found_back (eqb kind 0) (eqb kind 1) o e k
   octets_back other o e k i = clash (sym i)
 
-  module _ (r : Report) (e : report_means c ≡ accepted r) where
+  module _ (r : Report) (e : report_means c ≡ Ok r) where
     fits : Octets c → ReportFits r
     fits o = subst ReportFits (opened c r e).same (fits_back came o, eight_back (report_in c).matter)
 

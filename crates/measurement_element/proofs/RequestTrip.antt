@@ -1,4 +1,5 @@
 -- Demand 2 for Measurement Request. Assumes nothing.
+use Rattle.std.specs.Prelude.{Ok}
 use mathlib.Core.Path.{◌≡◌, refl, sym, ap, ap₂, subst, ◌∙◌}
 use mathlib.Core.Bool.{Bool, true, false, not, ◌&&◌, ◌||◌}
 use mathlib.Core.List.{List, [], ◌∷◌, ◌++◌, append-nil}
@@ -7,7 +8,7 @@ use native.Mathlib.Omega.{arith}
 use borrow.Author.Tests.{eqb-true, ltb-true, not-true, not-false}
 use lib.Dec.{eqb, leb, ltb}
 use lib.ListN.{length}
-use Rattle.answer.specs.Checks.{accepted, pick}
+use Rattle.answer.specs.Checks.{pick}
 use Rattle.answer.proofs.Booleans.{clash, both}
 use Rattle.answer.proofs.Judged.{passed, kept, past, done}
 use Rattle.octets.specs.Numbers.{Octets, octet, bit}
@@ -28,7 +29,7 @@ record Opened (c : List ℕ) (r : Request) : Type 0 where
   fitting : request_misfits r.matter (length c) ≡ false
   allowed : request_forbids r ≡ false
 
-opened : (c : List ℕ) (r : Request) → request_means c ≡ accepted r → Opened c r
+opened : (c : List ℕ) (r : Request) → request_means c ≡ Ok r → Opened c r
 unfolding request_means
 opened c r e =
     let p = passed _ _ _ e in
@@ -44,14 +45,14 @@ opened c r e =
 -- ---- there
 
 accepts : (c : List ℕ) (r : Request) → ltb (length c) 3 ≡ false → request_in c ≡ r → request_misfits r.matter (length c) ≡ false → request_forbids r ≡ false
-    → request_means c ≡ accepted r
+    → request_means c ≡ Ok r
 unfolding request_means
 accepts c r l e m f =
     sym
     (past _ _ _ l
     (past _ _ _ (ap (λ (x : Request). request_misfits x.matter (length c)) e ∙ m)
     (past _ _ _ (ap request_forbids e ∙ f) (done _))))
-    ∙ ap accepted e
+    ∙ ap Ok e
 
 enable_same : (q p u : Bool) (t k : ℕ) → leb k 2 ≡ u → (u || not (q || p)) ≡ true → request_in (request_contents (made t k (Matter.Enable q p))) ≡ made t k (Matter.Enable q p)
 enable_same true true true t k h w = ap (λ (b : Bool). made t k (Matter.Enable (b && true) (b && true))) h
@@ -71,7 +72,7 @@ measure_same s t k f h =
     (ap (λ (os : List ℕ). span_in ((t ∷ 0 ∷ k ∷ []) ++ os)) (sym (append-nil (span_octets s))) ∙ span_there t 0 k s [] f)
 
 there_matter : (m : Matter) (t k : ℕ) → RequestMatterFits m → (request_forbids (made t k m) ≡ false) × (request_agrees m k ≡ true)
-    → request_means (request_contents (made t k m)) ≡ accepted (made t k m)
+    → request_means (request_contents (made t k m)) ≡ Ok (made t k m)
 there_matter (Matter.Enable q p) t k f w = accepts _ _ refl (enable_same q p (leb k 2) t k refl w.1) refl w.0
 there_matter (Matter.Measure s) t k f w = accepts _ _ refl (measure_same s t k f w.1) refl w.0
 there_matter Matter.Uninterpreted t k f w = clash (sym w.1)
@@ -87,7 +88,7 @@ says_may : (r : Request) → request_forbids r ≡ false → request_agrees r.ma
 unfolding request_may
 says_may r f g = simp (f, g)
 
-there : (r : Request) → RequestFits r → request_may r ≡ true → request_means (request_contents r) ≡ accepted r
+there : (r : Request) → RequestFits r → request_may r ≡ true → request_means (request_contents r) ≡ Ok r
 there r f w = there_matter r.matter r.token r.kind f (may_says r w)
 
 -- ---- back
@@ -153,7 +154,7 @@ back_by c r o x i k false true p q =
     subst (Back c) e (q, measure_back c o p k (eqb-true (length c) 14 (not-false (eqb (length c) 14) l)))
 back_by c r o x i k false false p q = clash (sym (ap request_interpreted (read_by c r false false x.same p q) ∙ i))
 
-back : (c : List ℕ) (r : Request) → Octets c → request_means c ≡ accepted r → request_interpreted r ≡ true → request_clear c ≡ true
+back : (c : List ℕ) (r : Request) → Octets c → request_means c ≡ Ok r → request_interpreted r ≡ true → request_clear c ≡ true
     → (request_may r ≡ true) × (request_contents r ≡ c)
 unfolding Back
 back c r o e i k =
@@ -184,7 +185,7 @@ agrees_by (Matter.Measure s) t k false h e i =
     clash (sym (ap request_interpreted (read_by c (made t k (Matter.Measure s)) false false e refl h)))
 agrees_by Matter.Uninterpreted t k u h e i = clash (sym i)
 
-exact : (r : Request) → RequestFits r → request_means (request_contents r) ≡ accepted r → request_interpreted r ≡ true → request_may r ≡ true
+exact : (r : Request) → RequestFits r → request_means (request_contents r) ≡ Ok r → request_interpreted r ≡ true → request_may r ≡ true
 exact r f e i =
     let x = opened (request_contents r) r e in
     says_may r x.allowed (agrees_by r.matter r.token r.kind (leb r.kind 2) refl x.same i)

@@ -1,9 +1,8 @@
 -- Element 39, Measurement Report (01, "Octets"; 7.3.2.22): token, mode, type. Mode bits 0 Late, 1 Incapable, 2 Refused; more than
 -- one, at length 3 or more: 9; exactly one: length 3. With none, types 0 and 1 have length 15 and type 2 has 22: channel, start
 -- (8), duration (2), then what was found; other types have 3 or more.
-use Rattle.std.specs.Prelude.{Bool, true, false, not, ◌&&◌, ◌||◌, List, [], ◌∷◌, ◌++◌, ◌≡◌, ℕ, ◌+◌, ◌/◌, ◌%◌, length, replicate, ltb, eqb}
-use Rattle.answer.specs.Checks.{Outcome, refused, accepted, pick, ◌⇒◌, judged}
-use Rattle.answer.specs.declared.Answer.{Answer}
+use Rattle.std.specs.Prelude.{Bool, true, false, not, ◌&&◌, ◌||◌, List, [], ◌∷◌, ◌++◌, ◌≡◌, ℕ, ◌+◌, ◌/◌, ◌%◌, length, replicate, ltb, eqb, Ok, Err}
+use Rattle.answer.specs.Checks.{Outcome, pick, ◌⇒◌, judged}
 use Rattle.answer.specs.declared.Refusal.{Refusal}
 use Rattle.octets.specs.Elements.{element}
 use Rattle.octets.specs.Numbers.{octet, octets_from, bit}
@@ -89,8 +88,8 @@ no_report = record { token = 0; kind = 0; matter = Matter.Uninterpreted; densiti
 
 -- the answer with its report beside it
 abbrev pub report_laid : Outcome Report → Reading
-report_laid (refused r) = record { answer = Answer.Refused r; report = no_report }
-report_laid (accepted p) = record { answer = Answer.Accepted; report = p }
+report_laid (Err r) = record { answer = Err r; report = no_report }
+report_laid (Ok p) = record { answer = Ok tt; report = p }
 
 -- ---- written
 

@@ -1,19 +1,13 @@
 -- Element 38, Measurement Request (01, "Octets"; 7.3.2.21): token, mode, type. Mode bit 1 is Enable; with it the length is 3 and
 -- bits 2 and 3 are Request and Report. Without it types 0 basic, 1 CCA and 2 RPI have length 14, and others 3 or more.
-use Rattle.std.specs.Prelude.{Bool, true, false, not, ◌&&◌, ◌||◌, List, [], ◌∷◌, ◌++◌, ℕ, ◌+◌, ◌%◌, length, ltb, leb, eqb}
-use Rattle.answer.specs.Checks.{Outcome, refused, accepted, pick, ◌⇒◌, judged}
+use Rattle.std.specs.Prelude.{Bool, true, false, not, ◌&&◌, ◌||◌, List, [], ◌∷◌, ◌++◌, ℕ, ◌+◌, ◌%◌, length, ltb, leb, eqb, Ok, Err}
+use Rattle.answer.specs.Checks.{Outcome, pick, ◌⇒◌, judged}
 use Rattle.answer.specs.declared.Refusal.{Refusal}
 use Rattle.octets.specs.Numbers.{octet, bit}
 use Rattle.octets.specs.Elements.{element}
 use Rattle.measurement_element.specs.Span.{span_in, span_octets, span_forbids, SpanFits}
 use Rattle.measurement_element.specs.declared.measurement_request.Matter.{Matter}
-use Rattle.measurement_element.specs.declared.measurement_request.Reading.{Reading}
 use Rattle.measurement_element.specs.declared.measurement_request.Request.{Request}
-
--- the outcome that each case of the answer stands for
-abbrev pub request_told : Reading → Outcome Request
-request_told (Reading.Refused r) = refused r
-request_told (Reading.Is q) = accepted q
 
 -- the Request and Report bits are invalid with a reserved type, which is one over 2: such a bit is set to 0 (7.3.2.21), and one that is set counts as reserved
 abbrev pub valid_with : ℕ → Bool → Bool

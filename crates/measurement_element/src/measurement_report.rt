@@ -7,8 +7,7 @@ ghost use Rattle.measurement_element.specs.MeasurementReport.{report_flags, repo
 use crate::found::Found;
 use crate::span::Span;
 use crate::{found, span};
-use answer::{Answer, Refusal};
-use octets::Wrote;
+use answer::Refusal;
 
 pub const ID: u8 = 39;
 
@@ -40,7 +39,7 @@ pub struct Report {
 // A refusal leaves the report blank.
 #[derive(Clone, Copy)]
 pub struct Reading {
-    pub answer: Answer,
+    pub answer: Result<(), Refusal>,
     pub report: Report,
 }
 
@@ -184,7 +183,7 @@ pub fn refused(refusal: Refusal) -> Reading
         matter: Matter::Uninterpreted,
         densities,
     };
-    let answer = Answer::Refused(refusal);
+    let answer = Err(refusal);
     Reading { answer, report }
 }
 
@@ -209,7 +208,7 @@ pub fn read(contents: &[u8]) -> Reading
         return refused(Refusal::ForbiddenValue);
     }
     Reading {
-        answer: Answer::Accepted,
+        answer: Ok(()),
         report,
     }
 }
@@ -378,7 +377,7 @@ pub fn octet_count(report: Report) -> usize
     2 + (size_of(matter) as usize)
 }
 
-pub fn write(report: Report, buffer: &mut [u8], at: usize) -> Wrote
+pub fn write(report: Report, buffer: &mut [u8], at: usize) -> Result<usize, Refusal>
     ensures { Written (report_may report) (report_octets report) at buffer.old result buffer.new }
 {
     let matter = report.matter;

@@ -2,12 +2,11 @@
 ghost use Rattle.std.specs.Prelude.{◌≡◌, ◌≤◌, length, take};
 ghost use Rattle.octets.specs.Writing.{Written};
 ghost use Rattle.measurement_element.specs.CodeTerms.Built.{request_span, request_built};
-ghost use Rattle.measurement_element.specs.MeasurementRequest.{request_told, request_matter_in, request_in, request_misfits, request_forbids, request_means, request_mode, request_size, request_agrees, request_may, request_octets, request_interpreted, request_clear};
+ghost use Rattle.measurement_element.specs.MeasurementRequest.{request_matter_in, request_in, request_misfits, request_forbids, request_means, request_mode, request_size, request_agrees, request_may, request_octets, request_interpreted, request_clear};
 
 use crate::span;
 use crate::span::Span;
 use answer::Refusal;
-use octets::Wrote;
 
 pub const ID: u8 = 38;
 
@@ -24,12 +23,6 @@ pub struct Request {
     pub token: u8,
     pub kind: u8,
     pub matter: Matter,
-}
-
-#[derive(Clone, Copy)]
-pub enum Reading {
-    Refused(Refusal),
-    Is(Request),
 }
 
 // Mode bit 1 is Enable, and bits 2 and 3 are Request and Report beside it, which are invalid with a reserved type.
@@ -100,21 +93,21 @@ fn is_forbidden(request: Request) -> bool
     }
 }
 
-pub fn read(contents: &[u8]) -> Reading
-    ensures { request_told result ≡ request_means contents.now }
+pub fn read(contents: &[u8]) -> Result<Request, Refusal>
+    ensures { result ≡ request_means contents.now }
 {
     if contents.len() < 3 {
-        return Reading::Refused(Refusal::WrongLength);
+        return Err(Refusal::WrongLength);
     }
     let request = request_in(contents);
     let matter = request.matter;
     if is_misfit(matter, contents.len()) {
-        return Reading::Refused(Refusal::WrongLength);
+        return Err(Refusal::WrongLength);
     }
     if is_forbidden(request) {
-        return Reading::Refused(Refusal::ForbiddenValue);
+        return Err(Refusal::ForbiddenValue);
     }
-    Reading::Is(request)
+    Ok(request)
 }
 
 // Whether no reserved bit is set: with Enable all bits of the mode but 1 to 3 are reserved, and 2 and 3 too with a reserved type; without it all but bit 1.
@@ -271,7 +264,7 @@ pub fn octet_count(request: Request) -> usize
     2 + (size_of(matter) as usize)
 }
 
-pub fn write(request: Request, buffer: &mut [u8], at: usize) -> Wrote
+pub fn write(request: Request, buffer: &mut [u8], at: usize) -> Result<usize, Refusal>
     ensures { Written (request_may request) (request_octets request) at buffer.old result buffer.new }
 {
     let matter = request.matter;

@@ -1,4 +1,5 @@
 -- From what `frame::read_in_ibss` hands out to what the frame means to a station of an IBSS. Assumes nothing.
+use Rattle.std.specs.Prelude.{Ok, Err}
 use mathlib.Core.Bool.{Bool, true, false, not, ◌&&◌}
 use mathlib.Core.List.{List}
 use mathlib.Core.Logic.{◌⊎◌, inl, inr}
@@ -7,10 +8,9 @@ use Prim.Native.Nat.{ℕ, ◌≤◌}
 use native.Mathlib.Omega.{arith}
 use Rattle.answer.proofs.Booleans.{clash}
 use Rattle.answer.proofs.Judged.{never}
-use Rattle.answer.specs.Checks.{refused, accepted, pick, checked, and_then}
-use Rattle.answer.specs.Faults.{Placed, fault_nowhere}
+use Rattle.answer.specs.Checks.{pick, checked, and_then}
+use Rattle.answer.specs.Faults.{Placed, fault_nowhere, Verdict}
 use Rattle.answer.specs.declared.Refusal.{Refusal}
-use Rattle.answer.specs.declared.Verdict.{Verdict}
 use Rattle.beacon.specs.Beacons.{Told}
 use Rattle.beacon.specs.IbssBeacons.{MaybeDfs, absent, is, has_dfs}
 use Rattle.beacon.specs.Laid.{dfs_fields}
@@ -26,7 +26,6 @@ use Rattle.frame.specs.Frames.{Kind, beacon, probe_response, action, Sent}
 use Rattle.frame.specs.IbssFrames.{SentInIbss, ibss_frame_means}
 use Rattle.frame.specs.IbssLaid.{ibss_laid}
 use Rattle.frame.specs.Laid.{frame_of}
-use Rattle.frame.specs.declared.Reading.{Reading}
 use Rattle.frame.specs.declared.ibss.ReceivedInIbss.{ReceivedInIbss}
 use Rattle.owner.proofs.KeptFit.{named_fits, heard_fits}
 use Rattle.owner.specs.Owners.{is_owner, named, heard_from, OwnerFits}
@@ -42,7 +41,7 @@ use Rattle.member.specs.declared.taking.Taken.{Taken}
 
 -- ---- what was read of each kind
 
-announces_as : (k : Kind) → announces (Reading.Is (frame_of k)) ≡ has_switch (announcement_in k)
+announces_as : (k : Kind) → announces (Ok (frame_of k)) ≡ has_switch (announcement_in k)
 announces_as (beacon t) = refl
 announces_as (probe_response t) = refl
 announces_as (action (requests token rs)) = refl
@@ -51,7 +50,7 @@ announces_as (action (tpc_request token)) = refl
 announces_as (action (tpc_report token t)) = refl
 announces_as (action (switch w)) = refl
 
-heard_as : (o : Owner) (a : List ℕ) (k : Kind) → pick (is_beacon (Reading.Is (frame_of k))) (heard_from o a) o ≡ heard_by o a k
+heard_as : (o : Owner) (a : List ℕ) (k : Kind) → pick (is_beacon (Ok (frame_of k))) (heard_from o a) o ≡ heard_by o a k
 heard_as o a (beacon t) = refl
 heard_as o a (probe_response t) = refl
 heard_as o a (action (requests token rs)) = refl
@@ -60,7 +59,7 @@ heard_as o a (action (tpc_request token)) = refl
 heard_as o a (action (tpc_report token t)) = refl
 heard_as o a (action (switch w)) = refl
 
-is_sent : {x y : Sent} → ◌≡◌ {A = Placed Sent} (accepted x) (accepted y) → x ≡ y
+is_sent : {x y : Sent} → ◌≡◌ {A = Placed Sent} (Ok x) (Ok y) → x ≡ y
 is_sent e = cc
 
 same_recovery : {d d' : Dfs} → is d ≡ is d' → d.recovery ≡ d'.recovery
@@ -83,18 +82,18 @@ module _ (m : Member) where
   named_as (is d) = refl
 
   module _ (x : SentInIbss) where
-    foreign_as : foreign_in (ibss_laid (accepted x)) ≡ foreign_announcement (named_by m.owner x.dfs) x
+    foreign_as : foreign_in (ibss_laid (Ok x)) ≡ foreign_announcement (named_by m.owner x.dfs) x
     foreign_as = ap₂ (λ (t : Bool) (o : Owner). t && not (is_owner o x.sender)) (announces_as x.sent.kind) (named_as x.dfs)
 
-    owner_as_lem : owner_after (ibss_laid (accepted x)) ≡ heard_by (named_by m.owner x.dfs) x.sender x.sent.kind
+    owner_as_lem : owner_after (ibss_laid (Ok x)) ≡ heard_by (named_by m.owner x.dfs) x.sender x.sent.kind
     owner_as_lem =
-        ap (λ (o : Owner). pick (is_beacon (Reading.Is (frame_of x.sent.kind))) (heard_from o x.sender) o) (named_as x.dfs)
+        ap (λ (o : Owner). pick (is_beacon (Ok (frame_of x.sent.kind))) (heard_from o x.sender) o) (named_as x.dfs)
         ∙ heard_as (named_by m.owner x.dfs) x.sender x.sent.kind
 
     by_test_lem : (foreign : Bool) → foreign_announcement (named_by m.owner x.dfs) x ≡ foreign
-        → taken m (and_then (accepted x) (follows m))
-        ≡ pick foreign (taken_as (Verdict.Refused (fault_nowhere Refusal.ForeignAnnouncement)) m)
-        (taken_as Verdict.Accepted (member_of (heard m.station x.sent.kind) (heard_by (named_by m.owner x.dfs) x.sender x.sent.kind)))
+        → taken m (and_then (Ok x) (follows m))
+        ≡ pick foreign (taken_as (Err (fault_nowhere Refusal.ForeignAnnouncement)) m)
+        (taken_as (Ok tt) (member_of (heard m.station x.sent.kind) (heard_by (named_by m.owner x.dfs) x.sender x.sent.kind)))
     unfolding checked
     by_test_lem true e = simp e
     by_test_lem false e = simp e
@@ -102,37 +101,37 @@ module _ (m : Member) where
   -- ---- 23
 
   pub refused_as : (o : Placed SentInIbss) → foreign_in (ibss_laid o) ≡ true
-      → taken_as (Verdict.Refused (fault_nowhere Refusal.ForeignAnnouncement)) m ≡ taken m (and_then o (follows m))
-  refused_as (refused q) e = clash (sym e)
-  refused_as (accepted x) e = sym (by_test_lem x true (sym (foreign_as x) ∙ e))
+      → taken_as (Err (fault_nowhere Refusal.ForeignAnnouncement)) m ≡ taken m (and_then o (follows m))
+  refused_as (Err q) e = clash (sym e)
+  refused_as (Ok x) e = sym (by_test_lem x true (sym (foreign_as x) ∙ e))
 
   -- ---- any other frame
 
   pub taken_as_lem : (o : Placed SentInIbss) → foreign_in (ibss_laid o) ≡ false
       → let t = heard_of m.station (ibss_laid o).received in
       taken_as t.verdict (member_of t.station (owner_after (ibss_laid o))) ≡ taken m (and_then o (follows m))
-  taken_as_lem (refused q) e =
-      ap (λ (y : Placed Station). let t = StationTaking.taken m.station y in taken_as t.verdict (member_of t.station m.owner)) (laid_means m.station (refused q))
-  taken_as_lem (accepted x) e =
+  taken_as_lem (Err q) e =
+      ap (λ (y : Placed Station). let t = StationTaking.taken m.station y in taken_as t.verdict (member_of t.station m.owner)) (laid_means m.station (Err q))
+  taken_as_lem (Ok x) e =
       ap₂ (λ (y : Placed Station) (o : Owner). let t = StationTaking.taken m.station y in taken_as t.verdict (member_of t.station o))
-      (laid_means m.station (accepted x.sent)) (owner_as_lem x)
+      (laid_means m.station (Ok x.sent)) (owner_as_lem x)
       ∙ sym (by_test_lem x false (sym (foreign_as x) ∙ e))
 
   -- ---- the owner still fits
 
-  pub owner_fits_after : OwnerFits m.owner → (o : Placed SentInIbss) → ((x : SentInIbss) → o ≡ accepted x → (d : Dfs) → x.dfs ≡ is d → 1 ≤ d.recovery)
+  pub owner_fits_after : OwnerFits m.owner → (o : Placed SentInIbss) → ((x : SentInIbss) → o ≡ Ok x → (d : Dfs) → x.dfs ≡ is d → 1 ≤ d.recovery)
       → OwnerFits (owner_after (ibss_laid o))
-  owner_fits_after fits (refused q) some = fits
-  owner_fits_after fits (accepted x) some =
-      by (is_beacon (Reading.Is (frame_of x.sent.kind))) (by_dfs x.dfs refl)
+  owner_fits_after fits (Err q) some = fits
+  owner_fits_after fits (Ok x) some =
+      by (is_beacon (Ok (frame_of x.sent.kind))) (by_dfs x.dfs refl)
     where
       by_dfs : (d : MaybeDfs) → x.dfs ≡ d → OwnerFits (pick (has_dfs d) (named m.owner (dfs_fields d).owner (dfs_fields d).recovery) m.owner)
       by_dfs absent e = fits
       by_dfs (is d) e = named_fits m.owner d.owner d.recovery fits (some x refl d e)
 
-      by : (is-beacon : Bool) → OwnerFits (owner_named m.owner (ibss_laid (accepted x)))
-          → OwnerFits (pick is-beacon (heard_from (owner_named m.owner (ibss_laid (accepted x))) x.sender) (owner_named m.owner (ibss_laid (accepted x))))
-      by true f = heard_fits (owner_named m.owner (ibss_laid (accepted x))) x.sender f
+      by : (is-beacon : Bool) → OwnerFits (owner_named m.owner (ibss_laid (Ok x)))
+          → OwnerFits (pick is-beacon (heard_from (owner_named m.owner (ibss_laid (Ok x))) x.sender) (owner_named m.owner (ibss_laid (Ok x))))
+      by true f = heard_fits (owner_named m.owner (ibss_laid (Ok x))) x.sender f
       by false f = f
 
 -- ---- what the reader hands out is allowed
@@ -142,10 +141,10 @@ module _ (own bss : List ℕ) (b : ℕ) (f : List ℕ) where
   laid_allowed = by (ibss_frame_means own bss b f) refl
     where
       by : (o : Placed SentInIbss) → ibss_frame_means own bss b f ≡ o → ReceivedAllowed b (ibss_laid o).received
-      by (refused q) e = received_allowed b (refused q) (λ x g. absurd (never g))
-      by (accepted x) e = received_allowed b (accepted x.sent) (λ y g. subst (λ (z : Sent). KindAllowed b z.kind) (is_sent g) (ibss_allowed own bss b f x e))
+      by (Err q) e = received_allowed b (Err q) (λ x g. absurd (never g))
+      by (Ok x) e = received_allowed b (Ok x.sent) (λ y g. subst (λ (z : Sent). KindAllowed b z.kind) (is_sent g) (ibss_allowed own bss b f x e))
 
-  pub named_recovery : (x : SentInIbss) → ibss_frame_means own bss b f ≡ accepted x → (d : Dfs) → x.dfs ≡ is d → 1 ≤ d.recovery
+  pub named_recovery : (x : SentInIbss) → ibss_frame_means own bss b f ≡ Ok x → (d : Dfs) → x.dfs ≡ is d → 1 ≤ d.recovery
   named_recovery x e d y = by (sent_names own bss b f x e)
     where
       by : (x.dfs ≡ absent) ⊎ ((told : Told) × (d' : Dfs) × (x.sent.kind ≡ beacon told) × (x.dfs ≡ is d') × (1 ≤ d'.recovery)) → 1 ≤ d.recovery

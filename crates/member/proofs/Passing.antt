@@ -1,47 +1,47 @@
 -- What an advance of the station makes of a station of an IBSS: the TBTTs that pass are those among the units that the clock goes on by. Assumes nothing.
+use Rattle.std.specs.Prelude.{Ok, Err, Some, None, Option}
 use mathlib.Core.Bool.{Bool, true, false, ◌||◌}
 use mathlib.Core.Path.{◌≡◌, refl, sym, ap, ◌∙◌, subst}
 use Prim.Native.Nat.{ℕ, ◌+◌, ◌-◌, ◌/◌, ◌≤◌}
 use native.Mathlib.Omega.{arith}
 use lib.Dec.{ltb}
 use Rattle.answer.proofs.Judged.{never}
-use Rattle.answer.specs.Checks.{Outcome, refused, accepted, pick, and_then}
+use Rattle.answer.specs.Checks.{Outcome, pick, and_then}
 use Rattle.owner.proofs.CountingUnits.{tbtts_between}
 use Rattle.owner.specs.Owners.{past_tbtts}
 use Rattle.owner.specs.Tbtts.{tbtts_in}
 use Rattle.owner.specs.declared.Owner.{Owner}
-use Rattle.pending.specs.declared.Pending.{Pending}
 use Rattle.station.specs.Clock as Clock
 use Rattle.station.specs.Clock.{reached, clock_advance, advanced_to, advance_means}
 use Rattle.station.specs.Stations.{clock_limit, unit_limit}
-use Rattle.answer.specs.declared.Answer.{Answer}
 use Rattle.station.specs.declared.Station.{Station}
 use Rattle.station.specs.declared.clock.Advanced.{Advanced}
 use Rattle.station.specs.declared.clock.Stepped as ClockStepped
 use Rattle.member.specs.Members.{member_of, stepped, owner_past, member_advances, advance_of}
 use Rattle.member.specs.declared.Member.{Member}
 use Rattle.member.specs.declared.clock.Stepped.{Stepped}
+use Rattle.pending.specs.declared.Switch.{Switch}
 
 -- ---- where the clock stands after an advance
 
 module _ (s : Station) (n : ℕ) where
-  is_station : {x y : Station} → ◌≡◌ {A = Outcome Station} (accepted x) (accepted y) → x ≡ y
+  is_station : {x y : Station} → ◌≡◌ {A = Outcome Station} (Ok x) (Ok y) → x ≡ y
   is_station e = cc
 
-  clock_advanced : (next : Station) → advance_means s n ≡ accepted next → next.clock ≡ s.clock + n
+  clock_advanced : (next : Station) → advance_means s n ≡ Ok next → next.clock ≡ s.clock + n
   unfolding advance_means clock_advance
   clock_advanced next e = by_test_lem (ltb unit_limit n || ltb clock_limit (s.clock + n)) e
     where
-      by_switch : (coming : Bool) (channel : ℕ) → advanced_to s (pick coming (Advanced.Goes (s.clock + n)) (Advanced.Switches (s.clock + n) channel)) ≡ accepted next
+      by_switch : (coming : Bool) (channel : ℕ) → advanced_to s (pick coming (Advanced.Goes (s.clock + n)) (Advanced.Switches (s.clock + n) channel)) ≡ Ok next
           → next.clock ≡ s.clock + n
       by_switch true channel f = ap (λ (x : Station). x.clock) (sym (is_station f))
       by_switch false channel f = ap (λ (x : Station). x.clock) (sym (is_station f))
 
-      by_pending : (p : Pending) → advanced_to s (reached (s.clock + n) p) ≡ accepted next → next.clock ≡ s.clock + n
-      by_pending Pending.Nothing f = ap (λ (x : Station). x.clock) (sym (is_station f))
-      by_pending (Pending.Switch q) f = by_switch (ltb (s.clock + n) q.at) q.channel f
+      by_pending : (p : Option Switch) → advanced_to s (reached (s.clock + n) p) ≡ Ok next → next.clock ≡ s.clock + n
+      by_pending None f = ap (λ (x : Station). x.clock) (sym (is_station f))
+      by_pending (Some q) f = by_switch (ltb (s.clock + n) q.at) q.channel f
 
-      by_test_lem : (far : Bool) → advanced_to s (pick far Advanced.Refused (reached (s.clock + n) s.pending)) ≡ accepted next → next.clock ≡ s.clock + n
+      by_test_lem : (far : Bool) → advanced_to s (pick far Advanced.Refused (reached (s.clock + n) s.pending)) ≡ Ok next → next.clock ≡ s.clock + n
       by_test_lem true f = absurd (never f)
       by_test_lem false f = by_pending s.pending f
 
@@ -59,8 +59,8 @@ module _ (m : Member) (n : ℕ) (pos : 1 ≤ m.station.interval) where
   b = m.station.interval
 
   no_less : (o : Outcome Station) → advance_means s n ≡ o → s.clock ≤ (Clock.stepped s o).station.clock
-  no_less (refused r) e = omega arith
-  no_less (accepted next) e = omega (arith, clock_advanced s n next e)
+  no_less (Err r) e = omega arith
+  no_less (Ok next) e = omega (arith, clock_advanced s n next e)
 
   pub clock_on : (x : ClockStepped.Stepped) → x ≡ Clock.advance_of s n → s.clock ≤ x.station.clock
   clock_on x e = subst (λ (y : ClockStepped.Stepped). s.clock ≤ y.station.clock) (sym e) (no_less (advance_means s n) refl)
@@ -69,12 +69,12 @@ module _ (m : Member) (n : ℕ) (pos : 1 ≤ m.station.interval) where
   stepped_by x = record { answer = x.answer; member = member_of x.station (past_tbtts (x.station.clock / b - s.clock / b) m.owner) }
 
   by_outcome : (o : Outcome Station) → advance_means s n ≡ o
-      → stepped_by (Clock.stepped s o) ≡ stepped m (and_then o (λ next. accepted (member_of next (owner_past m n))))
-  by_outcome (refused r) e =
-      ap (λ (o : Owner). record { answer = Answer.Refused r; member = member_of s o })
+      → stepped_by (Clock.stepped s o) ≡ stepped m (and_then o (λ next. Ok (member_of next (owner_past m n))))
+  by_outcome (Err r) e =
+      ap (λ (o : Owner). record { answer = Err r; member = member_of s o })
       (ap (λ (k : ℕ). past_tbtts k m.owner) (let z : s.clock / b - s.clock / b ≡ 0 = omega arith in z) ∙ none_past m.owner)
-  by_outcome (accepted next) e =
-      ap (λ (k : ℕ). record { answer = Answer.Accepted; member = member_of next (past_tbtts k m.owner) })
+  by_outcome (Ok next) e =
+      ap (λ (k : ℕ). record { answer = Ok tt; member = member_of next (past_tbtts k m.owner) })
       (tbtts_between b pos s.clock next.clock (omega (arith, clock_advanced s n next e))
       ∙ ap (tbtts_in b s.clock) (let z : next.clock - s.clock ≡ n = omega (arith, clock_advanced s n next e) in z))
 

@@ -1,10 +1,8 @@
 -- A station of an IBSS (02, Five): document 01's station, whose AP is the BSSID, and the DFS owner that it follows.
-use Rattle.std.specs.Prelude.{Bool, not, ◌&&◌, List, [], ◌∷◌, ℕ}
-use Rattle.answer.specs.Checks.{Outcome, refused, accepted, ◌⇒◌, checked, and_then}
+use Rattle.std.specs.Prelude.{Bool, not, ◌&&◌, List, [], ◌∷◌, ℕ, Ok, Err}
+use Rattle.answer.specs.Checks.{Outcome, ◌⇒◌, checked, and_then}
 use Rattle.answer.specs.Faults.{Placed, fault_nowhere}
-use Rattle.answer.specs.declared.Answer.{Answer}
 use Rattle.answer.specs.declared.Refusal.{Refusal}
-use Rattle.answer.specs.declared.Verdict.{Verdict}
 use Rattle.beacon.specs.IbssBeacons.{MaybeDfs, absent, is}
 use Rattle.beacon.specs.Notices.{has_switch}
 use Rattle.frame.specs.Announcements.{announcement_in}
@@ -28,8 +26,8 @@ member_of s o = record { station = s; owner = o }
 -- ---- start: 15 as in 01; "at start the owner is unknown"
 
 abbrev pub member_started : Outcome Station → Started
-member_started (refused r) = record { answer = Answer.Refused r; member = member_of blank unknown }
-member_started (accepted s) = record { answer = Answer.Accepted; member = member_of s unknown }
+member_started (Err r) = record { answer = Err r; member = member_of blank unknown }
+member_started (Ok s) = record { answer = Ok tt; member = member_of s unknown }
 
 abbrev pub start_of : List ℕ → List ℕ → ℕ → ℕ → Started
 start_of own bssid b channel = member_started (start_means own bssid b channel)
@@ -55,15 +53,15 @@ foreign_announcement o x = has_switch (announcement_in x.sent.kind) && not (is_o
 abbrev pub follows : Member → SentInIbss → Placed Member
 follows m x =
     checked (foreign_announcement (named_by m.owner x.dfs) x ⇒ fault_nowhere Refusal.ForeignAnnouncement ∷ [])
-    (accepted (member_of (heard m.station x.sent.kind) (heard_by (named_by m.owner x.dfs) x.sender x.sent.kind)))
+    (Ok (member_of (heard m.station x.sent.kind) (heard_by (named_by m.owner x.dfs) x.sender x.sent.kind)))
 
 unfoldable pub member_takes : Member → List ℕ → Placed Member
 member_takes m f = and_then (ibss_frame_means m.station.own m.station.ap m.station.interval f) (follows m)
 
 -- the verdict on a frame, and the station after it
 abbrev pub taken : Member → Placed Member → Taken
-taken m (refused x) = record { verdict = Verdict.Refused x; member = m }
-taken m (accepted next) = record { verdict = Verdict.Accepted; member = next }
+taken m (Err x) = record { verdict = Err x; member = m }
+taken m (Ok next) = record { verdict = Ok tt; member = next }
 
 abbrev pub take_of : Member → List ℕ → Taken
 take_of m f = taken m (member_takes m f)
@@ -71,15 +69,15 @@ take_of m f = taken m (member_takes m f)
 -- ---- the clock: "At each TBTT with no accepted beacon from the owner since the one before, a miss count rises"
 
 abbrev pub stepped : Member → Outcome Member → Stepped
-stepped m (refused r) = record { answer = Answer.Refused r; member = m }
-stepped m (accepted next) = record { answer = Answer.Accepted; member = next }
+stepped m (Err r) = record { answer = Err r; member = m }
+stepped m (Ok next) = record { answer = Ok tt; member = next }
 
 -- the owner after the TBTTs among the n units that the clock goes on by
 abbrev pub owner_past : Member → ℕ → Owner
 owner_past m n = past_tbtts (tbtts_in m.station.interval m.station.clock n) m.owner
 
 unfoldable pub member_advances : Member → ℕ → Outcome Member
-member_advances m n = and_then (advance_means m.station n) (λ s. accepted (member_of s (owner_past m n)))
+member_advances m n = and_then (advance_means m.station n) (λ s. Ok (member_of s (owner_past m n)))
 
 abbrev pub advance_of : Member → ℕ → Stepped
 advance_of m n = stepped m (member_advances m n)

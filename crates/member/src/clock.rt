@@ -4,12 +4,12 @@ ghost use Rattle.member.specs.Members.{advance_of};
 ghost use Rattle.member.specs.Validity.{ValidMember};
 
 use crate::Member;
-use answer::Answer;
+use answer::Refusal;
 
 // The answer, and the station after the call: the same as before where the call was refused.
 #[derive(Clone, Copy)]
 pub struct Stepped {
-    pub answer: Answer,
+    pub answer: Result<(), Refusal>,
     pub member: Member,
 }
 

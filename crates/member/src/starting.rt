@@ -1,25 +1,24 @@
 // Starting a station of an IBSS (document 02, Five; document 01, "Answer numbers", 15).
-ghost use Rattle.std.specs.Prelude.{◌≡◌};
-ghost use Rattle.answer.specs.declared.Answer.{Answer};
+ghost use Rattle.std.specs.Prelude.{◌≡◌, Ok};
 ghost use Rattle.member.specs.Members.{start_of};
 ghost use Rattle.member.specs.Validity.{ValidMember};
 
 use crate::Member;
-use answer::Answer;
 use owner::Owner;
 use station::Station;
+use answer::Refusal;
 
 // What starting answers. Beside a refusal stands one fixed station that no call may be handed.
 #[derive(Clone, Copy)]
 pub struct Started {
-    pub answer: Answer,
+    pub answer: Result<(), Refusal>,
     pub member: Member,
 }
 
 impl Member {
     pub fn start(own: [u8; 6], bssid: [u8; 6], interval: u16, channel: u8) -> Started
         ensures value { result ≡ start_of own bssid interval channel }
-        ensures valid { result.answer ≡ Answer.Accepted → ValidMember result.member }
+        ensures valid { result.answer ≡ Ok tt → ValidMember result.member }
     {
         let started = Station::start(own, bssid, interval, channel);
         let answer = started.answer;

@@ -8,15 +8,15 @@ ghost use Rattle.member.specs.Validity.{ValidMember};
 ghost use Rattle.owner.specs.Owners.{is_owner, heard_from};
 
 use crate::Member;
-use answer::{Fault, Refusal, Verdict};
-use beacon::{MaybeSwitch, Notice};
-use frame::{Frame, Reading, ReceivedInIbss};
+use answer::{Fault, Refusal};
+use beacon::Notice;
+use frame::{Frame, ReceivedInIbss};
 use owner::Owner;
 
 // The verdict on a frame, and the station after it: the same as before where the frame was refused.
 #[derive(Clone, Copy)]
 pub struct Taken {
-    pub verdict: Verdict,
+    pub verdict: Result<(), Fault>,
     pub member: Member,
 }
 
@@ -26,18 +26,18 @@ fn notice_announces(notice: Notice) -> bool
 {
     let switch = notice.switch;
     match switch {
-        MaybeSwitch::Absent => false,
-        MaybeSwitch::Is(_) => true,
+        None => false,
+        Some(_) => true,
     }
 }
 
 // Whether what was read has an announcement.
-fn announces(reading: Reading) -> bool
+fn announces(reading: Result<Frame, Fault>) -> bool
     ensures { result ≡ announces reading }
 {
     match reading {
-        Reading::Refused(_broken) => false,
-        Reading::Is(frame) => match frame {
+        Err(_broken) => false,
+        Ok(frame) => match frame {
             Frame::Beacon(notice) => notice_announces(notice),
             Frame::ProbeResponse(notice) => notice_announces(notice),
             Frame::ChannelSwitch(_) => true,
@@ -53,12 +53,12 @@ fn announces(reading: Reading) -> bool
 }
 
 // Whether it is a beacon: nothing else is one from the owner.
-fn is_beacon(reading: Reading) -> bool
+fn is_beacon(reading: Result<Frame, Fault>) -> bool
     ensures { result ≡ is_beacon reading }
 {
     match reading {
-        Reading::Refused(_) => false,
-        Reading::Is(frame) => match frame {
+        Err(_) => false,
+        Ok(frame) => match frame {
             Frame::Beacon(_) => true,
             Frame::ProbeResponse(_) => false,
             Frame::ChannelSwitch(_) => false,
@@ -86,7 +86,7 @@ fn named_by(owner: Owner, received: ReceivedInIbss) -> Owner
 }
 
 // An announcement by any but a known owner.
-fn is_foreign(reading: Reading, owner: Owner, sender: [u8; 6]) -> bool
+fn is_foreign(reading: Result<Frame, Fault>, owner: Owner, sender: [u8; 6]) -> bool
     ensures { result ≡ (announces reading && not (is_owner owner sender)) }
 {
     if !announces(reading) {
@@ -96,7 +96,7 @@ fn is_foreign(reading: Reading, owner: Owner, sender: [u8; 6]) -> bool
 }
 
 // The owner after a frame that was accepted: a beacon is heard from its sender.
-fn heard_by(owner: Owner, reading: Reading, sender: [u8; 6]) -> Owner
+fn heard_by(owner: Owner, reading: Result<Frame, Fault>, sender: [u8; 6]) -> Owner
     ensures { result ≡ pick (is_beacon reading) (heard_from owner sender) owner }
 {
     if is_beacon(reading) {
@@ -122,7 +122,7 @@ impl Member {
         let owner = self.owner;
         let named = named_by(owner, heard);
         if is_foreign(reading, named, sender) {
-            let verdict = Verdict::Refused(Fault::nowhere(Refusal::ForeignAnnouncement));
+            let verdict = Err(Fault::nowhere(Refusal::ForeignAnnouncement));
             let member = self;
             return Taken { verdict, member };
         }

@@ -1,4 +1,5 @@
 -- What a writer answers and what it leaves: where nothing is stored, where all is, and in front of a buffer, part after part. Assumes nothing.
+use Rattle.std.specs.Prelude.{Ok, Err}
 use mathlib.Core.Bool.{Bool, true, false}
 use mathlib.Core.List.{List, [], ◌++◌}
 use mathlib.Core.Path.{◌≡◌, refl, sym, ap, ap₂, ◌∙◌}
@@ -8,16 +9,15 @@ use borrow.Author.Tests.{lt-ltb, le-ltb}
 use lib.ListN.{length, take, drop, length-append, length-drop}
 use lib.Seq.{length-take-le, take_at, take-append_seam, drop-append-add, drop-drop}
 use Rattle.answer.proofs.Judged.{past, stop, done}
-use Rattle.answer.specs.Checks.{Outcome, refused, accepted}
+use Rattle.answer.specs.Checks.{Outcome}
 use Rattle.answer.specs.declared.Refusal.{Refusal}
 use Rattle.octets.specs.Writing.{room, wrote, over, after, filled, left, Written}
-use Rattle.octets.specs.declared.writing.Wrote.{Wrote}
 
 -- ---- nothing is stored
 
 -- what may not be written leaves the buffer as it was
 module _ (os : List ℕ) (at : ℕ) (buffer : List ℕ) where
-  pub not_answer : {may : Bool} → may ≡ false → wrote may os at buffer ≡ refused Refusal.Impossible
+  pub not_answer : {may : Bool} → may ≡ false → wrote may os at buffer ≡ Err Refusal.Impossible
   unfolding wrote room
   not_answer e = sym (stop _ _ _ (rw e))
 
@@ -25,12 +25,12 @@ module _ (os : List ℕ) (at : ℕ) (buffer : List ℕ) where
   unfolding left
   left_not = ap (λ (o : Outcome ℕ). after o os at buffer) (not_answer refl)
 
-  pub not_written : {may : Bool} → may ≡ false → Written may os at buffer (Wrote.Refused Refusal.Impossible) buffer
+  pub not_written : {may : Bool} → may ≡ false → Written may os at buffer (Err Refusal.Impossible) buffer
   unfolding left
   not_written e = record { answers = sym (not_answer e); leaves = sym (ap (λ (o : Outcome ℕ). after o os at buffer) (not_answer e)) }
 
 module _ (os : List ℕ) (at : ℕ) (buffer : List ℕ) (short : length buffer < at + length os) where
-  short_answer : wrote true os at buffer ≡ refused Refusal.BufferShort
+  short_answer : wrote true os at buffer ≡ Err Refusal.BufferShort
   unfolding wrote room
   short_answer = sym (past _ _ _ refl (stop _ _ _ (lt-ltb (length buffer) (at + length os) short)))
 
@@ -39,13 +39,13 @@ module _ (os : List ℕ) (at : ℕ) (buffer : List ℕ) (short : length buffer <
   left_short true = ap (λ (o : Outcome ℕ). after o os at buffer) short_answer
   left_short false = left_not os at buffer
 
-  pub short_written : Written true os at buffer (Wrote.Refused Refusal.BufferShort) buffer
+  pub short_written : Written true os at buffer (Err Refusal.BufferShort) buffer
   short_written = record { answers = sym short_answer; leaves = sym (left_short true) }
 
 -- ---- all is stored
 
 module _ (os : List ℕ) (at : ℕ) (buffer : List ℕ) (fits : at + length os ≤ length buffer) where
-  pub room_answer : wrote true os at buffer ≡ accepted (length os)
+  pub room_answer : wrote true os at buffer ≡ Ok (length os)
   unfolding wrote room
   room_answer = sym (past _ _ _ refl (past _ _ _ (le-ltb (length buffer) (at + length os) fits) (done _)))
 
@@ -88,7 +88,7 @@ module _ (os buffer exit : List ℕ) (e : exit ≡ filled os buffer) where
 -- ---- part after part
 
 module _ (there os buffer : List ℕ) (fits : length there + length os ≤ length buffer) where
-  pub after_answer : wrote true os (length there) (filled there buffer) ≡ accepted (length os)
+  pub after_answer : wrote true os (length there) (filled there buffer) ≡ Ok (length os)
   after_answer = room_answer os (length there) (filled there buffer) (omega (arith, filled_length there buffer (omega arith)))
 
   later : drop (length there + length os) (filled there buffer) ≡ drop (length (there ++ os)) buffer
@@ -127,12 +127,12 @@ left_after false xs ys buffer h = left_not ys (length xs) _ ∙ left_not xs 0 bu
 -- `n` is the length of the first part
 module _ (head body buffer : List ℕ) (n : ℕ) (size : n ≡ length head) (fits : n + length body ≤ length buffer) (middle exit : List ℕ)
     (first : middle ≡ left true head 0 buffer) (second : exit ≡ left true body n middle) where
-  pub parts_written : Written true (head ++ body) 0 buffer (Wrote.Length (n + length body)) exit
+  pub parts_written : Written true (head ++ body) 0 buffer (Ok (n + length body)) exit
   parts_written =
       let whole = length-append head body in
       record {
         answers =
-            ap accepted (let e : n + length body ≡ length (head ++ body) = omega (arith, whole) in e)
+            ap Ok (let e : n + length body ≡ length (head ++ body) = omega (arith, whole) in e)
             ∙ sym (room_answer (head ++ body) 0 buffer (omega (arith, whole)));
         leaves =
             second
@@ -161,6 +161,6 @@ module _ {parts buffer now : List ℕ} (l : Lies parts buffer now) where
         stands = w ∙ ap₂ (λ (n : ℕ) (b : List ℕ). left true os n b) e l.stands ∙ after_left parts os buffer (omega arith);
       }
 
-  pub all_written : (n : ℕ) → n ≡ length parts → Written true parts 0 buffer (Wrote.Length n) now
+  pub all_written : (n : ℕ) → n ≡ length parts → Written true parts 0 buffer (Ok n) now
   all_written n e =
-      record { answers = ap accepted e ∙ sym (room_answer parts 0 buffer (omega (arith, l.inside))); leaves = l.stands ∙ sym (front_left parts buffer l.inside) }
+      record { answers = ap Ok e ∙ sym (room_answer parts 0 buffer (omega (arith, l.inside))); leaves = l.stands ∙ sym (front_left parts buffer l.inside) }

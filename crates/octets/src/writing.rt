@@ -2,41 +2,34 @@
 // room for them, which is judged once for many (`capture`).
 ghost use Rattle.std.specs.Prelude.{◌≡◌, ℕ, ◌+◌, ◌<◌, ◌≤◌, length};
 ghost use Rattle.std.proofs.Math.Seq.{paste};
-ghost use Rattle.octets.specs.Writing.{wrote_told, room, stored_by, Written};
+ghost use Rattle.octets.specs.Writing.{room, stored_by, Written};
 
 use answer::Refusal;
 
-// What a writer answers: how many octets it wrote, or why it wrote none.
-#[derive(Clone, Copy)]
-pub enum Wrote {
-    Refused(Refusal),
-    Length(usize),
-}
-
 // The answer for so many octets from a place on, in a buffer of so many.
 #[tactic(auto, unfolding(crate::specs::Writing::room, answer::specs::Checks::checked))]
-fn judge(may: bool, count: usize, at: usize, size: usize) -> Wrote
-    ensures { wrote_told result ≡ room may count at size }
+fn judge(may: bool, count: usize, at: usize, size: usize) -> Result<usize, Refusal>
+    ensures { result ≡ room may count at size }
 {
     if !may {
-        return Wrote::Refused(Refusal::Impossible);
+        return Err(Refusal::Impossible);
     }
     if size < at {
-        return Wrote::Refused(Refusal::BufferShort);
+        return Err(Refusal::BufferShort);
     }
     if size - at < count {
-        return Wrote::Refused(Refusal::BufferShort);
+        return Err(Refusal::BufferShort);
     }
-    Wrote::Length(count)
+    Ok(count)
 }
 
 // How many octets are stored: a refusal stores none.
-fn stored(answer: Wrote) -> usize
-    ensures { result ≡ stored_by (wrote_told answer) }
+fn stored(answer: Result<usize, Refusal>) -> usize
+    ensures { result ≡ stored_by (answer) }
 {
     match answer {
-        Wrote::Refused(_) => 0,
-        Wrote::Length(count) => count,
+        Err(_) => 0,
+        Ok(count) => count,
     }
 }
 
@@ -54,7 +47,7 @@ fn copy(octets: &[u8], count: usize, buffer: &mut [u8], at: usize)
 
 // Refuses what may not be written (16), then a buffer that is too short (13); else puts the octets into the buffer from `at`
 // on. Every other byte stays, and a refusal puts none.
-pub fn put(may: bool, octets: &[u8], buffer: &mut [u8], at: usize) -> Wrote
+pub fn put(may: bool, octets: &[u8], buffer: &mut [u8], at: usize) -> Result<usize, Refusal>
     ensures { Written may octets.now at buffer.old result buffer.new }
 {
     let answer = judge(may, octets.len(), at, buffer.len());

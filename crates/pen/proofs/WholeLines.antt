@@ -1,10 +1,10 @@
 -- A whole line in the buffer: of an accepted call, and of any. Assumes nothing.
+use Rattle.std.specs.Prelude.{None, Option}
 use mathlib.Core.List.{List, [], ◌∷◌, ◌++◌, append_assoc}
 use mathlib.Core.Path.{◌≡◌, sym, ap, ◌∙◌}
 use Prim.Native.Nat.{ℕ, ◌+◌, ◌≤◌}
 use native.Mathlib.Omega.{arith}
 use lib.ListN.{length, length-append}
-use Rattle.answer.specs.declared.Offset.{Offset}
 use Rattle.octets.proofs.Storing.{room_left}
 use Rattle.pen.specs.Rooms.{line_room, most_letters}
 use Rattle.pen.specs.Decimals.{decimal}
@@ -25,10 +25,10 @@ letters Word.Record = omega arith
 letters Word.Block = omega arith
 
 -- a line after its number
-abbrev after : List ℕ → List ℕ → Offset → List ℕ
+abbrev after : List ℕ → List ℕ → Option ℕ → List ℕ
 after word answer offset = (32 ∷ []) ++ (word ++ ((32 ∷ []) ++ (answer ++ (placed offset ++ (10 ∷ [])))))
 
-after_long : (word answer : List ℕ) (offset : Offset) → length (after word answer offset) ≡ length word + length answer + length (placed offset) + 3
+after_long : (word answer : List ℕ) (offset : Option ℕ) → length (after word answer offset) ≡ length word + length answer + length (placed offset) + 3
 after_long word answer offset =
     omega (
       arith,
@@ -54,7 +54,7 @@ module _ {n from : ℕ} {digits : List ℕ} {at m₁ : ℕ} {out b₁ : List ℕ
 
 module _ {n from : ℕ} {digits : List ℕ} {at : ℕ} {out : List ℕ} {end : ℕ} {exit : List ℕ} (p : Spells n digits from) (fits : at + line_room ≤ length out) (word : Word) where
   -- what is known of its parts leaves it room
-  line_put : (answer : ℕ) (offset : Offset) → length (decimal answer) ≤ 3 → length (placed offset) ≤ 21
+  line_put : (answer : ℕ) (offset : Option ℕ) → length (decimal answer) ≤ 3 → length (placed offset) ≤ 21
       → OctetsPut (decimal n ++ after (spelled word) (decimal answer) offset) at out end exit → LinePut (line_of n word answer offset) at out end exit
   unfolding line_of
   line_put answer offset few short w =
@@ -64,7 +64,7 @@ module _ {n from : ℕ} {digits : List ℕ} {at : ℕ} {out : List ℕ} {end : �
       record { many = w.ends; short = room; leaves = w.stands ∙ sym (room_left (decimal n ++ rest) at out (omega arith)) }
 
   -- what follows the word
-  ended_put : (answer : ℕ) (offset : Offset) {m₁ m₂ : ℕ} {b₁ b₂ : List ℕ}
+  ended_put : (answer : ℕ) (offset : Option ℕ) {m₁ m₂ : ℕ} {b₁ b₂ : List ℕ}
       → length (decimal answer) ≤ 3 → length (placed offset) ≤ 21 → length b₁ ≡ length out
       → PiecesPut (decimal n) at out m₁ b₁ → OctetsPut (spaced word) m₁ b₁ m₂ b₂ → OctetsPut (decimal answer ++ (placed offset ++ (10 ∷ []))) m₂ b₂ end exit
       → LinePut (line_of n word answer offset) at out end exit
@@ -86,14 +86,14 @@ module _ {n from : ℕ} {digits : List ℕ} {at : ℕ} {out : List ℕ} {end : �
   -- the answer 0, and no offset
   pub accepted_put : {m₁ m₂ : ℕ} {b₁ b₂ : List ℕ} → length b₁ ≡ length out
       → PiecesPut (decimal n) at out m₁ b₁ → OctetsPut (spaced word) m₁ b₁ m₂ b₂ → OctetsPut (48 ∷ 10 ∷ []) m₂ b₂ end exit
-      → LinePut (line_of n word 0 Offset.Absent) at out end exit
+      → LinePut (line_of n word 0 None) at out end exit
   accepted_put same number_put word-put end-put =
       let zero = one_alone 0 (omega arith) in
-      ended_put 0 Offset.Absent (omega (arith, ap length zero)) (omega arith) same number_put word-put
+      ended_put 0 None (omega (arith, ap length zero)) (omega arith) same number_put word-put
       (put_as (ap (λ (digits : List ℕ). digits ++ (10 ∷ [])) (sym zero)) end-put)
 
   -- part after part
-  pub parts_put : (answer : ℕ) (offset : Offset) {m₁ m₂ m₃ m₄ : ℕ} {b₁ b₂ b₃ b₄ : List ℕ}
+  pub parts_put : (answer : ℕ) (offset : Option ℕ) {m₁ m₂ m₃ m₄ : ℕ} {b₁ b₂ b₃ b₄ : List ℕ}
       → length (decimal answer) ≤ 3 → length (placed offset) ≤ 21 → (length b₁ ≡ length out) × (length b₂ ≡ length out) × (length b₃ ≡ length out)
       → PiecesPut (decimal n) at out m₁ b₁ → OctetsPut (spaced word) m₁ b₁ m₂ b₂ → OctetsPut (decimal answer) m₂ b₂ m₃ b₃ → OctetsPut (placed offset) m₃ b₃ m₄ b₄
       → OctetsPut (10 ∷ []) m₄ b₄ end exit → LinePut (line_of n word answer offset) at out end exit

@@ -1,7 +1,6 @@
 -- The lines of the list (01, "Capture blocks and the evening list": number, word, answer number; 02, One: after it the offset of the octet at
 -- fault, where there is one; the last line is blocks, how many in all, damaged, how many were).
-use Rattle.std.specs.Prelude.{List, [], ◌∷◌, ◌++◌, ℕ}
-use Rattle.answer.specs.declared.Offset.{Offset}
+use Rattle.std.specs.Prelude.{List, [], ◌∷◌, ◌++◌, ℕ, Some, None, Option}
 use Rattle.pen.specs.Decimals.{decimal}
 use Rattle.pen.specs.declared.words.Word.{Word}
 
@@ -15,12 +14,12 @@ spelled Word.Record = 114 ∷ 101 ∷ 99 ∷ 111 ∷ 114 ∷ 100 ∷ []
 spelled Word.Block = 98 ∷ 108 ∷ 111 ∷ 99 ∷ 107 ∷ []
 
 -- a space and the offset
-abbrev pub placed : Offset → List ℕ
-placed Offset.Absent = []
-placed (Offset.At n) = (32 ∷ []) ++ decimal n
+abbrev pub placed : Option ℕ → List ℕ
+placed None = []
+placed (Some n) = (32 ∷ []) ++ decimal n
 
 -- a space between, and a line end
-unfoldable pub line_of : ℕ → Word → ℕ → Offset → List ℕ
+unfoldable pub line_of : ℕ → Word → ℕ → Option ℕ → List ℕ
 line_of number word answer offset =
     decimal number ++ ((32 ∷ []) ++ (spelled word ++ ((32 ∷ []) ++ (decimal answer ++ (placed offset ++ (10 ∷ []))))))
 

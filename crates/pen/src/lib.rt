@@ -6,13 +6,11 @@ mod numeral;
 mod putting;
 mod words;
 
-ghost use Rattle.std.specs.Prelude.{◌≡◌, ◌+◌, length};
-ghost use Rattle.answer.specs.declared.Offset.{Offset};
+ghost use Rattle.std.specs.Prelude.{◌≡◌, ◌+◌, length, None};
 ghost use Rattle.pen.specs.Lines.{line_of};
 ghost use Rattle.pen.specs.Numerals.{numeral_room, Spells, with_numeral};
 ghost use Rattle.pen.specs.Penning.{Ready, Penned};
 
-use answer::Offset;
 pub use last_line::{Text, closing};
 pub use words::Word;
 
@@ -44,7 +42,7 @@ pub fn begin(lines: u64, digits: &mut [u8]) -> Pen
 // The next line tells a call that was accepted: this word, the answer 0, and no offset.
 pub fn put_accepted(pen: Pen, digits: &mut [u8], word: Word, out: &mut [u8]) -> Pen
     requires { Ready pen digits.old out.old }
-    ensures penned { Penned (line_of (pen.lines + 1) word 0 Offset.Absent) pen out.old result digits.new out.new }
+    ensures penned { Penned (line_of (pen.lines + 1) word 0 None) pen out.old result digits.new out.new }
     ensures digits_after { digits.new ≡ with_numeral digits.old (pen.lines + 1) }
 {
     let from = numeral::count_up(digits, pen.from);
@@ -62,7 +60,7 @@ pub fn put_told(
     digits: &mut [u8],
     word: Word,
     number: u8,
-    offset: Offset,
+    offset: Option<usize>,
     out: &mut [u8],
 ) -> Pen
     requires { Ready pen digits.old out.old }

@@ -1,6 +1,5 @@
 // Lines put into a lent buffer. The digits of a line's number are those that are kept, and a line of an accepted call ends in constant octets.
-ghost use Rattle.std.specs.Prelude.{◌≡◌, [], ◌∷◌, ◌++◌, ℕ, ◌+◌, ◌≤◌, length, take, drop};
-ghost use Rattle.answer.specs.declared.Offset.{Offset};
+ghost use Rattle.std.specs.Prelude.{◌≡◌, [], ◌∷◌, ◌++◌, ℕ, ◌+◌, ◌≤◌, length, take, drop, None};
 ghost use Rattle.octets.specs.Writing.{over};
 ghost use Rattle.pen.specs.Decimals.{decimal};
 ghost use Rattle.pen.specs.Lines.{spelled, placed, line_of};
@@ -10,7 +9,6 @@ ghost use Rattle.pen.specs.Rooms.{line_room, most_letters};
 
 use crate::words::Word;
 use crate::{numeral, words};
-use answer::Offset;
 
 // So many octets are loaded and stored as one.
 const PIECE: usize = 8;
@@ -83,7 +81,7 @@ fn put_word(word: Word, out: &mut [u8], at: usize) -> usize
 pub fn put_accepted(digits: &[u8], from: usize, word: Word, out: &mut [u8], at: usize) -> usize
     requires by_index { (n : ℕ) × Spells n digits.now from }
     requires line_room_in_bounds { at + line_room ≤ length out.old }
-    ensures { (n : ℕ) → Spells n digits.now from → LinePut (line_of n word 0 Offset.Absent) at out.old result out.new }
+    ensures { (n : ℕ) → Spells n digits.now from → LinePut (line_of n word 0 None) at out.old result out.new }
 {
     let numbered = put_digits(digits, from, out, at);
     let worded = put_word(word, out, numbered);
@@ -113,13 +111,13 @@ fn put_answer(answer: u8, out: &mut [u8], at: usize) -> usize
 }
 
 // The offset of the octet at fault, if there is one, and where it ends.
-fn put_offset(offset: Offset, out: &mut [u8], at: usize) -> usize
+fn put_offset(offset: Option<usize>, out: &mut [u8], at: usize) -> usize
     requires { at + length (placed offset) ≤ length out.old }
     ensures { OctetsPut (placed offset) at out.old result out.new }
 {
     match offset {
-        Offset::Absent => at,
-        Offset::At(before) => {
+        None => at,
+        Some(before) => {
             let spaced = put(b" ", out, at);
             put_number(before as u64, out, spaced)
         }
@@ -132,7 +130,7 @@ pub fn put_line(
     from: usize,
     word: Word,
     answer: u8,
-    offset: Offset,
+    offset: Option<usize>,
     out: &mut [u8],
     at: usize,
 ) -> usize

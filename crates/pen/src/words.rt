@@ -3,6 +3,8 @@ ghost use Rattle.std.specs.Prelude.{◌≡◌};
 ghost use Rattle.pen.specs.Lines.{spelled};
 ghost use Rattle.pen.specs.CodeTerms.Letters.{lettered};
 
+use frame::Frame;
+
 // A record's kind, a malformed record, or a damaged block.
 #[derive(Clone, Copy)]
 pub enum Word {

@@ -14,12 +14,6 @@ pub struct Switch {
     pub channel: u8,
 }
 
-#[derive(Clone, Copy)]
-pub enum Pending {
-    Nothing,
-    Switch(Switch),
-}
-
 // The latest TBTT at a moment: moment 0 and every multiple of the interval is one.
 fn latest_tbtt(clock: u32, interval: u16) -> u32
     ensures { result ≡ clock / interval * interval }
@@ -30,15 +24,15 @@ fn latest_tbtt(clock: u32, interval: u16) -> u32
     clock - clock % (interval as u32)
 }
 
-impl Pending {
+impl Option<Switch> {
     // The switch that an announcement sets at a moment: its count is one of TBTTs, so it runs from the latest and not from the moment of arrival.
     // Every term has a narrow type, so nothing wraps.
-    pub fn set_by(switch: ChannelSwitch, clock: u32, interval: u16) -> Pending
+    pub fn set_by(switch: ChannelSwitch, clock: u32, interval: u16) -> Option<Switch>
         ensures { result ≡ pending_by switch (clock / interval) interval }
     {
         let tbtt = latest_tbtt(clock, interval);
         let at = (tbtt as u64) + (switch.count as u64) * (interval as u64);
-        Pending::Switch(Switch {
+        Some(Switch {
             at,
             mode: switch.mode,
             channel: switch.channel,
@@ -50,8 +44,8 @@ impl Pending {
         ensures { result ≡ silences self }
     {
         match self {
-            Pending::Nothing => false,
-            Pending::Switch(switch) => switch.mode == 1,
+            None => false,
+            Some(switch) => switch.mode == 1,
         }
     }
 
@@ -60,8 +54,8 @@ impl Pending {
         ensures { result ≡ up_to self end }
     {
         match self {
-            Pending::Nothing => end,
-            Pending::Switch(switch) => { if switch.at < end { switch.at } else { end } }
+            None => end,
+            Some(switch) => { if switch.at < end { switch.at } else { end } }
         }
     }
 
@@ -70,8 +64,8 @@ impl Pending {
         ensures { result ≡ comes_before self end }
     {
         match self {
-            Pending::Nothing => false,
-            Pending::Switch(switch) => switch.at < end,
+            None => false,
+            Some(switch) => switch.at < end,
         }
     }
 }

@@ -1,4 +1,5 @@
 -- A body of one Measurement Report, built in a buffer of its own. Assumes nothing.
+use Rattle.std.specs.Prelude.{Ok, Err}
 use mathlib.Core.Bool.{Bool, true, false, ◌&&◌}
 use mathlib.Core.List.{List, [], ◌∷◌, append-nil}
 use mathlib.Core.Path.{◌≡◌, refl, sym, ap, ◌∙◌}
@@ -8,7 +9,7 @@ use borrow.Author.Tests.{le-leb}
 use lib.Dec.{leb}
 use lib.ListN.{length, take}
 use Rattle.answer.proofs.Judged.{never}
-use Rattle.answer.specs.Checks.{refused, accepted}
+use Rattle.answer.specs.Checks.{Outcome}
 use Rattle.answer.specs.declared.Refusal.{Refusal}
 use Rattle.measurement_element.proofs.ReportLayout.{within, counted}
 use Rattle.measurement_element.specs.MeasurementReport.{report_may, report_octets}
@@ -16,8 +17,7 @@ use Rattle.measurement_element.specs.declared.measurement_report.Report.{Report}
 use Rattle.measurement_body.specs.Bodies.{longest_body, body_octets, may_append, appended}
 use Rattle.measurement_body.specs.Lists.{all_octets}
 use Rattle.measurement_body.specs.Reports.{report_sort}
-use Rattle.octets.specs.Writing.{wrote_told, wrote, left, Written}
-use Rattle.octets.specs.declared.writing.Wrote.{Wrote}
+use Rattle.octets.specs.Writing.{wrote, left, Written}
 use Rattle.octets.proofs.Overwriting.{written_as}
 use Rattle.octets.proofs.Storing.{not_answer, room_answer, front_left, filled_front}
 
@@ -30,8 +30,8 @@ and-true true = refl
 and-true false = refl
 
 pub refused_as : {may : Bool} {os : List ℕ} {at : ℕ} {buffer exit : List ℕ} {q r : Refusal} → r ≡ q
-    → Written may os at buffer (Wrote.Refused q) exit → Written may os at buffer (Wrote.Refused r) exit
-refused_as e w = record { answers = ap refused e ∙ w.answers; leaves = w.leaves }
+    → Written may os at buffer (Err q) exit → Written may os at buffer (Err r) exit
+refused_as e w = record { answers = ap Err e ∙ w.answers; leaves = w.leaves }
 
 -- ---- the first element of a body
 
@@ -58,32 +58,32 @@ module _ (token : ℕ) (x : Report) where
   unfolding may_append
   first_may eight = simp (first_short eight) (and-true (report_may x))
 
-  module _ (eight : length x.densities ≡ 8) (buffer exit : List ℕ) (answer : Wrote) (size : length buffer ≡ longest_reply_body)
+  module _ (eight : length x.densities ≡ 8) (buffer exit : List ℕ) (answer : Outcome ℕ) (size : length buffer ≡ longest_reply_body)
       (w : Written (may_append report_sort token x []) (appended report_sort token x []) 0 buffer answer exit) where
     as_meant : Written (report_may x) body 0 buffer answer exit
     as_meant = written_as (first_may eight) first_octets w
 
-    enough : report_may x ≡ true → wrote (report_may x) body 0 buffer ≡ accepted (length body)
+    enough : report_may x ≡ true → wrote (report_may x) body 0 buffer ≡ Ok (length body)
     enough f = ap (λ (m : Bool). wrote m body 0 buffer) f ∙ room_answer body 0 buffer (omega (arith, size, short_body eight))
 
     -- a refusal says that the report may not be written
-    pub unwritten : (r : Refusal) → answer ≡ Wrote.Refused r → (report_may x ≡ false) × (r ≡ Refusal.Impossible)
+    pub unwritten : (r : Refusal) → answer ≡ Err r → (report_may x ≡ false) × (r ≡ Refusal.Impossible)
     unwritten r e = by_may (report_may x) refl
       where
         by_may : (m : Bool) → report_may x ≡ m → (report_may x ≡ false) × (r ≡ Refusal.Impossible)
-        by_may true f = absurd (never (sym (ap wrote_told e) ∙ as_meant.answers ∙ enough f))
+        by_may true f = absurd (never (sym (ap e) ∙ as_meant.answers ∙ enough f))
         by_may false f =
-            let same : refused r ≡ refused Refusal.Impossible = sym (ap wrote_told e) ∙ as_meant.answers ∙ not_answer body 0 buffer f in
+            let same : Err r ≡ Err Refusal.Impossible = sym (ap e) ∙ as_meant.answers ∙ not_answer body 0 buffer f in
             (f, cc)
 
     -- else the first octets of the buffer are the body
-    pub built : (n : ℕ) → answer ≡ Wrote.Length n → (report_may x ≡ true) × (n ≡ length body) × (take n exit ≡ body)
+    pub built : (n : ℕ) → answer ≡ Ok n → (report_may x ≡ true) × (n ≡ length body) × (take n exit ≡ body)
     built n e = by_may (report_may x) refl
       where
         by_may : (m : Bool) → report_may x ≡ m → (report_may x ≡ true) × (n ≡ length body) × (take n exit ≡ body)
-        by_may false f = absurd (never (sym (not_answer body 0 buffer f) ∙ sym as_meant.answers ∙ ap wrote_told e))
+        by_may false f = absurd (never (sym (not_answer body 0 buffer f) ∙ sym as_meant.answers ∙ ap e))
         by_may true f =
-            let same : accepted n ≡ accepted (length body) = sym (ap wrote_told e) ∙ as_meant.answers ∙ enough f in
+            let same : Ok n ≡ Ok (length body) = sym (ap e) ∙ as_meant.answers ∙ enough f in
             let count : n ≡ length body = cc in
             let leaves = as_meant.leaves ∙ ap (λ (m : Bool). left m body 0 buffer) f ∙ front_left body buffer (omega (arith, size, short_body eight)) in
             (f, count, filled_front body buffer exit leaves n count)

@@ -1,4 +1,5 @@
 -- A body on its way back: in the frame that was put, one octet changes. Assumes nothing.
+use Rattle.std.specs.Prelude.{Ok, Err}
 use mathlib.Core.Bool.{true}
 use mathlib.Core.List.{List, [], ◌∷◌, ◌++◌, append_assoc}
 use mathlib.Core.Path.{◌≡◌, refl, sym, ap, ◌∙◌}
@@ -10,13 +11,12 @@ use lib.ListN.{length, drop, set, length-append}
 use lib.Seq.{set-append_seam}
 use Rattle.answer.proofs.Booleans.{both}
 use Rattle.answer.proofs.Judged.{passed}
-use Rattle.answer.specs.Checks.{Outcome, accepted}
+use Rattle.answer.specs.Checks.{Outcome}
 use Rattle.answer.specs.declared.Refusal.{Refusal}
 use Rattle.header.specs.Headers.{header_length}
 use Rattle.octets.proofs.Storing.{front_left}
 use Rattle.octets.specs.Numbers.{octet}
-use Rattle.octets.specs.Writing.{wrote_told, room, wrote, filled, after, left, Written}
-use Rattle.octets.specs.declared.writing.Wrote.{Wrote}
+use Rattle.octets.specs.Writing.{room, wrote, filled, after, left, Written}
 use Rattle.reply.specs.Due.{has_category}
 use Rattle.reply.specs.Frames.{head_to, frame_to, error_return}
 use Rattle.reply.proofs.Framed.{head_length_lem}
@@ -49,11 +49,11 @@ module _ (own to bss body buffer : List ℕ) (some : 0 < length body) where
   same_answer = rw same_frame refl
 
   -- a buffer that is too short for the one is so for the other
-  pub not_returned : {answer : Wrote} {r : Refusal} {exit : List ℕ} → answer ≡ Wrote.Refused r → Written true (frame_to own to bss body) 0 buffer answer exit
-      → Written true (frame_to own to bss (error_return body)) 0 buffer (Wrote.Refused r) exit
+  pub not_returned : {answer : Outcome ℕ} {r : Refusal} {exit : List ℕ} → answer ≡ Err r → Written true (frame_to own to bss body) 0 buffer answer exit
+      → Written true (frame_to own to bss (error_return body)) 0 buffer (Err r) exit
   unfolding left
   not_returned e w =
-      let short = sym (ap wrote_told e) ∙ w.answers in
+      let short = sym (ap e) ∙ w.answers in
       record {
         answers = short ∙ same_answer;
         leaves =
@@ -61,10 +61,10 @@ module _ (own to bss body buffer : List ℕ) (some : 0 < length body) where
             ∙ ap (λ (o : Outcome ℕ). after o (frame_to own to bss (error_return body)) 0 buffer) (short ∙ same_answer);
       }
 
-  module _ {answer : Wrote} {n : ℕ} {exit : List ℕ} (o : length own ≡ 6) (t : length to ≡ 6) (a : length bss ≡ 6) (e : answer ≡ Wrote.Length n)
+  module _ {answer : Outcome ℕ} {n : ℕ} {exit : List ℕ} (o : length own ≡ 6) (t : length to ≡ 6) (a : length bss ≡ 6) (e : answer ≡ Ok n)
       (w : Written true (frame_to own to bss body) 0 buffer answer exit) where
-    counted : accepted n ≡ wrote true (frame_to own to bss body) 0 buffer
-    counted = sym (ap wrote_told e) ∙ w.answers
+    counted : Ok n ≡ wrote true (frame_to own to bss body) 0 buffer
+    counted = sym (ap e) ∙ w.answers
 
     abbrev tail : List ℕ
     tail = drop (length (frame_to own to bss body)) buffer
@@ -92,7 +92,7 @@ module _ (own to bss body buffer : List ℕ) (some : 0 < length body) where
         ∙ ap (λ (k : ℕ). frame_to own to bss (error_return body) ++ drop k buffer) (sym same_frame)
 
     -- the same with the category's top bit set
-    pub returned : Written true (frame_to own to bss (error_return body)) 0 buffer (Wrote.Length n) (set exit header_length (octet 0 body + 128))
+    pub returned : Written true (frame_to own to bss (error_return body)) 0 buffer (Ok n) (set exit header_length (octet 0 body + 128))
     returned =
         record {
           answers = counted ∙ same_answer;

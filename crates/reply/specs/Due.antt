@@ -1,8 +1,8 @@
 -- What a frame is owed (01, "Replies": "Due only for accepted Action frames whose DA is the station. Past check 4, all else is 18"; 02, One: a
 -- broken body comes back). `own` is the station's address and `ap` its AP's.
-use Rattle.std.specs.Prelude.{Bool, ◌&&◌, ◌||◌, List, ℕ, leb, ltb, eqb, length}
+use Rattle.std.specs.Prelude.{Bool, ◌&&◌, ◌||◌, List, ℕ, leb, ltb, eqb, length, Ok, Err}
 use Rattle.action.specs.Openings.{category_field}
-use Rattle.answer.specs.Checks.{Outcome, refused, accepted, pick, and_then}
+use Rattle.answer.specs.Checks.{Outcome, pick, and_then}
 use Rattle.answer.specs.Faults.{Placed}
 use Rattle.answer.specs.Numbers.{number_of}
 use Rattle.answer.specs.declared.Refusal.{Refusal}
@@ -27,17 +27,17 @@ has_category body = ltb 0 (length body) && ltb (octet category_field body) 128
 
 -- "other broken bodies still give 18"
 abbrev pub or_return : List ℕ → Placed Body → Outcome Owed
-or_return body (refused x) = pick (is_returned (number_of x.refusal) && has_category body) (accepted (breaks body)) (refused Refusal.NoReplyDue)
-or_return body (accepted b) = accepted (asks b)
+or_return body (Err x) = pick (is_returned (number_of x.refusal) && has_category body) (Ok (breaks body)) (Err Refusal.NoReplyDue)
+or_return body (Ok b) = Ok (asks b)
 
 abbrev pub by_subtype : Subtype → List ℕ → Outcome Owed
-by_subtype Subtype.Beacon body = refused Refusal.NoReplyDue
-by_subtype Subtype.ProbeResponse body = refused Refusal.NoReplyDue
+by_subtype Subtype.Beacon body = Err Refusal.NoReplyDue
+by_subtype Subtype.ProbeResponse body = Err Refusal.NoReplyDue
 by_subtype Subtype.Action body = or_return body (action_means body)
 
 -- after the header: not to all ones, and an action frame
 abbrev pub after_header : List ℕ → Head → Outcome Owed
-after_header f h = pick h.to_all (refused Refusal.NoReplyDue) (by_subtype h.subtype (body_of f))
+after_header f h = pick h.to_all (Err Refusal.NoReplyDue) (by_subtype h.subtype (body_of f))
 
 -- in a cell of either kind, by its BSSID (02, Five)
 unfoldable pub due_in : Cell → List ℕ → List ℕ → List ℕ → Outcome Owed

@@ -6,9 +6,10 @@ ghost use Rattle.reply.specs.Due.{has_category, or_return, due_in};
 
 use action::CATEGORY;
 use answer::Refusal;
-use frame::{Frame, Reading};
+use frame::Frame;
 use header::{Cell, Header, Subtype};
 use measurement_element::measurement_request;
+use measurement_element::measurement_request::Request;
 
 // What a frame is owed: an answer to the request that it makes, by its dialog token, and the element of a Measurement Request at the index
 // that was asked for; or, where its body is broken, that body.
@@ -21,7 +22,7 @@ pub enum Due {
     },
     Measurement {
         token: u8,
-        request: measurement_request::Reading,
+        request: Result<Request, Refusal>,
     },
 }
 
@@ -44,13 +45,13 @@ fn owed_to(body: &[u8], index: usize) -> Due
     let reading = asked.reading;
     let request = asked.request;
     match reading {
-        Reading::Refused(_) => {
+        Err(_) => {
             if has_category(body) {
                 return Due::Broken;
             }
             none
         }
-        Reading::Is(frame) => match frame {
+        Ok(frame) => match frame {
             Frame::TpcRequest { token } => Due::Tpc { token },
             Frame::MeasurementRequest { token, count: _ } => Due::Measurement { token, request },
             Frame::MeasurementReport { token: _, count: _ } => none,

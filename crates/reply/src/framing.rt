@@ -12,7 +12,6 @@ use action::CATEGORY;
 use answer::Refusal;
 use element::tpc_report::TpcReport;
 use measurement_element::measurement_report::Report;
-use octets::Wrote;
 
 // How many octets the body of a TPC Report has, and at most that of a Measurement Report of one element.
 const TPC_REPORT_BODY: usize = 7;
@@ -30,18 +29,18 @@ fn head(own: [u8; 6], to: [u8; 6], bssid: [u8; 6]) -> [u8; header::LENGTH]
 }
 
 // Refuses a buffer that is too short (13) before anything is put, so that no half frame is ever left.
-fn put_frame(own: [u8; 6], to: [u8; 6], bssid: [u8; 6], body: &[u8], buffer: &mut [u8]) -> Wrote
+fn put_frame(own: [u8; 6], to: [u8; 6], bssid: [u8; 6], body: &[u8], buffer: &mut [u8]) -> Result<usize, Refusal>
     requires { length body.now ≤ longest_body }
     ensures { Written true (frame_to own to bssid body.now) 0 buffer.old result buffer.new }
 {
     let size = header::LENGTH + body.len();
     if buffer.len() < size {
-        return Wrote::Refused(Refusal::BufferShort);
+        return Err(Refusal::BufferShort);
     }
     let head = head(own, to, bssid);
     octets::put(true, &head, buffer, 0);
     octets::put(true, body, buffer, header::LENGTH);
-    Wrote::Length(size)
+    Ok(size)
 }
 
 // A broken body on its way back (document 02, One): straight from the frame into the buffer, and there the category's top bit is set.
@@ -51,17 +50,17 @@ pub fn put_return(
     bssid: [u8; 6],
     body: &[u8],
     buffer: &mut [u8],
-) -> Wrote
+) -> Result<usize, Refusal>
     requires body_len_bound { length body.now ≤ longest_body }
     requires body_value { has_category body.now ≡ true }
     ensures { Written true (frame_to own to bssid (error_return body.now)) 0 buffer.old result buffer.new }
 {
     match put_frame(own, to, bssid, body, buffer) {
-        Wrote::Refused(refusal) => Wrote::Refused(refusal),
-        Wrote::Length(count) => {
+        Err(refusal) => Err(refusal),
+        Ok(count) => {
             let category = body[CATEGORY];
             buffer[header::LENGTH + CATEGORY] = category + 128;
-            Wrote::Length(count)
+            Ok(count)
         }
     }
 }
@@ -74,7 +73,7 @@ pub fn put_tpc_report(
     token: u8,
     report: TpcReport,
     buffer: &mut [u8],
-) -> Wrote
+) -> Result<usize, Refusal>
     ensures { Written true (frame_to own to bssid (tpc_report_body token report)) 0 buffer.old result buffer.new }
 {
     let mut body = [0u8; TPC_REPORT_BODY];
@@ -90,12 +89,12 @@ pub fn put_report(
     token: u8,
     report: Report,
     buffer: &mut [u8],
-) -> Wrote
+) -> Result<usize, Refusal>
     ensures { Written (report_may report) (frame_to own to bssid (body_octets report_sort token (report ∷ []))) 0 buffer.old result buffer.new }
 {
     let mut body = [0u8; LONGEST_REPLY_BODY];
     match measurement_body::reports::append(&mut body, 0, token, report) {
-        Wrote::Refused(refusal) => Wrote::Refused(refusal),
-        Wrote::Length(count) => put_frame(own, to, bssid, &body[..count], buffer),
+        Err(refusal) => Err(refusal),
+        Ok(count) => put_frame(own, to, bssid, &body[..count], buffer),
     }
 }

@@ -11,12 +11,11 @@ ghost use Rattle.header.specs.declared.address.Cell.{Cell};
 ghost use Rattle.reply.specs.Frames.{old_sender};
 ghost use Rattle.reply.specs.Replies.{tpc_reply_in, measurement_reply_in, tpc_reply, measurement_reply, Replied};
 
-use answer::{Answer, Refusal};
+use answer::Refusal;
 use due::Due;
 use element::tpc_report::TpcReport;
 use header::Cell;
 use measured_report::Readings;
-use octets::Wrote;
 
 // To whom a reply goes: the AP, or whoever of the IBSS sent the frame.
 fn old_sender(frame: &[u8], cell: Cell, bssid: [u8; 6]) -> [u8; 6]
@@ -36,17 +35,17 @@ fn tpc_reply(
     bssid: [u8; 6],
     report: TpcReport,
     buffer: &mut [u8],
-) -> Wrote
+) -> Result<usize, Refusal>
     ensures { Replied (tpc_reply_in cell own bssid report frame.now) buffer.old result buffer.new }
 {
     let to = old_sender(frame, cell, bssid);
     match due::due_to(frame, cell, own, bssid, 0) {
-        Due::Refused(refusal) => Wrote::Refused(refusal),
+        Due::Refused(refusal) => Err(refusal),
         Due::Broken => framing::put_return(own, to, bssid, header::body(frame), buffer),
         Due::Measurement {
             token: _,
             request: _,
-        } => Wrote::Refused(Refusal::Impossible),
+        } => Err(Refusal::Impossible),
         Due::Tpc { token } => framing::put_tpc_report(own, to, bssid, token, report, buffer),
     }
 }
@@ -61,21 +60,21 @@ fn measurement_reply(
     index: usize,
     readings: Readings,
     buffer: &mut [u8],
-) -> Wrote
+) -> Result<usize, Refusal>
     ensures { Replied (measurement_reply_in cell own bssid clock index readings frame.now) buffer.old result buffer.new }
 {
     let to = old_sender(frame, cell, bssid);
     match due::due_to(frame, cell, own, bssid, index) {
-        Due::Refused(refusal) => Wrote::Refused(refusal),
+        Due::Refused(refusal) => Err(refusal),
         Due::Broken => framing::put_return(own, to, bssid, header::body(frame), buffer),
-        Due::Tpc { token: _ } => Wrote::Refused(Refusal::Impossible),
+        Due::Tpc { token: _ } => Err(Refusal::Impossible),
         Due::Measurement { token, request } => {
             let owed = reporting::report_on(request, clock, readings);
             let answer = owed.answer;
             let report = owed.report;
             match answer {
-                Answer::Refused(refusal) => Wrote::Refused(refusal),
-                Answer::Accepted => framing::put_report(own, to, bssid, token, report, buffer),
+                Err(refusal) => Err(refusal),
+                Ok(()) => framing::put_report(own, to, bssid, token, report, buffer),
             }
         }
     }
@@ -88,7 +87,7 @@ pub fn to_tpc_request(
     ap: [u8; 6],
     report: TpcReport,
     buffer: &mut [u8],
-) -> Wrote
+) -> Result<usize, Refusal>
     ensures { Replied (tpc_reply own ap report frame.now) buffer.old result buffer.new }
 {
     tpc_reply(frame, Cell::Ap, own, ap, report, buffer)
@@ -101,7 +100,7 @@ pub fn to_tpc_request_in_ibss(
     bssid: [u8; 6],
     report: TpcReport,
     buffer: &mut [u8],
-) -> Wrote
+) -> Result<usize, Refusal>
     ensures { Replied (tpc_reply_in Cell.Ibss own bssid report frame.now) buffer.old result buffer.new }
 {
     tpc_reply(frame, Cell::Ibss, own, bssid, report, buffer)
@@ -116,7 +115,7 @@ pub fn to_measurement_request(
     index: usize,
     readings: Readings,
     buffer: &mut [u8],
-) -> Wrote
+) -> Result<usize, Refusal>
     ensures { Replied (measurement_reply own ap clock index readings frame.now) buffer.old result buffer.new }
 {
     measurement_reply(frame, Cell::Ap, own, ap, clock, index, readings, buffer)
@@ -131,7 +130,7 @@ pub fn to_measurement_request_in_ibss(
     index: usize,
     readings: Readings,
     buffer: &mut [u8],
-) -> Wrote
+) -> Result<usize, Refusal>
     ensures { Replied (measurement_reply_in Cell.Ibss own bssid clock index readings frame.now) buffer.old result buffer.new }
 {
     measurement_reply(

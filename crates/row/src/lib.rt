@@ -11,7 +11,7 @@ ghost use Rattle.row.specs.Rows.{free, seated, is_of, ValidRow, row_ticked, row_
 
 use frame::Received;
 pub use hearing::hear_all;
-pub use places::{Place, free_place, place_of};
+pub use places::{free_place, place_of};
 use station::Station;
 pub use ticking::{tick, tick_all};
 

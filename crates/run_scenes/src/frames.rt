@@ -2,14 +2,14 @@
 ghost use Rattle.std.specs.Prelude.{◌≤◌};
 
 use crate::{AP, INTERVAL, OWN};
-use element::ibss_dfs::Pair;
-use frame::{Frame, Reading};
+use frame::Frame;
 use scene::call::Call;
 use scene::made::LONGEST;
 use scene::page::Page;
 use scene::verb::Form;
 use scene::{answers, fields, made, say};
 use std::io::Write;
+use answer::Fault;
 
 // A frame of the AP to the station.
 pub fn of_ap(form: Form, call: Call, frame: &mut [u8]) -> usize
@@ -70,10 +70,10 @@ fn kind<W: Write>(page: &mut Page<W>, frame: Frame) {
 }
 
 // The answer's number, then whether the frame went to all, or where it broke.
-fn answer<W: Write>(page: &mut Page<W>, reading: Reading, broadcast: bool) {
+fn answer<W: Write>(page: &mut Page<W>, reading: Result<Frame, Fault>, broadcast: bool) {
     match reading {
-        Reading::Refused(fault) => answers::fault(page, fault),
-        Reading::Is(_) => {
+        Err(fault) => answers::fault(page, fault),
+        Ok(_) => {
             say::number(page, 0);
             if broadcast {
                 say::text(page, b" to all");
@@ -89,7 +89,7 @@ pub fn read<W: Write>(page: &mut Page<W>, form: Form, call: Call) {
     let received = frame::read(&octets[0..length], OWN, AP, INTERVAL);
     let reading = received.reading;
     answer(page, reading, received.broadcast);
-    if let Reading::Is(frame) = reading {
+    if let Ok(frame) = reading {
         kind(page, frame);
     }
     let slots = received.quiets;
@@ -104,7 +104,7 @@ pub fn read_in_ibss<W: Write>(page: &mut Page<W>, form: Form, call: Call) {
     let received = heard.received;
     let reading = received.reading;
     answer(page, reading, received.broadcast);
-    if let Reading::Is(frame) = reading {
+    if let Ok(frame) = reading {
         say::text(page, b" from");
         let sender = heard.sender;
         say::octets(page, &sender);
@@ -124,8 +124,8 @@ pub fn pair<W: Write>(page: &mut Page<W>, call: Call) {
     let length = of_member(Form::Beacon, call, 2, &mut octets);
     let index = call.numbers[1] as usize;
     match frame::dfs_pair_at(&octets[0..length], OWN, AP, INTERVAL, index) {
-        Pair::Refused(refusal) => say::octet(page, refusal.number()),
-        Pair::Is(pair) => {
+        Err(refusal) => say::octet(page, refusal.number()),
+        Ok(pair) => {
             say::number(page, 0);
             say::octet(page, pair.channel);
             say::octet(page, pair.map);

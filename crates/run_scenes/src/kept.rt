@@ -5,6 +5,7 @@ use scene::verb::Verb;
 use scene::{alone, fields, say};
 use station::Station;
 use std::io::Write;
+use pending::Switch;
 
 // By the verb. One that asks for nothing of a station stands alone.
 pub fn show<W: Write>(page: &mut Page<W>, station: Station, call: Call) {
@@ -15,7 +16,7 @@ pub fn show<W: Write>(page: &mut Page<W>, station: Station, call: Call) {
         Verb::Channel => say::octet(page, station.channel),
         Verb::Clock => say::number(page, station.clock as u64),
         Verb::Constraint => fields::kept(page, power),
-        Verb::Pending => fields::pending(page, pending),
+        Verb::Option<Switch> => fields::pending(page, pending),
         _ => alone::show(page, call),
     }
 }

@@ -2,7 +2,6 @@
 ghost use Rattle.member.specs.Validity.{ValidMember};
 
 use crate::{AP, OWN, frames, kept};
-use answer::Answer;
 use member::{Member, Stepped};
 use owner::Owner;
 use scene::call::Call;
@@ -11,6 +10,8 @@ use scene::verb::{Form, Verb};
 use scene::{answers, last, made, say};
 use station::Station;
 use std::io::Write;
+use answer::Refusal;
+use element::ibss_dfs::ChannelMap;
 
 fn told<W: Write>(page: &mut Page<W>, stepped: Stepped, always: bool) -> Member
     requires { ValidMember stepped.member }
@@ -47,8 +48,8 @@ fn start<W: Write>(page: &mut Page<W>, member: Member, call: Call) -> Member
     let answer = started.answer;
     answers::tell(page, answer, call.expected);
     match answer {
-        Answer::Accepted => started.member,
-        Answer::Refused(_) => member,
+        Ok(()) => started.member,
+        Err(_) => member,
     }
 }
 
@@ -89,7 +90,7 @@ fn asked<W: Write>(page: &mut Page<W>, member: Member, call: Call)
             say::octet(page, permission.number());
         }
         Verb::Read(form) => frames::read_in_ibss(page, form, call),
-        Verb::Pair => frames::pair(page, call),
+        Verb::Result<ChannelMap, Refusal> => frames::pair(page, call),
         Verb::Owner => owner(page, known),
         _ => kept::show(page, station, call),
     }

@@ -2,7 +2,6 @@
 ghost use Rattle.station.specs.Validity.{Valid};
 
 use crate::{AP, OWN, frames, kept};
-use answer::Answer;
 use scene::call::Call;
 use scene::page::Page;
 use scene::replies::{BLANK, ROOM};
@@ -45,8 +44,8 @@ fn start<W: Write>(page: &mut Page<W>, station: Station, call: Call) -> Station
     let answer = started.answer;
     answers::tell(page, answer, call.expected);
     match answer {
-        Answer::Accepted => started.station,
-        Answer::Refused(_) => station,
+        Ok(()) => started.station,
+        Err(_) => station,
     }
 }
 

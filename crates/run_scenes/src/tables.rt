@@ -2,7 +2,7 @@
 ghost use Rattle.table.specs.Validity.{ValidTable};
 
 use crate::{AP, frames, kept};
-use answer::{Answer, Refusal};
+use answer::Refusal;
 use scene::call::Call;
 use scene::page::Page;
 use scene::replies::{BLANK, ROOM};
@@ -45,8 +45,8 @@ fn start<W: Write>(page: &mut Page<W>, table: Table, call: Call) -> Table
     let answer = started.answer;
     answers::tell(page, answer, call.expected);
     match answer {
-        Answer::Accepted => started.table,
-        Answer::Refused(_) => table,
+        Ok(()) => started.table,
+        Err(_) => table,
     }
 }
 

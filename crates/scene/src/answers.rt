@@ -1,13 +1,14 @@
 // What a call is answered with, by its number.
 use crate::page::Page;
 use crate::say;
-use answer::{Answer, Fault, Offset, Verdict};
+use answer::Fault;
 use std::io::Write;
+use answer::Refusal;
 
 // Of a call that only makes the scene ready nothing is told unless it is refused.
-pub fn tell<W: Write>(page: &mut Page<W>, answer: Answer, always: bool) {
+pub fn tell<W: Write>(page: &mut Page<W>, answer: Result<(), Refusal>, always: bool) {
     let number = answer.number();
-    if let Answer::Accepted = answer {
+    if let Ok(()) = answer {
         if !always {
             return;
         }
@@ -21,14 +22,14 @@ pub fn fault<W: Write>(page: &mut Page<W>, fault: Fault) {
     let offset = fault.offset;
     say::octet(page, refusal.number());
     match offset {
-        Offset::Absent => {}
-        Offset::At(before) => say::number(page, before as u64),
+        None => {}
+        Some(before) => say::number(page, before as u64),
     }
 }
 
-pub fn verdict<W: Write>(page: &mut Page<W>, verdict: Verdict) {
+pub fn verdict<W: Write>(page: &mut Page<W>, verdict: Result<(), Fault>) {
     match verdict {
-        Verdict::Accepted => say::number(page, 0),
-        Verdict::Refused(reason) => fault(page, reason),
+        Ok(()) => say::number(page, 0),
+        Err(reason) => fault(page, reason),
     }
 }

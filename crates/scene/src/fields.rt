@@ -1,7 +1,7 @@
 // The fields of each element, and of what a beacon holds.
 use crate::page::Page;
 use crate::say;
-use beacon::{MaybePower, MaybeReport, MaybeSwitch, Notice};
+use beacon::Notice;
 use element::channel_switch::ChannelSwitch;
 use element::ibss_dfs::IbssDfs;
 use element::power_constraint::PowerConstraint;
@@ -9,8 +9,8 @@ use element::quiet::Quiet;
 use element::tpc_report::TpcReport;
 use measurement_element::measurement_report::Reason;
 use measurement_element::{Found, Span, measurement_report, measurement_request};
-use pending::Pending;
 use std::io::Write;
+use pending::Switch;
 
 pub fn power<W: Write>(page: &mut Page<W>, p: PowerConstraint) {
     say::text(page, b" constraint");
@@ -18,18 +18,18 @@ pub fn power<W: Write>(page: &mut Page<W>, p: PowerConstraint) {
 }
 
 // The constraint that a station keeps.
-pub fn kept<W: Write>(page: &mut Page<W>, power: MaybePower) {
+pub fn kept<W: Write>(page: &mut Page<W>, power: Option<PowerConstraint>) {
     match power {
-        MaybePower::Absent => say::text(page, b" none"),
-        MaybePower::Is(constraint) => say::octet(page, constraint.decibels),
+        None => say::text(page, b" none"),
+        Some(constraint) => say::octet(page, constraint.decibels),
     }
 }
 
 // The switch that a station awaits: 0, or its moment, mode and channel.
-pub fn pending<W: Write>(page: &mut Page<W>, pending: Pending) {
+pub fn pending<W: Write>(page: &mut Page<W>, pending: Option<Switch>) {
     match pending {
-        Pending::Nothing => say::number(page, 0),
-        Pending::Switch(switch) => {
+        None => say::number(page, 0),
+        Some(switch) => {
             say::number(page, switch.at);
             say::octet(page, switch.mode);
             say::octet(page, switch.channel);
@@ -85,15 +85,15 @@ pub fn notice<W: Write>(page: &mut Page<W>, n: Notice) {
     say::number(page, n.timestamp);
     say::number(page, n.capability as u64);
     let limit = n.power;
-    if let MaybePower::Is(p) = limit {
+    if let Some(p) = limit {
         power(page, p);
     }
     let told = n.report;
-    if let MaybeReport::Is(t) = told {
+    if let Some(t) = told {
         report(page, t);
     }
     let announced = n.switch;
-    if let MaybeSwitch::Is(s) = announced {
+    if let Some(s) = announced {
         switch(page, s);
     }
 }

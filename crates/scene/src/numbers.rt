@@ -1,15 +1,13 @@
 // The leaves that count: a channel's centre, a signed octet, a busy fraction and eight densities.
 use crate::page::Page;
 use crate::say;
-use channel::Frequency;
-use fraction::Fraction;
 use std::io::Write;
 
 // The answer, and the centre in MHz where there is one.
 pub fn centre<W: Write>(page: &mut Page<W>, channel: u8) {
     match channel::centre(channel) {
-        Frequency::Refused(refusal) => say::octet(page, refusal.number()),
-        Frequency::Megahertz(centre) => {
+        Err(refusal) => say::octet(page, refusal.number()),
+        Ok(centre) => {
             say::number(page, 0);
             say::number(page, centre as u64);
         }
@@ -45,8 +43,8 @@ pub fn signed<W: Write>(page: &mut Page<W>, octet: u8) {
 // The answer, and the fraction where there is one.
 pub fn busy<W: Write>(page: &mut Page<W>, time: u32, duration: u16) {
     match fraction::busy_fraction(time, duration) {
-        Fraction::Refused(refusal) => say::octet(page, refusal.number()),
-        Fraction::Is(share) => {
+        Err(refusal) => say::octet(page, refusal.number()),
+        Ok(share) => {
             say::number(page, 0);
             say::octet(page, share);
         }

@@ -7,8 +7,8 @@ use std::io::Write;
 
 fn power<W: Write>(page: &mut Page<W>, contents: &[u8]) {
     match power_constraint::read(contents) {
-        power_constraint::Reading::Refused(r) => say::octet(page, r.number()),
-        power_constraint::Reading::Is(p) => {
+        Err(r) => say::octet(page, r.number()),
+        Ok(p) => {
             say::number(page, 0);
             fields::power(page, p);
         }
@@ -17,15 +17,15 @@ fn power<W: Write>(page: &mut Page<W>, contents: &[u8]) {
 
 fn request<W: Write>(page: &mut Page<W>, contents: &[u8]) {
     match tpc_request::read(contents) {
-        tpc_request::Reading::Refused(r) => say::octet(page, r.number()),
-        tpc_request::Reading::Is => say::number(page, 0),
+        Err(r) => say::octet(page, r.number()),
+        Ok(()) => say::number(page, 0),
     }
 }
 
 fn report<W: Write>(page: &mut Page<W>, contents: &[u8]) {
     match tpc_report::read(contents) {
-        tpc_report::Reading::Refused(r) => say::octet(page, r.number()),
-        tpc_report::Reading::Is(t) => {
+        Err(r) => say::octet(page, r.number()),
+        Ok(t) => {
             say::number(page, 0);
             fields::report(page, t);
         }
@@ -34,8 +34,8 @@ fn report<W: Write>(page: &mut Page<W>, contents: &[u8]) {
 
 fn switch<W: Write>(page: &mut Page<W>, contents: &[u8]) {
     match channel_switch::read(contents) {
-        channel_switch::Reading::Refused(r) => say::octet(page, r.number()),
-        channel_switch::Reading::Is(s) => {
+        Err(r) => say::octet(page, r.number()),
+        Ok(s) => {
             say::number(page, 0);
             fields::switch(page, s);
         }
@@ -44,8 +44,8 @@ fn switch<W: Write>(page: &mut Page<W>, contents: &[u8]) {
 
 fn quiet_of<W: Write>(page: &mut Page<W>, contents: &[u8], interval: u16) {
     match quiet::read(contents, interval) {
-        quiet::Reading::Refused(r) => say::octet(page, r.number()),
-        quiet::Reading::Is(q) => {
+        Err(r) => say::octet(page, r.number()),
+        Ok(q) => {
             say::number(page, 0);
             fields::quiet(page, q);
         }
@@ -54,8 +54,8 @@ fn quiet_of<W: Write>(page: &mut Page<W>, contents: &[u8], interval: u16) {
 
 fn asked<W: Write>(page: &mut Page<W>, contents: &[u8]) {
     match measurement_request::read(contents) {
-        measurement_request::Reading::Refused(r) => say::octet(page, r.number()),
-        measurement_request::Reading::Is(r) => {
+        Err(r) => say::octet(page, r.number()),
+        Ok(r) => {
             say::number(page, 0);
             say::octet(page, r.token);
             say::octet(page, r.kind);

@@ -8,8 +8,8 @@ use crate::verb::Reply;
 use crate::{last, say};
 use element::tpc_report::TpcReport;
 use measured_report::{Finding, Readings};
-use octets::Wrote;
 use std::io::Write;
+use answer::Refusal;
 
 // Every buffer is lent full of this octet, so that one that is changed shows.
 pub const BLANK: u8 = 170;
@@ -101,13 +101,13 @@ fn octets<W: Write>(page: &mut Page<W>, buffer: &[u8], count: usize) {
     }
 }
 
-pub fn tell<W: Write>(page: &mut Page<W>, wrote: Wrote, buffer: &[u8; ROOM]) {
+pub fn tell<W: Write>(page: &mut Page<W>, wrote: Result<usize, Refusal>, buffer: &[u8; ROOM]) {
     match wrote {
-        Wrote::Refused(refusal) => {
+        Err(refusal) => {
             say::octet(page, refusal.number());
             octets(page, buffer, 0);
         }
-        Wrote::Length(count) => {
+        Ok(count) => {
             say::number(page, 0);
             say::number(page, count as u64);
             octets(page, buffer, count);

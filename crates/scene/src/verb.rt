@@ -1,3 +1,7 @@
+
+use answer::Refusal;
+use element::ibss_dfs::ChannelMap;
+use pending::Switch;
 // What a line asks for, by its first word, and by the second too where it begins a scene.
 // What a scene plays.
 #[derive(Clone, Copy)]
@@ -36,12 +40,12 @@ pub enum Verb {
     Channel,
     Clock,
     Constraint,
-    Pending,
+    Option<Switch>,
     Owner,
     Row,
     Take(Form),
     Read(Form),
-    Pair,
+    Result<ChannelMap, Refusal>,
     Reply(Reply),
     Contents,
     Write,
@@ -84,7 +88,7 @@ fn asking(word: &[u8]) -> Verb {
         b"channel" => Verb::Channel,
         b"clock" => Verb::Clock,
         b"constraint" => Verb::Constraint,
-        b"pending" => Verb::Pending,
+        b"pending" => Verb::Option<Switch>,
         b"owner" => Verb::Owner,
         _ => framing(word),
     }
@@ -97,7 +101,7 @@ fn framing(word: &[u8]) -> Verb {
         b"read-action" => Verb::Read(Form::Action),
         b"read-beacon" => Verb::Read(Form::Beacon),
         b"read-probe" => Verb::Read(Form::Probe),
-        b"pair" => Verb::Pair,
+        b"pair" => Verb::Result<ChannelMap, Refusal>,
         b"reply-tpc" => Verb::Reply(Reply::Tpc),
         b"reply-measurement" => Verb::Reply(Reply::Measurement),
         _ => counting(word),

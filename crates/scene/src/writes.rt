@@ -12,8 +12,8 @@ use element::{channel_switch, power_constraint, quiet, tpc_report, tpc_request};
 use measurement_element::measurement_report::{Reason, Report};
 use measurement_element::measurement_request::Request;
 use measurement_element::{Found, Span, measurement_report, measurement_request};
-use octets::Wrote;
 use std::io::Write;
+use answer::Refusal;
 
 // The fields from these places on, in the order of the element.
 fn span(n: [u64; 16], at: usize) -> Span
@@ -56,13 +56,13 @@ fn said(n: [u64; 16]) -> measurement_report::Matter {
     }
 }
 
-fn report(n: [u64; 16], buffer: &mut [u8], at: usize) -> Wrote {
+fn report(n: [u64; 16], buffer: &mut [u8], at: usize) -> Result<usize, Refusal> {
     let power = octets::to_signed(last::one(n[4]));
     let margin = octets::to_signed(last::one(n[5]));
     tpc_report::write(TpcReport { power, margin }, buffer, at)
 }
 
-fn switch(n: [u64; 16], buffer: &mut [u8], at: usize) -> Wrote {
+fn switch(n: [u64; 16], buffer: &mut [u8], at: usize) -> Result<usize, Refusal> {
     channel_switch::write(
         ChannelSwitch {
             mode: last::one(n[4]),
@@ -74,7 +74,7 @@ fn switch(n: [u64; 16], buffer: &mut [u8], at: usize) -> Wrote {
     )
 }
 
-fn quiet_of(n: [u64; 16], buffer: &mut [u8], at: usize) -> Wrote {
+fn quiet_of(n: [u64; 16], buffer: &mut [u8], at: usize) -> Result<usize, Refusal> {
     quiet::write(
         Quiet {
             count: last::one(n[5]),
@@ -88,7 +88,7 @@ fn quiet_of(n: [u64; 16], buffer: &mut [u8], at: usize) -> Wrote {
     )
 }
 
-fn request_of(n: [u64; 16], buffer: &mut [u8], at: usize) -> Wrote {
+fn request_of(n: [u64; 16], buffer: &mut [u8], at: usize) -> Result<usize, Refusal> {
     let matter = asked(n);
     measurement_request::write(
         Request {
@@ -101,7 +101,7 @@ fn request_of(n: [u64; 16], buffer: &mut [u8], at: usize) -> Wrote {
     )
 }
 
-fn report_of(n: [u64; 16], densities: [u8; 8], buffer: &mut [u8], at: usize) -> Wrote {
+fn report_of(n: [u64; 16], densities: [u8; 8], buffer: &mut [u8], at: usize) -> Result<usize, Refusal> {
     let matter = said(n);
     measurement_report::write(
         Report {
@@ -121,7 +121,7 @@ fn written<W: Write>(
     n: [u64; 16],
     densities: [u8; 8],
     buffer: &mut [u8],
-) -> Wrote {
+) -> Result<usize, Refusal> {
     let at = n[3] as usize;
     let id = last::one(n[1]);
     match id {
@@ -137,15 +137,15 @@ fn written<W: Write>(
         quiet::ID => quiet_of(n, buffer, at),
         _ => {
             say::text(page, b" unknown");
-            Wrote::Length(0)
+            Ok(0)
         }
     }
 }
 
-fn tell<W: Write>(page: &mut Page<W>, wrote: Wrote, buffer: &[u8; 32]) {
+fn tell<W: Write>(page: &mut Page<W>, wrote: Result<usize, Refusal>, buffer: &[u8; 32]) {
     match wrote {
-        Wrote::Refused(refusal) => say::octet(page, refusal.number()),
-        Wrote::Length(count) => {
+        Err(refusal) => say::octet(page, refusal.number()),
+        Ok(count) => {
             say::number(page, 0);
             say::number(page, count as u64);
         }

@@ -1,4 +1,5 @@
 -- The ways of a body of one element. Assumes nothing.
+use Rattle.std.specs.Prelude.{Ok, Err}
 use mathlib.Core.Path.{◌≡◌, refl, sym, ap, ap₂, ◌∙◌}
 use mathlib.Core.Bool.{true, false}
 use mathlib.Core.List.{List}
@@ -6,7 +7,7 @@ use Prim.Native.Nat.{ℕ, ◌-◌}
 use borrow.Author.Tests.{ltb-true, ltb-false}
 use lib.Dec.{ltb}
 use lib.ListN.{length, take, drop}
-use Rattle.answer.specs.Checks.{Outcome, refused, accepted, and_then}
+use Rattle.answer.specs.Checks.{Outcome, and_then}
 use Rattle.answer.specs.Faults.{fault_at, Placed, placed_at}
 use Rattle.answer.specs.declared.Fault.{Fault}
 use Rattle.answer.specs.declared.Refusal.{Refusal}
@@ -28,7 +29,7 @@ module _ {A : Type 0} (n id : ℕ) (means : List ℕ → Outcome A) where
   unfolding single
   by_element hs e = ap (λ (o : Outcome Standing). and_then (placed_at n o) onward) (sym e)
 
-  pub not_there : (hs : Handed) {r : Refusal} → required id hs ≡ refused r → refused (fault_at n r) ≡ single n id means hs
+  pub not_there : (hs : Handed) {r : Refusal} → required id hs ≡ Err r → Err (fault_at n r) ≡ single n id means hs
   not_there hs e = by_element hs e
 
   module _ {body : List ℕ} {start stop : ℕ} (l : Lies body n id start stop) where
@@ -39,30 +40,30 @@ module _ {A : Type 0} (n id : ℕ) (means : List ℕ → Outcome A) where
     by_contents m =
         ap₂ (λ (x : Placed A) (k : ℕ). and_then x (nothing_left k (passing_in (drop stop body)))) m (sym (past l)) ∙ by_element (handed_in (drop n body)) l.stands
 
-    pub bad : {x : Fault} → refused x ≡ meant → refused x ≡ single n id means (handed_in (drop n body))
+    pub bad : {x : Fault} → Err x ≡ meant → Err x ≡ single n id means (handed_in (drop n body))
     bad m = by_contents m
 
-    module _ {a : A} (m : accepted a ≡ meant) where
+    module _ {a : A} (m : Ok a ≡ meant) where
       -- where the walk stands past what is passed over
       abbrev next : Next
       next = next_after stop (passing_in (drop stop body))
 
-      pub cut_after : next.cut ≡ true → refused (fault_at next.at Refusal.ElementCut) ≡ single n id means (handed_in (drop n body))
+      pub cut_after : next.cut ≡ true → Err (fault_at next.at Refusal.ElementCut) ≡ single n id means (handed_in (drop n body))
       cut_after h = sym (left_cut a (passing_in (drop stop body)) stop h) ∙ by_contents m
 
-      pub crowded : next.cut ≡ false → ltb next.at (length body) ≡ true → refused (fault_at next.at Refusal.LeftOver) ≡ single n id means (handed_in (drop n body))
+      pub crowded : next.cut ≡ false → ltb next.at (length body) ≡ true → Err (fault_at next.at Refusal.LeftOver) ≡ single n id means (handed_in (drop n body))
       crowded whole-ones h = sym (left_over a body stop whole-ones (ltb-true next.at (length body) h)) ∙ by_contents m
 
-      pub good : next.cut ≡ false → ltb next.at (length body) ≡ false → accepted a ≡ single n id means (handed_in (drop n body))
+      pub good : next.cut ≡ false → ltb next.at (length body) ≡ false → Ok a ≡ single n id means (handed_in (drop n body))
       good whole-ones h = sym (none_left a body stop whole-ones (ltb-false next.at (length body) h)) ∙ by_contents m
 
 -- what is made of the one element may be made of what its contents mean
 pub made : {A B : Type 0} (n id : ℕ) (means : List ℕ → Outcome A) (make : A → B) (hs : Handed)
-    → single n id (λ c. and_then (means c) (λ a. accepted (make a))) hs ≡ and_then (single n id means hs) (λ a. accepted (make a))
+    → single n id (λ c. and_then (means c) (λ a. Ok (make a))) hs ≡ and_then (single n id means hs) (λ a. Ok (make a))
 unfolding single nothing_left
 made {A} {B} n id means make hs = by_element_found (required id hs)
   where
-    by_rest : (k : ℕ) (rest : Handed) (a : A) → nothing_left k rest (make a) ≡ and_then (nothing_left k rest a) (λ x. accepted (make x))
+    by_rest : (k : ℕ) (rest : Handed) (a : A) → nothing_left k rest (make a) ≡ and_then (nothing_left k rest a) (λ x. Ok (make x))
     by_rest k end a = refl
     by_rest k cut_header a = refl
     by_rest k (cut_contents i) a = refl
@@ -71,11 +72,11 @@ made {A} {B} n id means make hs = by_element_found (required id hs)
     by_rest k cut_passed a = refl
 
     by_meaning : (k : ℕ) (rest : Handed) (o : Outcome A)
-        → and_then (placed_at n (and_then o (λ a. accepted (make a)))) (nothing_left k rest) ≡ and_then (and_then (placed_at n o) (nothing_left k rest)) (λ a. accepted (make a))
-    by_meaning k rest (refused r) = refl
-    by_meaning k rest (accepted a) = by_rest k rest a
+        → and_then (placed_at n (and_then o (λ a. Ok (make a)))) (nothing_left k rest) ≡ and_then (and_then (placed_at n o) (nothing_left k rest)) (λ a. Ok (make a))
+    by_meaning k rest (Err r) = refl
+    by_meaning k rest (Ok a) = by_rest k rest a
 
     by_element_found : (o : Outcome Standing)
-        → and_then (placed_at n o) (onward n id (λ c. and_then (means c) (λ a. accepted (make a)))) ≡ and_then (and_then (placed_at n o) (onward n id means)) (λ a. accepted (make a))
-    by_element_found (refused r) = refl
-    by_element_found (accepted s) = by_meaning (past_element n s.contents) s.rest (means s.contents)
+        → and_then (placed_at n o) (onward n id (λ c. and_then (means c) (λ a. Ok (make a)))) ≡ and_then (and_then (placed_at n o) (onward n id means)) (λ a. Ok (make a))
+    by_element_found (Err r) = refl
+    by_element_found (Ok s) = by_meaning (past_element n s.contents) s.rest (means s.contents)

@@ -6,5 +6,5 @@ mod reading;
 mod writing;
 
 pub use kinds::{Kind, Single};
-pub use reading::{Reading, read};
+pub use reading::read;
 pub use writing::{write_channel_switch, write_tpc_report, write_tpc_request};

@@ -3,7 +3,7 @@
 ghost use Rattle.std.specs.Prelude.{◌≡◌, drop};
 ghost use Rattle.answer.specs.Faults.{placed_at};
 ghost use Rattle.walk.specs.Handed.{handed_in};
-ghost use Rattle.single_body.specs.Kinds.{single_told, contents_mean, id_of, fields_before};
+ghost use Rattle.single_body.specs.Kinds.{contents_mean, id_of, fields_before};
 ghost use Rattle.single_body.specs.Singles.{single};
 
 use crate::kinds::{Kind, Single};
@@ -11,51 +11,45 @@ use answer::{Fault, Refusal};
 use element::{channel_switch, tpc_report, tpc_request};
 use walk::Required;
 
-#[derive(Clone, Copy)]
-pub enum Reading {
-    Refused(Fault),
-    Is(Single),
-}
-
 // What the contents of the element say. A fault of theirs is the element's, which has `at` octets before it.
-fn read_contents(kind: Kind, contents: &[u8], at: usize) -> Reading
-    ensures { single_told result ≡ placed_at at (contents_mean kind contents.now) }
+fn read_contents(kind: Kind, contents: &[u8], at: usize) -> Result<Single, Fault>
+    ensures { result ≡ placed_at at (contents_mean kind contents.now) }
 {
     match kind {
         Kind::TpcRequest => match tpc_request::read(contents) {
-            tpc_request::Reading::Refused(refusal) => Reading::Refused(Fault::at(refusal, at)),
-            tpc_request::Reading::Is => Reading::Is(Single::TpcRequest),
+            Err(refusal) => Err(Fault::at(refusal, at)),
+            Ok(()) => Ok(Single::TpcRequest),
         },
         Kind::TpcReport => match tpc_report::read(contents) {
-            tpc_report::Reading::Refused(refusal) => Reading::Refused(Fault::at(refusal, at)),
-            tpc_report::Reading::Is(report) => Reading::Is(Single::TpcReport(report)),
+            Err(refusal) => Err(Fault::at(refusal, at)),
+            Ok(report) => Ok(Single::TpcReport(report)),
         },
         Kind::ChannelSwitch => match channel_switch::read(contents) {
-            channel_switch::Reading::Refused(refusal) => Reading::Refused(Fault::at(refusal, at)),
-            channel_switch::Reading::Is(switch) => Reading::Is(Single::ChannelSwitch(switch)),
+            Err(refusal) => Err(Fault::at(refusal, at)),
+            Ok(switch) => Ok(Single::ChannelSwitch(switch)),
         },
     }
 }
 
 // The one element of a body, after its fixed fields.
-pub fn read(body: &[u8], kind: Kind) -> Reading
-    ensures { single_told result ≡ single (fields_before kind) (id_of kind) (contents_mean kind) (handed_in (drop (fields_before kind) body.now)) }
+pub fn read(body: &[u8], kind: Kind) -> Result<Single, Fault>
+    ensures { result ≡ single (fields_before kind) (id_of kind) (contents_mean kind) (handed_in (drop (fields_before kind) body.now)) }
 {
     let at = kind.fixed_fields();
     let id = kind.id();
     match walk::required_at(body, at, id) {
-        Required::Refused(refusal) => Reading::Refused(Fault::at(refusal, at)),
+        Required::Refused(refusal) => Err(Fault::at(refusal, at)),
         Required::Contents { start, end } => match read_contents(kind, &body[start..end], at) {
-            Reading::Refused(fault) => Reading::Refused(fault),
-            Reading::Is(said) => {
+            Err(fault) => Err(fault),
+            Ok(said) => {
                 let next = walk::pass_over(body, end);
                 if next.cut {
-                    return Reading::Refused(Fault::at(Refusal::ElementCut, next.at));
+                    return Err(Fault::at(Refusal::ElementCut, next.at));
                 }
                 if walk::has_left_over(body, next.at) {
-                    return Reading::Refused(Fault::at(Refusal::LeftOver, next.at));
+                    return Err(Fault::at(Refusal::LeftOver, next.at));
                 }
-                Reading::Is(said)
+                Ok(said)
             }
         },
     }

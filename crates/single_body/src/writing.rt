@@ -7,10 +7,10 @@ ghost use Rattle.single_body.specs.Singles.{tpc_request_body, tpc_report_body, s
 use element::channel_switch::ChannelSwitch;
 use element::tpc_report::TpcReport;
 use element::{channel_switch, tpc_report, tpc_request};
-use octets::Wrote;
+use answer::Refusal;
 
 // The body of a TPC Request frame from a place on; token 0 is refused.
-pub fn write_tpc_request(token: u8, buffer: &mut [u8], at: usize) -> Wrote
+pub fn write_tpc_request(token: u8, buffer: &mut [u8], at: usize) -> Result<usize, Refusal>
     ensures { Written (not (eqb token 0)) (tpc_request_body token) at buffer.old result buffer.new }
 {
     let body = [0, 2, token, tpc_request::ID, 0];
@@ -18,7 +18,7 @@ pub fn write_tpc_request(token: u8, buffer: &mut [u8], at: usize) -> Wrote
 }
 
 // The body of a TPC Report frame from a place on.
-pub fn write_tpc_report(token: u8, report: TpcReport, buffer: &mut [u8], at: usize) -> Wrote
+pub fn write_tpc_report(token: u8, report: TpcReport, buffer: &mut [u8], at: usize) -> Result<usize, Refusal>
     ensures { Written true (tpc_report_body token report) at buffer.old result buffer.new }
 {
     let power = report.power;
@@ -36,7 +36,7 @@ pub fn write_tpc_report(token: u8, report: TpcReport, buffer: &mut [u8], at: usi
 }
 
 // The body of a Channel Switch Announcement frame from a place on.
-pub fn write_channel_switch(switch: ChannelSwitch, buffer: &mut [u8], at: usize) -> Wrote
+pub fn write_channel_switch(switch: ChannelSwitch, buffer: &mut [u8], at: usize) -> Result<usize, Refusal>
     ensures { Written (switch_may switch) (switch_body switch) at buffer.old result buffer.new }
 {
     let body = [

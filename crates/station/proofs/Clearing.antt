@@ -1,4 +1,5 @@
 -- Where nothing stands against sending, questions are granted, and the clock does not change that. Assumes nothing.
+use Rattle.std.specs.Prelude.{Some, None, Option}
 use mathlib.Core.Bool.{Bool, true, false}
 use mathlib.Core.Path.{◌≡◌, refl, sym, ap}
 use Prim.Native.Nat.{ℕ, ◌+◌, ◌-◌, ◌≤◌}
@@ -7,7 +8,6 @@ use borrow.Author.Tests.{ne_eqb, le-ltb, ltb-false}
 use lib.Dec.{ltb}
 use Rattle.answer.specs.Checks.{pick}
 use Rattle.pending.specs.Waiting.{silences, up_to, comes_before}
-use Rattle.pending.specs.declared.Pending.{Pending}
 use Rattle.schedule.proofs.FirstUnit.{some_none, first_has}
 use Rattle.station.specs.Asking.{quiet, first_quiet, permission_of}
 use Rattle.station.specs.Clear.{Clear, clear_until}
@@ -16,39 +16,40 @@ use Rattle.station.specs.Validity.{PendingFits}
 use Rattle.station.specs.declared.Station.{Station}
 use Rattle.station.specs.declared.asking.Permission.{Permission}
 use Rattle.station.proofs.Answers.{past, done}
+use Rattle.pending.specs.declared.Switch.{Switch}
 
 -- ---- the pending switch
 
 -- one that does not come before a moment does not come before an earlier one
-not_before : (p : Pending) {c e : ℕ} → comes_before p c ≡ false → e ≤ c → comes_before p e ≡ false
-not_before Pending.Nothing f h = refl
-not_before (Pending.Switch x) {c} {e} f h = le-ltb x.at e (let g = ltb-false x.at c f in omega (arith, g, h))
+not_before : (p : Option Switch) {c e : ℕ} → comes_before p c ≡ false → e ≤ c → comes_before p e ≡ false
+not_before None f h = refl
+not_before (Some x) {c} {e} f h = le-ltb x.at e (let g = ltb-false x.at c f in omega (arith, g, h))
 
-not_cut : (p : Pending) {e : ℕ} → comes_before p e ≡ false → up_to p e ≡ e
-not_cut Pending.Nothing f = refl
-not_cut (Pending.Switch x) {e} f = ap (λ (b : Bool). pick b x.at e) f
+not_cut : (p : Option Switch) {e : ℕ} → comes_before p e ≡ false → up_to p e ≡ e
+not_cut None f = refl
+not_cut (Some x) {e} f = ap (λ (b : Bool). pick b x.at e) f
 
 -- up to it, it does not come
-up_to_it : (p : Pending) {t e : ℕ} → PendingFits t p → t ≤ e → (t ≤ up_to p e) × (comes_before p (up_to p e) ≡ false)
-up_to_it Pending.Nothing f h = (h, refl)
-up_to_it (Pending.Switch x) {t} {e} f h = by (ltb x.at e) refl
+up_to_it : (p : Option Switch) {t e : ℕ} → PendingFits t p → t ≤ e → (t ≤ up_to p e) × (comes_before p (up_to p e) ≡ false)
+up_to_it None f h = (h, refl)
+up_to_it (Some x) {t} {e} f h = by (ltb x.at e) refl
   where
     by : (b : Bool) → ltb x.at e ≡ b → (t ≤ pick b x.at e) × (ltb x.at (pick b x.at e) ≡ false)
     by true g = (omega (arith, f), le-ltb x.at x.at (omega arith))
     by false g = (h, g)
 
-not_yet : (t : ℕ) (p : Pending) → PendingFits t p → comes_before p t ≡ false
-not_yet t Pending.Nothing f = refl
-not_yet t (Pending.Switch x) f = le-ltb x.at t (omega (arith, f))
+not_yet : (t : ℕ) (p : Option Switch) → PendingFits t p → comes_before p t ≡ false
+not_yet t None f = refl
+not_yet t (Some x) f = le-ltb x.at t (omega (arith, f))
 
 -- ---- where it is clear
 
 pub nothing_clear : (s : Station) → Clear s 0
 nothing_clear s = record { free = λ u l h. absurd (omega arith); unsilenced = λ h. absurd (omega arith); before_switch = never s.pending }
   where
-    never : (p : Pending) → comes_before p 0 ≡ false
-    never Pending.Nothing = refl
-    never (Pending.Switch x) = le-ltb x.at 0 (omega arith)
+    never : (p : Option Switch) → comes_before p 0 ≡ false
+    never None = refl
+    never (Some x) = le-ltb x.at 0 (omega arith)
 
 pub until_clear : (s : Station) → PendingFits s.clock s.pending → Clear s (clear_until s)
 unfolding clear_until

@@ -1,4 +1,5 @@
 -- What no call changes of a record: by these a station reads frames. Assumes nothing.
+use Rattle.std.specs.Prelude.{Some, None, Option}
 use mathlib.Core.Bool.{Bool, true, false}
 use mathlib.Core.List.{List}
 use mathlib.Core.Path.{◌≡◌, refl, ap, ◌∙◌}
@@ -6,8 +7,6 @@ use Prim.Native.Nat.{ℕ}
 use lib.Dec.{eqb}
 use Rattle.answer.specs.Checks.{pick}
 use Rattle.beacon.specs.Beacons.{Told}
-use Rattle.beacon.specs.declared.MaybePower.{MaybePower}
-use Rattle.beacon.specs.declared.MaybeSwitch.{MaybeSwitch}
 use Rattle.element.specs.declared.channel_switch.ChannelSwitch.{ChannelSwitch}
 use Rattle.frame.specs.Actions.{requests, reports, tpc_request, tpc_report, switch}
 use Rattle.frame.specs.Frames.{Kind, beacon, probe_response, action}
@@ -17,6 +16,7 @@ use Rattle.station.specs.Stations.{with_pending, with_until}
 use Rattle.station.specs.Taking.{passed, outlasting, rescheduled, constrained, announced, announced_if, informed, heard}
 use Rattle.station.specs.declared.Station.{Station}
 use Rattle.station.specs.declared.clock.Advanced.{Advanced}
+use Rattle.element.specs.declared.power_constraint.PowerConstraint.{PowerConstraint}
 
 -- its two addresses and its beacon interval
 abbrev pub KeptThroughout : Type 0
@@ -40,13 +40,13 @@ announced_unchanged r w = by_count (eqb w.count 0)
     by_count true = refl
     by_count false = refl
 
-announced_if_unchanged : (r : Station) (m : MaybeSwitch) → unchanged (announced_if r m) ≡ unchanged r
-announced_if_unchanged r MaybeSwitch.Absent = refl
-announced_if_unchanged r (MaybeSwitch.Is w) = announced_unchanged r w
+announced_if_unchanged : (r : Station) (m : Option ChannelSwitch) → unchanged (announced_if r m) ≡ unchanged r
+announced_if_unchanged r None = refl
+announced_if_unchanged r (Some w) = announced_unchanged r w
 
-constrained_unchanged : (r : Station) (m : MaybePower) → unchanged (constrained r m) ≡ unchanged r
-constrained_unchanged r MaybePower.Absent = refl
-constrained_unchanged r (MaybePower.Is p) = refl
+constrained_unchanged : (r : Station) (m : Option PowerConstraint) → unchanged (constrained r m) ≡ unchanged r
+constrained_unchanged r None = refl
+constrained_unchanged r (Some p) = refl
 
 informed_unchanged : (r : Station) (t : Told) → unchanged (informed r t) ≡ unchanged r
 unfolding informed

@@ -1,4 +1,5 @@
 -- The one way of every frame through a station comes to what each kind of frame changes. Assumes nothing.
+use Rattle.std.specs.Prelude.{Some, None, Option}
 use mathlib.Core.Bool.{Bool, true, false}
 use mathlib.Core.List.{List, [], ◌∷◌, ◌++◌}
 use mathlib.Core.Logic.{⊎_elim}
@@ -12,8 +13,6 @@ use lib.Seq.{take_at, drop_at, drop-drop, take-add}
 use Rattle.answer.proofs.Booleans.{clash, either}
 use Rattle.answer.specs.Checks.{pick}
 use Rattle.beacon.specs.Beacons.{quiet_limit}
-use Rattle.beacon.specs.declared.MaybePower.{MaybePower}
-use Rattle.beacon.specs.declared.MaybeSwitch.{MaybeSwitch}
 use Rattle.element.specs.declared.quiet.Quiet.{Quiet}
 use Rattle.frame.specs.declared.hearing.Change.{Change}
 use Rattle.schedule.proofs.Ends.{once_begun}
@@ -29,6 +28,8 @@ use Rattle.station.specs.declared.Station.{Station}
 use Rattle.station.specs.declared.changing.Rest.{Rest}
 use Rattle.station.specs.declared.replacing.Extent.{Extent}
 use Rattle.station.proofs.SlotBySlot.{as_many}
+use Rattle.element.specs.declared.power_constraint.PowerConstraint.{PowerConstraint}
+use Rattle.element.specs.declared.channel_switch.ChannelSwitch.{ChannelSwitch}
 
 -- ---- blank slots
 
@@ -104,21 +105,21 @@ extent_fits false false before count h k = (lit≤ tt, h)
 
 -- ---- the rest of a station, where the announcement is none or not the switch itself
 
-told : (s : Station) (p : MaybePower) (m : MaybeSwitch) → at_once m ≡ false
+told : (s : Station) (p : Option PowerConstraint) (m : Option ChannelSwitch) → at_once m ≡ false
     → with_rest s (rest_announced (rest_constrained (rest_of s s.until) p) m) s.schedules s.count ≡ announced_if (constrained s p) m
 unfolding announced
-told s MaybePower.Absent MaybeSwitch.Absent e = refl
-told s (MaybePower.Is p) MaybeSwitch.Absent e = refl
-told s MaybePower.Absent (MaybeSwitch.Is w) e = rw e refl
-told s (MaybePower.Is p) (MaybeSwitch.Is w) e = rw e refl
+told s None None e = refl
+told s (Some p) None e = refl
+told s None (Some w) e = rw e refl
+told s (Some p) (Some w) e = rw e refl
 
 -- a switch leaves the same of a station, whatever was replaced before it
-switched_same : (b : Bool) (s : Station) (qs : List Quiet) (p : MaybePower) (channel : ℕ)
+switched_same : (b : Bool) (s : Station) (qs : List Quiet) (p : Option PowerConstraint) (channel : ℕ)
     → switched s channel ≡ switched (constrained (replaced_if b s qs) p) channel
-switched_same true s qs MaybePower.Absent channel = refl
-switched_same true s qs (MaybePower.Is p) channel = refl
-switched_same false s qs MaybePower.Absent channel = refl
-switched_same false s qs (MaybePower.Is p) channel = refl
+switched_same true s qs None channel = refl
+switched_same true s qs (Some p) channel = refl
+switched_same false s qs None channel = refl
+switched_same false s qs (Some p) channel = refl
 
 module _ (s : Station) (quiets : List Quiet) where
   abbrev lasting : Extent → ℕ
@@ -170,12 +171,12 @@ module _ (s : Station) (v : Valid s) (quiets : List Quiet) (count : ℕ) (few : 
       ∙ laid_over s.count (slotted []) s.schedules
       (v.rest_blank ∙ sym (from_m (slotted []) 0 s.count (omega arith) v.few (blank_past [])))
 
-  at_once_lem : (r : Rest) (b : Bool) (p : MaybePower) (m : MaybeSwitch) → at_once m ≡ true
+  at_once_lem : (r : Rest) (b : Bool) (p : Option PowerConstraint) (m : Option ChannelSwitch) → at_once m ≡ true
       → let x = extent_of true b s.count count in
       with_rest s (rest_announced r m) (slots_by s quiets x) x.used ≡ announced_if (constrained (replaced_if b s (take count quiets)) p) m
   unfolding announced
-  at_once_lem r b p MaybeSwitch.Absent y = clash (sym y)
-  at_once_lem r b p (MaybeSwitch.Is w) y =
+  at_once_lem r b p None y = clash (sym y)
+  at_once_lem r b p (Some w) y =
       rw (y, none_left (extent_of true b s.count count) refl) (switched_same b s (take count quiets) p w.channel)
 
   pub one_way : (c : Change) → gone_over s quiets c (extent_of (at_once c.switch) c.replaces s.count count) ≡ changed s c (take count quiets)

@@ -1,4 +1,5 @@
 -- An accepted start gives a valid station, and a step of the clock and an accepted frame keep it. Assumes nothing.
+use Rattle.std.specs.Prelude.{Some, None, Option}
 use mathlib.Core.Bool.{Bool, true, false, ◌||◌}
 use mathlib.Core.List.{List, []}
 use mathlib.Core.Logic.{⊎_elim}
@@ -14,8 +15,6 @@ use Rattle.answer.proofs.Booleans.{either, neither}
 use Rattle.answer.specs.Checks.{pick}
 use Rattle.beacon.specs.Allowed.{SwitchAllowed, Allowed}
 use Rattle.beacon.specs.Beacons.{quiet_limit, Told, tells}
-use Rattle.beacon.specs.declared.MaybePower.{MaybePower}
-use Rattle.beacon.specs.declared.MaybeSwitch.{MaybeSwitch}
 use Rattle.channel.specs.Centres.{highest}
 use Rattle.element.specs.ChannelSwitch.{switch_forbids}
 use Rattle.element.specs.declared.channel_switch.ChannelSwitch.{ChannelSwitch}
@@ -24,7 +23,6 @@ use Rattle.frame.specs.Allowed.{FrameAllowed}
 use Rattle.frame.specs.declared.Frame.{Frame}
 use Rattle.octets.specs.Numbers.{bit, octet}
 use Rattle.pending.specs.Waiting.{pending_by}
-use Rattle.pending.specs.declared.Pending.{Pending}
 use Rattle.schedule.specs.Schedules.{set_by}
 use Rattle.schedule.specs.declared.Schedule.{Schedule}
 use Rattle.station.specs.Clock.{stepped, switched, reached, clock_advance, advanced_to, advance_means, advance_of}
@@ -34,6 +32,8 @@ use Rattle.station.specs.Taking.{passed, schedules_of, outlasting, rescheduled, 
 use Rattle.station.specs.Validity.{PendingFits, Valid}
 use Rattle.station.specs.declared.Station.{Station}
 use Rattle.station.specs.declared.clock.Advanced.{Advanced}
+use Rattle.element.specs.declared.power_constraint.PowerConstraint.{PowerConstraint}
+use Rattle.pending.specs.declared.Switch.{Switch}
 
 pub valid_fresh : (own ap : List ℕ) (b channel : ℕ) → start_forbids own ap b channel ≡ false → Valid (fresh own ap b channel)
 valid_fresh own ap b channel e =
@@ -80,7 +80,7 @@ module _ (s : Station) (v : Valid s) where
         rest_blank = v.rest_blank;
       }
 
-  valid_power : (p : MaybePower) → Valid (with_power s p)
+  valid_power : (p : Option PowerConstraint) → Valid (with_power s p)
   valid_power p =
       record {
         own_single = v.own_single;
@@ -93,7 +93,7 @@ module _ (s : Station) (v : Valid s) where
         rest_blank = v.rest_blank;
       }
 
-  valid_pending : (p : Pending) → PendingFits s.clock p → Valid (with_pending s p)
+  valid_pending : (p : Option Switch) → PendingFits s.clock p → Valid (with_pending s p)
   valid_pending p f =
       record {
         own_single = v.own_single;
@@ -140,16 +140,16 @@ module _ (s : Station) (v : Valid s) where
 valid_switched : (s : Station) (channel : ℕ) → Valid s → channel ≤ highest → Valid (switched s channel)
 valid_switched s channel v h =
     valid_until _
-    (valid_schedules _ (valid_pending _ (valid_power _ (valid_channel s v channel h) MaybePower.Absent) Pending.Nothing tt) [] (lit≤ tt)) 0
+    (valid_schedules _ (valid_pending _ (valid_power _ (valid_channel s v channel h) None) None tt) [] (lit≤ tt)) 0
 
 -- where the clock goes on to a moment, the switch is met or is still to come
 valid_reached : (s : Station) (t : ℕ) → Valid s → Valid (stepped s (advanced_to s (reached t s.pending))).station
 valid_reached s t v = by_pending s.pending refl
   where
-    by_pending : (p : Pending) → s.pending ≡ p → Valid (stepped s (advanced_to s (reached t p))).station
-    by_pending Pending.Nothing e = valid_clock s v t (subst (PendingFits t) (sym e) tt)
-    by_pending (Pending.Switch x) e =
-        let f : PendingFits s.clock (Pending.Switch x) = subst (PendingFits s.clock) e v.pending_fits in
+    by_pending : (p : Option Switch) → s.pending ≡ p → Valid (stepped s (advanced_to s (reached t p))).station
+    by_pending None e = valid_clock s v t (subst (PendingFits t) (sym e) tt)
+    by_pending (Some x) e =
+        let f : PendingFits s.clock (Some x) = subst (PendingFits s.clock) e v.pending_fits in
         ⊎_elim
         (λ (y : ltb t x.at ≡ true). simp y (valid_clock s v t (subst (PendingFits t) (sym e) (ltb-true t x.at y, f.1, f.2))))
         (λ (n : ltb t x.at ≡ false). simp n (valid_clock (switched s x.channel) (valid_switched s x.channel v f.2) t tt))
@@ -174,9 +174,9 @@ valid_rescheduled : (s : Station) (qs : List Quiet) → Valid s → length qs �
 valid_rescheduled s qs v h =
     valid_schedules s v (schedules_of (passed s) s.interval qs) (omega (arith, length-map qs (λ q. set_by q (passed s) s.interval)))
 
-valid_constrained : (s : Station) (p : MaybePower) → Valid s → Valid (constrained s p)
-valid_constrained s MaybePower.Absent v = v
-valid_constrained s (MaybePower.Is p) v = valid_power s v (MaybePower.Is p)
+valid_constrained : (s : Station) (p : Option PowerConstraint) → Valid s → Valid (constrained s p)
+valid_constrained s None v = v
+valid_constrained s (Some p) v = valid_power s v (Some p)
 
 -- a count of 1 or more is a moment after the clock
 pub moment_after : (b t c : ℕ) → 1 ≤ b → 1 ≤ c → t < (t / b + c) * b
@@ -197,9 +197,9 @@ valid_announced s w v e =
     )))
     (either (eqb w.count 0))
 
-valid_announced_if : (s : Station) (m : MaybeSwitch) → Valid s → SwitchAllowed m → Valid (announced_if s m)
-valid_announced_if s MaybeSwitch.Absent v a = v
-valid_announced_if s (MaybeSwitch.Is w) v a = valid_announced s w v a
+valid_announced_if : (s : Station) (m : Option ChannelSwitch) → Valid s → SwitchAllowed m → Valid (announced_if s m)
+valid_announced_if s None v a = v
+valid_announced_if s (Some w) v a = valid_announced s w v a
 
 valid_informed : (s : Station) (t : Told) → Valid s → Allowed s.interval t → Valid (informed s t)
 unfolding informed

@@ -1,7 +1,6 @@
 -- Start (01, "Answer numbers"): 15 where B is 0, the channel is over 200, or either address has its group bit set.
-use Rattle.std.specs.Prelude.{Bool, ◌||◌, List, [], ◌∷◌, ℕ, ltb, eqb, replicate}
-use Rattle.answer.specs.Checks.{Outcome, refused, accepted, ◌⇒◌, judged}
-use Rattle.answer.specs.declared.Answer.{Answer}
+use Rattle.std.specs.Prelude.{Bool, ◌||◌, List, [], ◌∷◌, ℕ, ltb, eqb, replicate, Ok, Err}
+use Rattle.answer.specs.Checks.{Outcome, ◌⇒◌, judged}
 use Rattle.answer.specs.declared.Refusal.{Refusal}
 use Rattle.channel.specs.Centres.{highest}
 use Rattle.octets.specs.Numbers.{bit, octet}
@@ -14,8 +13,8 @@ abbrev pub blank : Station
 blank = fresh (replicate 6 0) (replicate 6 0) 0 0
 
 abbrev pub started : Outcome Station → Started
-started (refused r) = record { answer = Answer.Refused r; station = blank }
-started (accepted s) = record { answer = Answer.Accepted; station = s }
+started (Err r) = record { answer = Err r; station = blank }
+started (Ok s) = record { answer = Ok tt; station = s }
 
 -- the group bit is the first of an address
 abbrev pub start_forbids : List ℕ → List ℕ → ℕ → ℕ → Bool

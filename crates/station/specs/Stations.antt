@@ -1,11 +1,11 @@
 -- What a station keeps (01, "The station"): settings, clock, channel, latest Power Constraint if any, one pending switch if any, and
 -- quiet schedules with how many are in use; and until when what had begun of replaced schedules runs on (02, Two), 0 where nothing does.
-use Rattle.std.specs.Prelude.{List, [], ◌++◌, ℕ, ◌-◌, length, take, replicate}
+use Rattle.std.specs.Prelude.{List, [], ◌++◌, ℕ, ◌-◌, length, take, replicate, None, Option}
 use Rattle.beacon.specs.Beacons.{quiet_limit}
-use Rattle.beacon.specs.declared.MaybePower.{MaybePower}
-use Rattle.pending.specs.declared.Pending.{Pending}
 use Rattle.schedule.specs.declared.Schedule.{Schedule}
 use Rattle.station.specs.declared.Station.{Station}
+use Rattle.element.specs.declared.power_constraint.PowerConstraint.{PowerConstraint}
+use Rattle.pending.specs.declared.Switch.{Switch}
 
 -- the last moment that the clock tells
 abbrev pub clock_limit : ℕ
@@ -36,8 +36,8 @@ fresh own ap b channel =
       interval = b;
       clock = 0;
       channel = channel;
-      power = MaybePower.Absent;
-      pending = Pending.Nothing;
+      power = None;
+      pending = None;
       schedules = slotted [];
       count = 0;
       until = 0;
@@ -46,7 +46,7 @@ fresh own ap b channel =
 -- ---- a station with one field changed: the settings never do
 
 module _ (s : Station) where
-  abbrev kept : ℕ → ℕ → MaybePower → Pending → List Schedule → ℕ → ℕ → Station
+  abbrev kept : ℕ → ℕ → Option PowerConstraint → Option Switch → List Schedule → ℕ → ℕ → Station
   kept clock channel power pending schedules count until =
       record {
         own = s.own;
@@ -67,10 +67,10 @@ module _ (s : Station) where
   abbrev pub with_channel : ℕ → Station
   with_channel channel = kept s.clock channel s.power s.pending s.schedules s.count s.until
 
-  abbrev pub with_power : MaybePower → Station
+  abbrev pub with_power : Option PowerConstraint → Station
   with_power p = kept s.clock s.channel p s.pending s.schedules s.count s.until
 
-  abbrev pub with_pending : Pending → Station
+  abbrev pub with_pending : Option Switch → Station
   with_pending p = kept s.clock s.channel s.power p s.schedules s.count s.until
 
   -- these schedules are those in use

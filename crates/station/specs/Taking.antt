@@ -1,15 +1,12 @@
 -- Taking a frame (01, "The station"): what an accepted one changes. A refused one changes nothing, and says where it broke (02, One).
-use Rattle.std.specs.Prelude.{List, [], ◌∷◌, map, ℕ, ◌/◌, ltb, eqb, take}
-use Rattle.answer.specs.Checks.{refused, accepted, pick, and_then}
+use Rattle.std.specs.Prelude.{List, [], ◌∷◌, map, ℕ, ◌/◌, ltb, eqb, take, Ok, Err, Some, None, Option}
+use Rattle.answer.specs.Checks.{pick, and_then}
 use Rattle.answer.specs.Faults.{Placed}
-use Rattle.answer.specs.declared.Verdict.{Verdict}
 use Rattle.beacon.specs.Beacons.{Told, tells}
-use Rattle.beacon.specs.declared.MaybePower.{MaybePower}
-use Rattle.beacon.specs.declared.MaybeSwitch.{MaybeSwitch}
 use Rattle.element.specs.declared.channel_switch.ChannelSwitch.{ChannelSwitch}
 use Rattle.element.specs.declared.quiet.Quiet.{Quiet}
 use Rattle.frame.specs.Frames.{Kind, frame_means}
-use Rattle.frame.specs.Laid.{frame_told, frame_of, quiets_of}
+use Rattle.frame.specs.Laid.{frame_of, quiets_of}
 use Rattle.frame.specs.declared.Frame.{Frame}
 use Rattle.frame.specs.declared.Received.{Received}
 use Rattle.pending.specs.Waiting.{pending_by}
@@ -19,6 +16,7 @@ use Rattle.station.specs.Clock.{switched}
 use Rattle.station.specs.Stations.{in_use, with_power, with_pending, with_schedules, with_until}
 use Rattle.station.specs.declared.Station.{Station}
 use Rattle.station.specs.declared.taking.Taken.{Taken}
+use Rattle.element.specs.declared.power_constraint.PowerConstraint.{PowerConstraint}
 
 -- k, the whole part of t / B
 abbrev pub passed : Station → ℕ
@@ -46,9 +44,9 @@ abbrev pub rescheduled : Station → List Quiet → Station
 rescheduled s qs = with_schedules s (schedules_of (passed s) s.interval qs)
 
 -- a Power Constraint, if present, is kept
-abbrev pub constrained : Station → MaybePower → Station
-constrained s MaybePower.Absent = s
-constrained s (MaybePower.Is p) = with_power s (MaybePower.Is p)
+abbrev pub constrained : Station → Option PowerConstraint → Station
+constrained s None = s
+constrained s (Some p) = with_power s (Some p)
 
 -- count c ≥ 1: the switch is at (k + c) times B; count 0: at once
 unfoldable pub announced : Station → ChannelSwitch → Station
@@ -56,9 +54,9 @@ announced s w =
     pick (eqb w.count 0) (switched s w.channel)
     (with_pending s (pending_by w (passed s) s.interval))
 
-abbrev pub announced_if : Station → MaybeSwitch → Station
-announced_if s MaybeSwitch.Absent = s
-announced_if s (MaybeSwitch.Is w) = announced s w
+abbrev pub announced_if : Station → Option ChannelSwitch → Station
+announced_if s None = s
+announced_if s (Some w) = announced s w
 
 -- a beacon or a probe response: first the schedules, of which what has begun runs on, then the Power Constraint, then the announcement
 unfoldable pub informed : Station → Told → Station
@@ -77,12 +75,12 @@ changed_by s (Frame.ChannelSwitch w) qs = announced s w
 
 -- the verdict on a frame, and the station after it
 abbrev pub taken : Station → Placed Station → Taken
-taken s (refused x) = record { verdict = Verdict.Refused x; station = s }
-taken s (accepted next) = record { verdict = Verdict.Accepted; station = next }
+taken s (Err x) = record { verdict = Err x; station = s }
+taken s (Ok next) = record { verdict = Ok tt; station = next }
 
 -- what a reader handed out: a refusal stays one, and a count past the slots is that of all of them
 unfoldable pub heard_means : Station → Received → Placed Station
-heard_means s v = and_then (frame_told v.reading) (λ f. accepted (changed_by s f (take v.count v.quiets)))
+heard_means s v = and_then (v.reading) (λ f. Ok (changed_by s f (take v.count v.quiets)))
 
 abbrev pub heard_of : Station → Received → Taken
 heard_of s v = taken s (heard_means s v)
@@ -93,7 +91,7 @@ heard s k = changed_by s (frame_of k) (quiets_of k)
 
 -- the octets of a frame, read by the station's own settings
 unfoldable pub take_means : Station → List ℕ → Placed Station
-take_means s f = and_then (frame_means s.own s.ap s.interval f) (λ sent. accepted (heard s sent.kind))
+take_means s f = and_then (frame_means s.own s.ap s.interval f) (λ sent. Ok (heard s sent.kind))
 
 abbrev pub take_of : Station → List ℕ → Taken
 take_of s f = taken s (take_means s f)

@@ -3,17 +3,17 @@ ghost use Rattle.std.specs.Prelude.{◌≡◌, ◌/◌};
 ghost use Rattle.pending.specs.Waiting.{pending_by};
 ghost use Rattle.station.specs.Rests.{at_once, rest_switched, rest_constrained, rest_announced};
 
-use beacon::{MaybePower, MaybeSwitch};
 use element::channel_switch::ChannelSwitch;
-use pending::Pending;
+use element::power_constraint::PowerConstraint;
+use pending::Switch;
 
 // Whether an announcement is the switch itself: its count is 0.
-pub fn is_at_once(switch: MaybeSwitch) -> bool
+pub fn is_at_once(switch: Option<ChannelSwitch>) -> bool
     ensures { result ≡ at_once switch }
 {
     match switch {
-        MaybeSwitch::Absent => false,
-        MaybeSwitch::Is(announcement) => announcement.count == 0,
+        None => false,
+        Some(announcement) => announcement.count == 0,
     }
 }
 
@@ -23,8 +23,8 @@ pub struct Rest {
     pub interval: u16,
     pub clock: u32,
     pub channel: u8,
-    pub power: MaybePower,
-    pub pending: Pending,
+    pub power: Option<PowerConstraint>,
+    pub pending: Option<Switch>,
     pub until: u64,
 }
 
@@ -35,38 +35,38 @@ impl Rest {
     {
         Rest {
             channel,
-            power: MaybePower::Absent,
-            pending: Pending::Nothing,
+            power: None,
+            pending: None,
             until: 0,
             ..self
         }
     }
 
     // A Power Constraint, if there is one, takes the place of the latest.
-    pub fn constrained(self, power: MaybePower) -> Rest
+    pub fn constrained(self, power: Option<PowerConstraint>) -> Rest
         ensures { result ≡ rest_constrained self power }
     {
         match power {
-            MaybePower::Absent => self,
-            MaybePower::Is(_) => Rest { power, ..self },
+            None => self,
+            Some(_) => Rest { power, ..self },
         }
     }
 
     // The switch that an announcement sets here: its moment, its mode and its channel, whatever was pending before.
-    fn pending_by(self, switch: ChannelSwitch) -> Pending
+    fn pending_by(self, switch: ChannelSwitch) -> Option<Switch>
         ensures { result ≡ pending_by switch (self.clock / self.interval) self.interval }
     {
-        Pending::set_by(switch, self.clock, self.interval)
+        Switch::set_by(switch, self.clock, self.interval)
     }
 
     // An announcement, if there is one, takes the place of any that is pending. Its count is one of TBTTs, not of intervals from now; a count of 0
     // is the switch itself.
-    pub fn announced(self, switch: MaybeSwitch) -> Rest
+    pub fn announced(self, switch: Option<ChannelSwitch>) -> Rest
         ensures { result ≡ rest_announced self switch }
     {
         match switch {
-            MaybeSwitch::Absent => self,
-            MaybeSwitch::Is(announcement) => {
+            None => self,
+            Some(announcement) => {
                 if announcement.count == 0 {
                     return self.switched(announcement.channel);
                 }

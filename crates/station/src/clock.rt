@@ -5,8 +5,8 @@ ghost use Rattle.station.specs.Stations.{with_clock};
 ghost use Rattle.station.specs.Validity.{Valid};
 
 use crate::Station;
-use answer::{Answer, Refusal};
-use pending::Pending;
+use answer::Refusal;
+use pending::Switch;
 
 // What an advance comes to: it is refused, or the clock goes to a moment, with no switch reached by then or with this one.
 #[derive(Clone, Copy)]
@@ -17,7 +17,7 @@ pub enum Advanced {
 }
 
 // An advance by what it asks of a station alone, since a station is long to copy and most advances change no more than its clock.
-pub fn advance_clock(clock: u32, pending: Pending, units: u32) -> Advanced
+pub fn advance_clock(clock: u32, pending: Option<Switch>, units: u32) -> Advanced
     ensures { result ≡ clock_advance clock pending units }
 {
     if Station::UNIT_LIMIT < units {
@@ -28,8 +28,8 @@ pub fn advance_clock(clock: u32, pending: Pending, units: u32) -> Advanced
     }
     let moment = clock + units;
     match pending {
-        Pending::Nothing => Advanced::Goes(moment),
-        Pending::Switch(switch) => {
+        None => Advanced::Goes(moment),
+        Some(switch) => {
             if (moment as u64) < switch.at {
                 return Advanced::Goes(moment);
             }
@@ -44,7 +44,7 @@ pub fn advance_clock(clock: u32, pending: Pending, units: u32) -> Advanced
 // The answer, and the station after the call: the same as before where the call was refused.
 #[derive(Clone, Copy)]
 pub struct Stepped {
-    pub answer: Answer,
+    pub answer: Result<(), Refusal>,
     pub station: Station,
 }
 

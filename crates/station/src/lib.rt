@@ -8,22 +8,21 @@ mod replacing;
 mod starting;
 mod taking;
 
-ghost use Rattle.std.specs.Prelude.{◌≡◌};
-ghost use Rattle.answer.specs.Checks.{refused, accepted};
+ghost use Rattle.std.specs.Prelude.{◌≡◌, Ok, Err};
 ghost use Rattle.station.specs.Clock.{stepped, switched};
 ghost use Rattle.station.specs.CodeTerms.Changing.{with_rest};
 ghost use Rattle.station.specs.Rests.{rest_of};
 
-use answer::{Answer, Refusal};
+use answer::Refusal;
 pub use asking::Permission;
-use beacon::MaybePower;
 pub use changing::{Rest, is_at_once};
 pub use clock::{Advanced, Stepped, advance_clock};
-use pending::Pending;
 pub use replacing::later;
 use schedule::Schedule;
 pub use starting::Started;
 pub use taking::Taken;
+use element::power_constraint::PowerConstraint;
+use pending::Switch;
 
 // What one station keeps between calls. The first `count` slots are the quiet schedules in use, the others are blank. Before `until` it is quiet by
 // what had begun of schedules that were replaced: the latest end counts, and 0 says that nothing runs on (document 02, Two).
@@ -34,8 +33,8 @@ pub struct Station {
     pub interval: u16,
     pub clock: u32,
     pub channel: u8,
-    pub power: MaybePower,
-    pub pending: Pending,
+    pub power: Option<PowerConstraint>,
+    pub pending: Option<Switch>,
     pub schedules: [Schedule; Station::SCHEDULE_LIMIT],
     pub count: usize,
     pub until: u64,
@@ -111,20 +110,20 @@ impl Station {
 impl Stepped {
     // A refused call leaves the station as it was.
     fn refused(refusal: Refusal, station: Station) -> Stepped
-        ensures { result ≡ stepped station (refused refusal) }
+        ensures { result ≡ stepped station (Err refusal) }
     {
         Stepped {
-            answer: Answer::Refused(refusal),
+            answer: Err(refusal),
             station,
         }
     }
 
     // An accepted call leaves this station.
     fn accepted(station: Station) -> Stepped
-        ensures { result ≡ stepped station (accepted station) }
+        ensures { result ≡ stepped station (Ok station) }
     {
         Stepped {
-            answer: Answer::Accepted,
+            answer: Ok(()),
             station,
         }
     }

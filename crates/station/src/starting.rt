@@ -1,19 +1,16 @@
 // Starting a station (document 01, "Answer numbers", 15).
-ghost use Rattle.std.specs.Prelude.{◌≡◌};
-ghost use Rattle.answer.specs.declared.Answer.{Answer};
+ghost use Rattle.std.specs.Prelude.{◌≡◌, Ok};
 ghost use Rattle.station.specs.Starting.{blank, start_forbids, started, start_means};
 ghost use Rattle.station.specs.Stations.{fresh};
 ghost use Rattle.station.specs.Validity.{Valid};
 
 use crate::Station;
-use answer::{Answer, Refusal};
-use beacon::MaybePower;
-use pending::Pending;
+use answer::Refusal;
 
 // What starting a station answers. Beside a refusal stands one fixed station that no call may be handed.
 #[derive(Clone, Copy)]
 pub struct Started {
-    pub answer: Answer,
+    pub answer: Result<(), Refusal>,
     pub station: Station,
 }
 
@@ -28,8 +25,8 @@ impl Station {
             interval,
             clock: 0,
             channel,
-            power: MaybePower::Absent,
-            pending: Pending::Nothing,
+            power: None,
+            pending: None,
             schedules: [Station::NO_SCHEDULE; Station::SCHEDULE_LIMIT],
             count: 0,
             until: 0,
@@ -62,15 +59,15 @@ impl Station {
 
     pub fn start(own: [u8; 6], ap: [u8; 6], interval: u16, channel: u8) -> Started
         ensures value { result ≡ started (start_means own ap interval channel) }
-        ensures valid { result.answer ≡ Answer.Accepted → Valid result.station }
+        ensures valid { result.answer ≡ Ok tt → Valid result.station }
     {
         if Station::is_bad_start(own, ap, interval, channel) {
             let station = Station::nobody();
-            let answer = Answer::Refused(Refusal::BadStart);
+            let answer = Err(Refusal::BadStart);
             return Started { answer, station };
         }
         let station = Station::fresh(own, ap, interval, channel);
-        let answer = Answer::Accepted;
+        let answer = Ok(());
         Started { answer, station }
     }
 }

@@ -8,15 +8,15 @@ ghost use Rattle.station.specs.Taking.{heard_of, take_of};
 ghost use Rattle.station.specs.Validity.{Valid};
 
 use crate::{Station, changing, replacing};
-use answer::Verdict;
 use beacon::QUIETS;
 use element::quiet::Quiet;
 use frame::{Change, Received};
+use answer::Fault;
 
 // The verdict on a frame, and the station after it: the same as before where the frame was refused.
 #[derive(Clone, Copy)]
 pub struct Taken {
-    pub verdict: Verdict,
+    pub verdict: Result<(), Fault>,
     pub station: Station,
 }
 

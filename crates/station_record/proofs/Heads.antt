@@ -1,5 +1,6 @@
 -- What stands in a record before its schedules: how many octets, that what is read is what stands there, and that what is laid is read.
 -- Assumes nothing.
+use Rattle.std.specs.Prelude.{Some, None, Option}
 use mathlib.Core.Bool.{Bool, true, false, not, ◌||◌}
 use mathlib.Core.List.{List, [], ◌∷◌, ◌++◌}
 use mathlib.Core.Path.{◌≡◌, refl, sym, ap, ap₂, ◌∙◌, subst}
@@ -11,11 +12,9 @@ use Rattle.answer.proofs.Booleans.{neither, or_go}
 use Rattle.answer.specs.Checks.{pick}
 use Rattle.beacon.proofs.HeldLengths.{power_length}
 use Rattle.beacon.specs.Notices.{held_power}
-use Rattle.beacon.specs.declared.MaybePower.{MaybePower}
 use Rattle.channel.specs.Centres.{highest}
 use Rattle.octets.proofs.JoinSplit.{join_split, split_number, all_from}
 use Rattle.octets.specs.Numbers.{Octets, split, octet, octets_from, number}
-use Rattle.pending.specs.declared.Pending.{Pending}
 use Rattle.pending.specs.declared.Switch.{Switch}
 use Rattle.station.specs.Validity.{PendingFits}
 use Rattle.station.specs.declared.Station.{Station}
@@ -24,6 +23,7 @@ use Rattle.station_record.proofs.Sound.{Sound}
 use Rattle.station_record.specs.Fits.{MomentFits, Fits}
 use Rattle.station_record.specs.Held.{power_at, switch_at, pending_at, station_at, power_broken, switch_broken}
 use Rattle.station_record.specs.Records.{version, head_length, settings_octets, held_pending, state_octets, head_of}
+use Rattle.element.specs.declared.power_constraint.PowerConstraint.{PowerConstraint}
 
 -- ---- how many
 
@@ -38,7 +38,7 @@ head_length_lem s a b =
 module _ (f d : ℕ) where
   -- one that is not broken has these as its octets
   power_lies : (none : Bool) → eqb f 0 ≡ none → pick none (not (eqb d 0)) (not (eqb f 1)) ≡ false
-      → held_power (pick none MaybePower.Absent (MaybePower.Is (record { decibels = d }))) ≡ f ∷ d ∷ []
+      → held_power (pick none None (Some (record { decibels = d }))) ≡ f ∷ d ∷ []
   power_lies true e h = ap₂ (λ (x y : ℕ). x ∷ y ∷ []) (sym (eqb-true f 0 e)) (sym (eqb-true d 0 (not-false (eqb d 0) h)))
   power_lies false e h = ap (λ (x : ℕ). x ∷ d ∷ []) (sym (eqb-true f 1 (not-false (eqb f 1) h)))
 
@@ -53,7 +53,7 @@ switch_by none x flag clock =
 module _ (x : Switch) (flag clock : ℕ) where
   -- one that is not broken has these octets
   pending_lies : (none : Bool) → eqb flag 0 ≡ none → switch_by none x flag clock ≡ false
-      → held_pending (pick none Pending.Nothing (Pending.Switch x)) ≡ (flag ∷ x.mode ∷ x.channel ∷ []) ++ split 8 x.at
+      → held_pending (pick none None (Some x)) ≡ (flag ∷ x.mode ∷ x.channel ∷ []) ++ split 8 x.at
   pending_lies true e h =
       let a = neither (not (eqb x.at 0)) _ h in
       let b = neither (not (eqb x.mode 0)) _ a.1 in
@@ -67,7 +67,7 @@ module _ (x : Switch) (flag clock : ℕ) where
       ap (λ (n : ℕ). (n ∷ x.mode ∷ x.channel ∷ []) ++ split 8 x.at) (sym (eqb-true flag 1 (not-false (eqb flag 1) a.0)))
 
   -- one that is not broken may be pending at the clock
-  pending_allowed : (none : Bool) → switch_by none x flag clock ≡ false → PendingFits clock (pick none Pending.Nothing (Pending.Switch x))
+  pending_allowed : (none : Bool) → switch_by none x flag clock ≡ false → PendingFits clock (pick none None (Some x))
   pending_allowed true h = tt
   pending_allowed false h =
       let a = neither (not (eqb flag 1)) _ h in
@@ -166,43 +166,43 @@ module _ (s : Station) (f : Fits s) (rest : List ℕ) where
       spread_shows
 
 -- a Power Constraint by its octets
-abbrev power_in : List ℕ → MaybePower
-power_in l = pick (eqb (octet 0 l) 0) MaybePower.Absent (MaybePower.Is (record { decibels = octet 1 l }))
+abbrev power_in : List ℕ → Option PowerConstraint
+power_in l = pick (eqb (octet 0 l) 0) None (Some (record { decibels = octet 1 l }))
 
 abbrev power_broken_in : List ℕ → Bool
 power_broken_in l = pick (eqb (octet 0 l) 0) (not (eqb (octet 1 l) 0)) (not (eqb (octet 0 l) 1))
 
 -- a constraint that was laid is read again
-power_back : (p : MaybePower) → power_in (held_power p) ≡ p
-power_back MaybePower.Absent = refl
-power_back (MaybePower.Is p) = refl
+power_back : (p : Option PowerConstraint) → power_in (held_power p) ≡ p
+power_back None = refl
+power_back (Some p) = refl
 
 -- and is not broken
-power_unbroken : (p : MaybePower) → power_broken_in (held_power p) ≡ false
-power_unbroken MaybePower.Absent = refl
-power_unbroken (MaybePower.Is p) = refl
+power_unbroken : (p : Option PowerConstraint) → power_broken_in (held_power p) ≡ false
+power_unbroken None = refl
+power_unbroken (Some p) = refl
 
 -- a pending switch by its octets
 abbrev switch_in : List ℕ → Switch
 switch_in l = record { at = number 8 3 l; mode = octet 1 l; channel = octet 2 l }
 
-abbrev pending_in : List ℕ → Pending
-pending_in l = pick (eqb (octet 0 l) 0) Pending.Nothing (Pending.Switch (switch_in l))
+abbrev pending_in : List ℕ → Option Switch
+pending_in l = pick (eqb (octet 0 l) 0) None (Some (switch_in l))
 
 -- a switch that was laid is read again
-moment_back : (x : Switch) → MomentFits (Pending.Switch x) → switch_in (held_pending (Pending.Switch x)) ≡ x
+moment_back : (x : Switch) → MomentFits (Some x) → switch_in (held_pending (Some x)) ≡ x
 moment_back x f = ap (λ (t : ℕ). let y : Switch = record { at = t; mode = x.mode; channel = x.channel } in y) (join_split 8 x.at f)
 
 -- and so is none
-pending_back : (p : Pending) → MomentFits p → pending_in (held_pending p) ≡ p
-pending_back Pending.Nothing f = refl
-pending_back (Pending.Switch x) f = ap Pending.Switch (moment_back x f)
+pending_back : (p : Option Switch) → MomentFits p → pending_in (held_pending p) ≡ p
+pending_back None f = refl
+pending_back (Some x) f = ap Some (moment_back x f)
 
 -- what may be pending is not broken
-pending_unbroken : (p : Pending) (clock : ℕ) → MomentFits p → PendingFits clock p
+pending_unbroken : (p : Option Switch) (clock : ℕ) → MomentFits p → PendingFits clock p
     → switch_broken (switch_in (held_pending p)) (octet 0 (held_pending p)) clock ≡ false
-pending_unbroken Pending.Nothing clock f a = refl
-pending_unbroken (Pending.Switch x) clock f a =
+pending_unbroken None clock f a = refl
+pending_unbroken (Some x) clock f a =
     ap (λ (y : Switch). switch_broken y 1 clock) (moment_back x f)
     ∙ or_go (not (ltb clock x.at)) (ap not (lt-ltb clock x.at a.0))
     ∙ or_go (ltb 1 x.mode) (le-ltb 1 x.mode a.1)

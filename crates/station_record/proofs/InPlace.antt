@@ -1,4 +1,5 @@
 -- A record that is changed where it lies: the clock's octets alone, and at a switch the channel and the state. Assumes nothing.
+use Rattle.std.specs.Prelude.{None}
 use mathlib.Core.Bool.{false}
 use mathlib.Core.List.{List, [], ◌∷◌, ◌++◌, append_assoc, append-nil}
 use mathlib.Core.Path.{◌≡◌, refl, sym, ap, ap₂, ◌∙◌}
@@ -6,11 +7,9 @@ use Prim.Native.Nat.{ℕ, ◌+◌}
 use native.Mathlib.Omega.{arith}
 use lib.ListN.{length, take, drop, length-append}
 use lib.Seq.{take_at, drop_at}
-use Rattle.beacon.specs.declared.MaybePower.{MaybePower}
 use Rattle.octets.proofs.JoinSplit.{length_from}
 use Rattle.octets.specs.Numbers.{Octets, split}
 use Rattle.octets.specs.Writing.{over, filled}
-use Rattle.pending.specs.declared.Pending.{Pending}
 use Rattle.station.specs.Clock.{switched}
 use Rattle.station.specs.Stations.{in_use, with_clock, with_channel}
 use Rattle.station.specs.declared.Station.{Station}
@@ -35,7 +34,7 @@ module _ (os : List ℕ) (o : Octets os) (e : no_record os ≡ false) (m : ℕ) 
 
   module _ (channel : ℕ) where
     abbrev cleared : List ℕ
-    cleared = state_octets MaybePower.Absent Pending.Nothing 0 0
+    cleared = state_octets None None 0 0
 
     -- the station on another channel, before its state is cleared, and what stands after its head
     abbrev moved : Station
@@ -50,7 +49,7 @@ module _ (os : List ℕ) (o : Octets os) (e : no_record os ≡ false) (m : ℕ) 
         ap (drop head_length) (held_lies os o e ∙ append_assoc (head_of s) (slots_of (in_use s)) (drop (length (record_of s)) os))
         ∙ drop_at (head_of s) later head_length (head_length_lem s (length_from 6 8 os) (length_from 6 14 os))
 
-    pub switched_in_place : over (over (over os 4 (split 4 m)) 1 (channel ∷ [])) 20 (state_octets MaybePower.Absent Pending.Nothing 0 0)
+    pub switched_in_place : over (over (over os 4 (split 4 m)) 1 (channel ∷ [])) 20 (state_octets None None 0 0)
         ≡ filled (record_of (switched (with_clock (station_at os) m) channel)) os
     unfolding slots_of
     switched_in_place =

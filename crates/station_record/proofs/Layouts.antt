@@ -1,5 +1,6 @@
 -- A record and its station (02, Eight: "both give the same station and answer"): octets that are not refused are the record of the station that is
 -- read from them, which is valid, and a valid station is read from its record. Assumes nothing.
+use Rattle.std.specs.Prelude.{Ok, Option}
 use mathlib.Core.Bool.{true, false}
 use mathlib.Core.List.{List, [], ◌∷◌, ◌++◌, append_assoc}
 use mathlib.Core.Logic.{⊎_elim}
@@ -12,14 +13,12 @@ use lib.ListN.{length, take, drop, replicate, length-append, length-replicate, t
 use lib.Seq.{take_at, drop_at}
 use Rattle.answer.proofs.Booleans.{either, neither, or_go}
 use Rattle.answer.proofs.Judged.{passed, kept, past, done}
-use Rattle.answer.specs.Checks.{accepted, ◌⇒◌, judged}
+use Rattle.answer.specs.Checks.{◌⇒◌, judged}
 use Rattle.answer.specs.declared.Refusal.{Refusal}
 use Rattle.beacon.specs.Beacons.{quiet_limit}
-use Rattle.beacon.specs.declared.MaybePower.{MaybePower}
 use Rattle.channel.specs.Centres.{highest}
 use Rattle.octets.proofs.JoinSplit.{from_octets, length_from, number_bound, take_from, from_add}
 use Rattle.octets.specs.Numbers.{Octets, bit, octet, number}
-use Rattle.pending.specs.declared.Pending.{Pending}
 use Rattle.schedule.specs.declared.Schedule.{Schedule}
 use Rattle.station.proofs.InUse.{in_use_length, in_use_slotted}
 use Rattle.station.specs.Starting.{start_forbids}
@@ -32,6 +31,8 @@ use Rattle.station_record.proofs.Sound.{Sound, sound, not_refused}
 use Rattle.station_record.specs.Fits.{PowerFits, MomentFits, AllFit, Fits}
 use Rattle.station_record.specs.Held.{power_at, pending_at, schedules_from, station_at, no_record, held_in, Holds}
 use Rattle.station_record.specs.Records.{size, head_length, slot_length, head_of, slots_of, record_of}
+use Rattle.element.specs.declared.power_constraint.PowerConstraint.{PowerConstraint}
+use Rattle.pending.specs.declared.Switch.{Switch}
 
 -- ---- how many octets
 
@@ -127,7 +128,7 @@ module _ (os : List ℕ) where
 -- ---- from a station to octets and back
 
 -- stations are the same whose fields are
-pub same_station : {o o' a a' : List ℕ} {i i' c c' h h' : ℕ} {p p' : MaybePower} {w w' : Pending} {xs xs' : List Schedule} {n n' u u' : ℕ}
+pub same_station : {o o' a a' : List ℕ} {i i' c c' h h' : ℕ} {p p' : Option PowerConstraint} {w w' : Option Switch} {xs xs' : List Schedule} {n n' u u' : ℕ}
     → o ≡ o' → a ≡ a' → i ≡ i' → c ≡ c' → h ≡ h' → p ≡ p' → w ≡ w' → xs ≡ xs' → n ≡ n' → u ≡ u'
     → ◌≡◌ {A = Station}
     (record { own = o; ap = a; interval = i; clock = c; channel = h; power = p; pending = w; schedules = xs; count = n; until = u })
@@ -177,22 +178,22 @@ module _ (s : Station) (v : Valid s) (f : Fits s) (rest : List ℕ) where
       ∙ slots_read (in_use s) f.schedules_fit rest
 
   -- and so is the station
-  pub laid_reads : size ≤ length (record_of s ++ rest) → held_in (record_of s ++ rest) ≡ accepted s
+  pub laid_reads : size ≤ length (record_of s ++ rest) → held_in (record_of s ++ rest) ≡ Ok s
   unfolding held_in
   laid_reads h =
       let parts : record_of s ++ rest ≡ head_of s ++ (slots_of (in_use s) ++ rest) = append_assoc (head_of s) (slots_of (in_use s)) rest in
       let w : Shows (record_of s ++ rest) s = subst (λ (os : List ℕ). Shows os s) (sym parts) (head_shows s f (slots_of (in_use s) ++ rest)) in
       let same = shown_station v f w (ap (schedules_from s.count head_length) parts ∙ laid_schedules) in
-      sym (past _ _ _ (not_refused (record_of s ++ rest) (shown_sound v f w h)) (ap accepted (sym same) ∙ done _))
+      sym (past _ _ _ (not_refused (record_of s ++ rest) (shown_sound v f w h)) (ap Ok (sym same) ∙ done _))
 
 -- ---- both ways at once
 
 -- octets give a station exactly where they begin with its record
-pub holds_exactly : (os : List ℕ) → Octets os → (s : Station) → (held_in os ≡ accepted s → Holds os s) × (Holds os s → held_in os ≡ accepted s)
+pub holds_exactly : (os : List ℕ) → Octets os → (s : Station) → (held_in os ≡ Ok s → Holds os s) × (Holds os s → held_in os ≡ Ok s)
 unfolding held_in
 holds_exactly os o s = (there, back)
   where
-    there : judged (no_record os ⇒ Refusal.Impossible ∷ []) (station_at os) ≡ accepted s → Holds os s
+    there : judged (no_record os ⇒ Refusal.Impossible ∷ []) (station_at os) ≡ Ok s → Holds os s
     there e =
         let p = passed _ _ _ e in
         subst (Holds os) (kept (station_at os) p.1)
@@ -203,7 +204,7 @@ holds_exactly os o s = (there, back)
           begins = (drop (length (record_of (station_at os))) os, held_lies os o p.0);
         })
 
-    back : Holds os s → judged (no_record os ⇒ Refusal.Impossible ∷ []) (station_at os) ≡ accepted s
+    back : Holds os s → judged (no_record os ⇒ Refusal.Impossible ∷ []) (station_at os) ≡ Ok s
     back h =
         let same = h.begins.1 in
         ap held_in same ∙ laid_reads s h.valid h.fits h.begins.0 (subst (λ (x : List ℕ). size ≤ length x) same h.roomy)

@@ -1,7 +1,7 @@
 -- The calls on a record (02, Eight: "both give the same station and answer"): what the call by value comes to for the station that is held. Octets that
 -- hold no station are refused with 16.
-use Rattle.std.specs.Prelude.{List, [], ◌∷◌, ℕ, ltb, length}
-use Rattle.answer.specs.Checks.{Result, Outcome, refused, accepted, ◌⇒◌, judged, and_then}
+use Rattle.std.specs.Prelude.{List, [], ◌∷◌, ℕ, ltb, length, Ok, Err, Result}
+use Rattle.answer.specs.Checks.{Outcome, ◌⇒◌, judged, and_then}
 use Rattle.answer.specs.Faults.{Placed, nowhere}
 use Rattle.answer.specs.declared.Refusal.{Refusal}
 use Rattle.octets.specs.Writing.{filled}
@@ -12,13 +12,12 @@ use Rattle.station.specs.Taking.{take_means}
 use Rattle.station.specs.declared.Station.{Station}
 use Rattle.station.specs.declared.asking.Permission.{Permission}
 use Rattle.station_record.specs.Held.{held_in}
-use Rattle.station_record.specs.declared.Asked.{Asked}
 use Rattle.station_record.specs.Records.{size, record_of}
 
 -- what is left of the octets: where a call is refused all stay as they were, else the record of its station stands in front
-abbrev pub relaid : {R : Type 0} → List ℕ → Result R Station → List ℕ
-relaid os (refused r) = os
-relaid os (accepted s) = filled (record_of s) os
+abbrev pub relaid : {R : Type 0} → List ℕ → Result Station R → List ℕ
+relaid os (Err r) = os
+relaid os (Ok s) = filled (record_of s) os
 
 -- a start, into octets that need hold nothing: 15, then 13 where they have no room for a record
 unfoldable pub started_in : List ℕ → List ℕ → ℕ → ℕ → List ℕ → Outcome Station
@@ -30,10 +29,5 @@ advanced_in n os = and_then (held_in os) (λ s. advance_means s n)
 abbrev pub taken_in : List ℕ → List ℕ → Placed Station
 taken_in f os = and_then (nowhere (held_in os)) (λ s. take_means s f)
 
--- the outcome that each case of an answer to a question stands for
-abbrev pub asked_told : Asked → Outcome Permission
-asked_told (Asked.Refused r) = refused r
-asked_told (Asked.Is p) = accepted p
-
 abbrev pub asked_in : ℕ → List ℕ → Outcome Permission
-asked_in n os = and_then (held_in os) (λ s. accepted (permission_of s n))
+asked_in n os = and_then (held_in os) (λ s. Ok (permission_of s n))

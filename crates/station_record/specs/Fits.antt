@@ -1,19 +1,19 @@
 -- A station whose fields fit the types that the code has for them, as every station in a program does.
-use Rattle.std.specs.Prelude.{List, [], ◌∷◌, ◌≡◌, ◌<◌, ◌^◌, length}
-use Rattle.beacon.specs.declared.MaybePower.{MaybePower}
+use Rattle.std.specs.Prelude.{List, [], ◌∷◌, ◌≡◌, ◌<◌, ◌^◌, length, Some, None, Option}
 use Rattle.octets.specs.Numbers.{Octets}
-use Rattle.pending.specs.declared.Pending.{Pending}
 use Rattle.schedule.specs.declared.Schedule.{Schedule}
 use Rattle.station.specs.Stations.{in_use}
 use Rattle.station.specs.declared.Station.{Station}
+use Rattle.element.specs.declared.power_constraint.PowerConstraint.{PowerConstraint}
+use Rattle.pending.specs.declared.Switch.{Switch}
 
-abbrev pub PowerFits : MaybePower → Type 0
-PowerFits MaybePower.Absent = Unit {0}
-PowerFits (MaybePower.Is p) = p.decibels < 256
+abbrev pub PowerFits : Option PowerConstraint → Type 0
+PowerFits None = Unit {0}
+PowerFits (Some p) = p.decibels < 256
 
-abbrev pub MomentFits : Pending → Type 0
-MomentFits Pending.Nothing = Unit {0}
-MomentFits (Pending.Switch x) = x.at < 256 ^ 8
+abbrev pub MomentFits : Option Switch → Type 0
+MomentFits None = Unit {0}
+MomentFits (Some x) = x.at < 256 ^ 8
 
 abbrev pub ScheduleFits : Schedule → Type 0
 ScheduleFits x = (x.start < 256 ^ 8) × (x.period < 256 ^ 8) × (x.duration < 256 ^ 2)

@@ -1,13 +1,11 @@
 -- Which octets hold a station (02, Eight): those that begin with the record of a valid one. Each field is read where `record_of` puts it, and the octets
 -- are judged by tests; `holds_exactly` in the proofs says that a station is read exactly where it is held.
-use Rattle.std.specs.Prelude.{Bool, not, ◌||◌, List, [], ◌∷◌, ◌++◌, ◌≡◌, ℕ, zero, suc, ◌+◌, ◌≤◌, ltb, eqb, length}
+use Rattle.std.specs.Prelude.{Bool, not, ◌||◌, List, [], ◌∷◌, ◌++◌, ◌≡◌, ℕ, zero, suc, ◌+◌, ◌≤◌, ltb, eqb, length, Some, None, Option}
 use Rattle.answer.specs.Checks.{Outcome, ◌⇒◌, judged, pick}
 use Rattle.answer.specs.declared.Refusal.{Refusal}
 use Rattle.beacon.specs.Beacons.{quiet_limit}
-use Rattle.beacon.specs.declared.MaybePower.{MaybePower}
 use Rattle.channel.specs.Centres.{highest}
 use Rattle.octets.specs.Numbers.{octet, octets_from, number}
-use Rattle.pending.specs.declared.Pending.{Pending}
 use Rattle.pending.specs.declared.Switch.{Switch}
 use Rattle.schedule.specs.declared.Schedule.{Schedule}
 use Rattle.station.specs.Starting.{start_forbids}
@@ -16,17 +14,18 @@ use Rattle.station.specs.Validity.{Valid}
 use Rattle.station.specs.declared.Station.{Station}
 use Rattle.station_record.specs.Fits.{Fits}
 use Rattle.station_record.specs.Records.{version, size, head_length, slot_length, record_of}
+use Rattle.element.specs.declared.power_constraint.PowerConstraint.{PowerConstraint}
 
 -- ---- what is absent has a 0 in front
 
-abbrev pub power_at : List ℕ → MaybePower
-power_at os = pick (eqb (octet 20 os) 0) MaybePower.Absent (MaybePower.Is (record { decibels = octet 21 os }))
+abbrev pub power_at : List ℕ → Option PowerConstraint
+power_at os = pick (eqb (octet 20 os) 0) None (Some (record { decibels = octet 21 os }))
 
 abbrev pub switch_at : List ℕ → Switch
 switch_at os = record { at = number 8 25 os; mode = octet 23 os; channel = octet 24 os }
 
-abbrev pub pending_at : List ℕ → Pending
-pending_at os = pick (eqb (octet 22 os) 0) Pending.Nothing (Pending.Switch (switch_at os))
+abbrev pub pending_at : List ℕ → Option Switch
+pending_at os = pick (eqb (octet 22 os) 0) None (Some (switch_at os))
 
 -- ---- schedules one after the other, from a place on
 

@@ -1,13 +1,13 @@
 -- A station as octets in its keeper's memory (02, Eight): "the record is lent and changed there". Its fields one after the other, numbers with the
 -- least significant octet first, and then the schedules in use. What stands after these is no part of the record.
-use Rattle.std.specs.Prelude.{List, [], ◌∷◌, ◌++◌, ℕ, replicate}
+use Rattle.std.specs.Prelude.{List, [], ◌∷◌, ◌++◌, ℕ, replicate, Some, None, Option}
 use Rattle.beacon.specs.Notices.{held_power}
-use Rattle.beacon.specs.declared.MaybePower.{MaybePower}
 use Rattle.octets.specs.Numbers.{split}
-use Rattle.pending.specs.declared.Pending.{Pending}
 use Rattle.schedule.specs.declared.Schedule.{Schedule}
 use Rattle.station.specs.Stations.{in_use}
 use Rattle.station.specs.declared.Station.{Station}
+use Rattle.element.specs.declared.power_constraint.PowerConstraint.{PowerConstraint}
+use Rattle.pending.specs.declared.Switch.{Switch}
 
 -- the first octet: another layout would have another
 abbrev pub version : ℕ
@@ -29,12 +29,12 @@ abbrev pub settings_octets : List ℕ → List ℕ → ℕ → ℕ → ℕ → L
 settings_octets own ap interval clock channel = (version ∷ channel ∷ []) ++ split 2 interval ++ split 4 clock ++ own ++ ap
 
 -- 1, mode, channel, moment (8); zeros where no switch is pending
-abbrev pub held_pending : Pending → List ℕ
-held_pending Pending.Nothing = replicate 11 0
-held_pending (Pending.Switch x) = (1 ∷ x.mode ∷ x.channel ∷ []) ++ split 8 x.at
+abbrev pub held_pending : Option Switch → List ℕ
+held_pending None = replicate 11 0
+held_pending (Some x) = (1 ∷ x.mode ∷ x.channel ∷ []) ++ split 8 x.at
 
 -- Power Constraint (2), pending switch (11), until when what had begun of replaced schedules runs on (8), how many schedules are in use
-abbrev pub state_octets : MaybePower → Pending → ℕ → ℕ → List ℕ
+abbrev pub state_octets : Option PowerConstraint → Option Switch → ℕ → ℕ → List ℕ
 state_octets power pending until count = held_power power ++ held_pending pending ++ split 8 until ++ (count ∷ [])
 
 -- start (8), period (8), duration (2)

@@ -5,10 +5,10 @@ ghost use Rattle.octets.specs.Writing.{filled};
 ghost use Rattle.station.specs.Validity.{Valid};
 ghost use Rattle.station_record.specs.Records.{size, head_length, settings_octets, held_pending, state_octets, slot_octets, slots_of, record_of};
 
-use beacon::MaybePower;
-use pending::Pending;
 use schedule::Schedule;
 use station::Station;
+use element::power_constraint::PowerConstraint;
+use pending::Switch;
 
 // What a station is started with, its clock and its channel.
 fn settings_octets(own: [u8; 6], ap: [u8; 6], interval: u16, clock: u32, channel: u8) -> [u8; 20]
@@ -40,12 +40,12 @@ fn settings_octets(own: [u8; 6], ap: [u8; 6], interval: u16, clock: u32, channel
     ]
 }
 
-fn pending_octets(pending: Pending) -> [u8; 11]
+fn pending_octets(pending: Option<Switch>) -> [u8; 11]
     ensures { result ≡ held_pending pending }
 {
     match pending {
-        Pending::Nothing => [0, 0, 0, 0, 0, 0, 0, 0, 0, 0, 0],
-        Pending::Switch(switch) => {
+        None => [0, 0, 0, 0, 0, 0, 0, 0, 0, 0, 0],
+        Some(switch) => {
             let t = octets::octets64(switch.at);
             [
                 1,
@@ -65,7 +65,7 @@ fn pending_octets(pending: Pending) -> [u8; 11]
 }
 
 // What it has heard: constraint, pending switch, what runs on, and how many schedules are in use.
-pub fn state_octets(power: MaybePower, pending: Pending, until: u64, count: u8) -> [u8; 22]
+pub fn state_octets(power: Option<PowerConstraint>, pending: Option<Switch>, until: u64, count: u8) -> [u8; 22]
     ensures { result ≡ state_octets power pending until count }
 {
     let p = power.to_octets();

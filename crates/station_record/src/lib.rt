@@ -10,9 +10,9 @@ mod stepping;
 ghost use Rattle.std.specs.Prelude.{◌≡◌};
 ghost use Rattle.answer.specs.Checks.{answer_of};
 ghost use Rattle.answer.specs.Faults.{verdict_of};
-ghost use Rattle.station_record.specs.Calls.{relaid, started_in, taken_in, asked_told, asked_in};
+ghost use Rattle.station_record.specs.Calls.{relaid, started_in, taken_in, asked_in};
 
-use answer::{Answer, Fault, Refusal, Verdict};
+use answer::{Fault, Refusal};
 pub use reading::read;
 use station::{Permission, Station};
 pub use stepping::advance;
@@ -47,15 +47,8 @@ const SLOTS: usize = 42;
 // The octets of a schedule.
 const SLOT: usize = 18;
 
-// What a question on a record gets.
-#[derive(Clone, Copy)]
-pub enum Asked {
-    Refused(Refusal),
-    Is(Permission),
-}
-
 // A station at moment 0 that has heard nothing, into octets that need hold nothing yet.
-pub fn start(own: [u8; 6], ap: [u8; 6], interval: u16, channel: u8, memory: &mut [u8]) -> Answer
+pub fn start(own: [u8; 6], ap: [u8; 6], interval: u16, channel: u8, memory: &mut [u8]) -> Result<(), Refusal>
     ensures value { result ≡ answer_of (started_in own ap interval channel memory.old) }
     ensures memory_after { memory.new ≡ relaid memory.old (started_in own ap interval channel memory.old) }
 {
@@ -63,19 +56,19 @@ pub fn start(own: [u8; 6], ap: [u8; 6], interval: u16, channel: u8, memory: &mut
     let answer = started.answer;
     let station = started.station;
     match answer {
-        Answer::Refused(_) => answer,
-        Answer::Accepted => {
+        Err(_) => answer,
+        Ok(()) => {
             if memory.len() < SIZE {
-                return Answer::Refused(Refusal::BufferShort);
+                return Err(Refusal::BufferShort);
             }
             laying::lay(station, memory);
-            Answer::Accepted
+            Ok(())
         }
     }
 }
 
 // A frame. One that is refused leaves every octet.
-pub fn take(memory: &mut [u8], frame: &[u8]) -> Verdict
+pub fn take(memory: &mut [u8], frame: &[u8]) -> Result<(), Fault>
     ensures value { result ≡ verdict_of (taken_in frame.now memory.old) }
     ensures memory_after { memory.new ≡ relaid memory.old (taken_in frame.now memory.old) }
 {
@@ -83,16 +76,16 @@ pub fn take(memory: &mut [u8], frame: &[u8]) -> Verdict
     let answer = held.answer;
     let station = held.station;
     match answer {
-        Answer::Refused(refusal) => Verdict::Refused(Fault::nowhere(refusal)),
-        Answer::Accepted => {
+        Err(refusal) => Err(Fault::nowhere(refusal)),
+        Ok(()) => {
             let taken = station.take(frame);
             let verdict = taken.verdict;
             let next = taken.station;
             match verdict {
-                Verdict::Refused(_) => verdict,
-                Verdict::Accepted => {
+                Err(_) => verdict,
+                Ok(()) => {
                     laying::lay(next, memory);
-                    Verdict::Accepted
+                    Ok(())
                 }
             }
         }
@@ -100,14 +93,14 @@ pub fn take(memory: &mut [u8], frame: &[u8]) -> Verdict
 }
 
 // A question: nothing of the record changes by it.
-pub fn ask(memory: &[u8], units: u32) -> Asked
-    ensures { asked_told result ≡ asked_in units memory.now }
+pub fn ask(memory: &[u8], units: u32) -> Result<Permission, Refusal>
+    ensures { result ≡ asked_in units memory.now }
 {
     let held = reading::read(memory);
     let answer = held.answer;
     let station = held.station;
     match answer {
-        Answer::Refused(refusal) => Asked::Refused(refusal),
-        Answer::Accepted => Asked::Is(station.ask(units)),
+        Err(refusal) => Err(refusal),
+        Ok(()) => Ok(station.ask(units)),
     }
 }

@@ -1,6 +1,5 @@
 // What a record holds, field by field.
-ghost use Rattle.std.specs.Prelude.{◌≡◌, ◌≤◌};
-ghost use Rattle.answer.specs.declared.Answer.{Answer};
+ghost use Rattle.std.specs.Prelude.{◌≡◌, ◌≤◌, Ok};
 ghost use Rattle.beacon.specs.Beacons.{quiet_limit};
 ghost use Rattle.station.specs.Starting.{started};
 ghost use Rattle.station.specs.Stations.{slotted};
@@ -9,21 +8,20 @@ ghost use Rattle.station_record.specs.Held.{power_at, switch_at, pending_at, sch
 ghost use Rattle.station_record.specs.Records.{head_length};
 
 use crate::judging;
-use answer::{Answer, Refusal};
-use beacon::MaybePower;
+use answer::Refusal;
 use element::power_constraint::PowerConstraint;
-use pending::{Pending, Switch};
+use pending::Switch;
 use schedule::Schedule;
 use station::{Started, Station};
 
-fn power_in(memory: &[u8]) -> MaybePower
+fn power_in(memory: &[u8]) -> Option<PowerConstraint>
     ensures { result ≡ power_at memory.now }
 {
     if octets::octet_at(memory, crate::POWER) == 0 {
-        return MaybePower::Absent;
+        return None;
     }
     let decibels = octets::octet_at(memory, crate::POWER + 1);
-    MaybePower::Is(PowerConstraint { decibels })
+    Some(PowerConstraint { decibels })
 }
 
 pub fn switch_in(memory: &[u8]) -> Switch
@@ -35,13 +33,13 @@ pub fn switch_in(memory: &[u8]) -> Switch
     Switch { at, mode, channel }
 }
 
-pub fn pending_in(memory: &[u8]) -> Pending
+pub fn pending_in(memory: &[u8]) -> Option<Switch>
     ensures { result ≡ pending_at memory.now }
 {
     if octets::octet_at(memory, crate::PENDING) == 0 {
-        return Pending::Nothing;
+        return None;
     }
-    Pending::Switch(switch_in(memory))
+    Some(switch_in(memory))
 }
 
 // The schedule from a place on.
@@ -77,11 +75,11 @@ fn schedules_in(memory: &[u8], count: usize) -> [Schedule; Station::SCHEDULE_LIM
 // The station that a record holds, or 16 and one fixed station beside it that no call may be handed.
 pub fn read(memory: &[u8]) -> Started
     ensures value { result ≡ started (held_in memory.now) }
-    ensures valid { result.answer ≡ Answer.Accepted → Valid result.station }
+    ensures valid { result.answer ≡ Ok tt → Valid result.station }
 {
     if judging::is_broken(memory) {
         let station = Station::nobody();
-        let answer = Answer::Refused(Refusal::Impossible);
+        let answer = Err(Refusal::Impossible);
         return Started { answer, station };
     }
     let own = octets::address_at(memory, crate::OWN);
@@ -106,6 +104,6 @@ pub fn read(memory: &[u8]) -> Started
         count,
         until,
     };
-    let answer = Answer::Accepted;
+    let answer = Ok(());
     Started { answer, station }
 }

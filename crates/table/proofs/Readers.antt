@@ -1,4 +1,5 @@
 -- The station as which a frame is read, and whom an accepted frame was sent to. Assumes nothing.
+use Rattle.std.specs.Prelude.{Ok, Some, None, Option}
 use mathlib.Core.Bool.{Bool, true, false, not, ◌||◌}
 use mathlib.Core.List.{List, [], ◌∷◌}
 use mathlib.Core.Logic.{⊎_elim}
@@ -9,7 +10,7 @@ use lib.ListN.{replicate}
 use Rattle.answer.proofs.Booleans.{clash, either, neither}
 use Rattle.answer.proofs.Judged.{passed, kept, followed}
 use Rattle.answer.proofs.Placing.{nowhere_value}
-use Rattle.answer.specs.Checks.{Outcome, accepted, pick, ◌⇒◌, judged, and_then}
+use Rattle.answer.specs.Checks.{Outcome, pick, ◌⇒◌, judged, and_then}
 use Rattle.answer.specs.Faults.{nowhere, placed_past}
 use Rattle.answer.specs.declared.Refusal.{Refusal}
 use Rattle.frame.specs.Frames.{Sent, kind_of, sent, frame_means}
@@ -19,7 +20,6 @@ use Rattle.header.specs.declared.address.Cell.{Cell}
 use Rattle.octets.specs.Numbers.{bit, octet}
 use Rattle.row.specs.Places.{place_of}
 use Rattle.row.specs.Rows.{is_of}
-use Rattle.row.specs.declared.places.Place.{Place}
 use Rattle.table.specs.CodeTerms.Hearing.{reader_at}
 use Rattle.table.specs.Tables.{is_joined, reader_of}
 use Rattle.table.specs.declared.Table.{Table}
@@ -36,14 +36,14 @@ module _ (t : Table) (f : List ℕ) where
   unfolding reader_of
   reader_else e = ap (λ (b : Bool). pick b (da f) (replicate 6 255)) e
 
-  pub reader_placed : (q : Place) → place_of (is_of (da f)) t.rows ≡ q → reader_at q (da f) ≡ reader_of t f
-  reader_placed (Place.At i) e = sym (reader_joined (found_at (is_of (da f)) t.rows i e).there)
-  reader_placed Place.Nowhere e = sym (reader_else (none_such (is_of (da f)) t.rows e).0)
+  pub reader_placed : (q : Option ℕ) → place_of (is_of (da f)) t.rows ≡ q → reader_at q (da f) ≡ reader_of t f
+  reader_placed (Some i) e = sym (reader_joined (found_at (is_of (da f)) t.rows i e).there)
+  reader_placed None e = sym (reader_else (none_such (is_of (da f)) t.rows e).0)
 
 -- ---- an accepted frame
 
-module _ (own ap' : List ℕ) (b : ℕ) (f : List ℕ) (x : Sent) (e : frame_means own ap' b f ≡ accepted x) where
-  its_head : (h : Head) × (header_means Cell.Ap own ap' f ≡ accepted h) × (h.to_all ≡ x.to_all)
+module _ (own ap' : List ℕ) (b : ℕ) (f : List ℕ) (x : Sent) (e : frame_means own ap' b f ≡ Ok x) where
+  its_head : (h : Head) × (header_means Cell.Ap own ap' f ≡ Ok h) × (h.to_all ≡ x.to_all)
   unfolding frame_means
   its_head =
       let p = followed (nowhere (header_means Cell.Ap own ap' f)) _ x e in
@@ -72,7 +72,7 @@ module _ (own ap' : List ℕ) (b : ℕ) (f : List ℕ) (x : Sent) (e : frame_mea
       (neither (not (same (bssid f) ap')) (not (same (da f) own || to_all f)) (neither (foreign_sender Cell.Ap ap' f) _ its_address.0).1).1
 
 -- one that only frames to all ones reach
-pub to_all_ones : (ap' : List ℕ) (b : ℕ) (f : List ℕ) (x : Sent) → frame_means (replicate 6 255) ap' b f ≡ accepted x → x.to_all ≡ true
+pub to_all_ones : (ap' : List ℕ) (b : ℕ) (f : List ℕ) (x : Sent) → frame_means (replicate 6 255) ap' b f ≡ Ok x → x.to_all ≡ true
 unfolding to_all
 to_all_ones ap' b f x e = sym (sent_to_all (replicate 6 255) ap' b f x e) ∙ once (to_all f) (reached (replicate 6 255) ap' b f x e)
   where
@@ -97,7 +97,7 @@ module _ (ap' : List ℕ) (f : List ℕ) where
   head_by reach =
       and_then (management_means f)
       (λ s. and_then {A = Bool} (judged ((foreign_sender Cell.Ap ap' f || (not (same (bssid f) ap') || not reach)) ⇒ Refusal.ForeignAddress ∷ []) (to_all f))
-      (λ a. accepted (record { subtype = s; to_all = a })))
+      (λ a. Ok (record { subtype = s; to_all = a })))
 
   by_reach : (own : List ℕ) → header_means Cell.Ap own ap' f ≡ head_by (same (da f) own || to_all f)
   unfolding header_means address_means foreign_address

@@ -3,8 +3,7 @@ use mathlib.Core.List.{List}
 use mathlib.Core.Path.{◌≡◌, subst}
 use Prim.Native.Nat.{ℕ}
 use Rattle.answer.specs.Checks.{Outcome}
-use Rattle.octets.specs.declared.writing.Wrote.{Wrote}
 use Rattle.reply.specs.Replies.{Replied}
 
-pub same_reply : (o p : Outcome (List ℕ)) (buffer : List ℕ) (answer : Wrote) (exit : List ℕ) → o ≡ p → Replied o buffer answer exit → Replied p buffer answer exit
+pub same_reply : (o p : Outcome (List ℕ)) (buffer : List ℕ) (answer : Outcome ℕ) (exit : List ℕ) → o ≡ p → Replied o buffer answer exit → Replied p buffer answer exit
 same_reply o p buffer answer exit e r = subst (λ (q : Outcome (List ℕ)). Replied q buffer answer exit) e r

@@ -1,4 +1,5 @@
 -- What the calls leave is a valid table. Assumes nothing.
+use Rattle.std.specs.Prelude.{Some, None, Option}
 use mathlib.Core.Bool.{Bool, true, false, ◌||◌}
 use mathlib.Core.List.{List, map}
 use mathlib.Core.Path.{◌≡◌, refl, sym, ap, ◌∙◌, subst}
@@ -18,7 +19,6 @@ use Rattle.row.specs.Rows.{row_count, free, seated, is_free, All, Occupied, Vali
 use Rattle.row.specs.declared.Row.{Row}
 use Rattle.station.proofs.KeptThroughout.{Unchanged, heard_unchanged, KeptThroughout, advance_keeps}
 use Rattle.station.proofs.StaysValid.{valid_fresh, advanced, valid_changed}
-use Rattle.pending.specs.declared.Pending.{Pending}
 use Rattle.station.specs.Clock.{stepped as station_stepped, reached, clock_advance, advanced_to, advance_means, advance_of}
 use Rattle.station.specs.Starting.{start_forbids as station_forbids}
 use Rattle.station.specs.Stations.{clock_limit, unit_limit, fresh, with_clock}
@@ -31,6 +31,7 @@ use Rattle.table.specs.Tables.{ticked_table, with_rows, on_first, is_joined, emp
 use Rattle.table.specs.Validity.{Sits, Holds, RowOf, Apart, ValidTable}
 use Rattle.table.specs.declared.Table.{Table}
 use Rattle.table.proofs.StaysApart.{all_map, all_kept, all_on_first, length_on_first, SameSeat, apart_same, seats_map, seats_on_first, apart_left, apart_joined}
+use Rattle.pending.specs.declared.Switch.{Switch}
 
 -- ---- start
 
@@ -85,9 +86,9 @@ goes_on s n near =
     by_test_lem true channel = refl
     by_test_lem false channel = refl
 
-    by_pending : (p : Pending) → (station_stepped s (advanced_to s (reached (s.clock + n) p))).station.clock ≡ s.clock + n
-    by_pending Pending.Nothing = refl
-    by_pending (Pending.Switch x) = by_test_lem (ltb (s.clock + n) x.at) x.channel
+    by_pending : (p : Option Switch) → (station_stepped s (advanced_to s (reached (s.clock + n) p))).station.clock ≡ s.clock + n
+    by_pending None = refl
+    by_pending (Some x) = by_test_lem (ltb (s.clock + n) x.at) x.channel
 
 module _ (t : Table) (v : ValidTable t) where
   -- what a row of it asks of a station, without the table
@@ -130,7 +131,7 @@ module _ (t : Table) (v : ValidTable t) where
       allowed off =
           or_go (eqb t.interval 0) some_interval ∙ or_go (ltb highest channel) off.1 ∙ or_go (bit 0 (octet 0 own)) off.0 ∙ v.ap_single
 
-      valid_later : (s : Station) → Valid s → s.pending ≡ Pending.Nothing → Valid (with_clock s t.clock)
+      valid_later : (s : Station) → Valid s → s.pending ≡ None → Valid (with_clock s t.clock)
       valid_later s w e = record {
         own_single = w.own_single;
         ap_single = w.ap_single;

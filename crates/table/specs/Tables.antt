@@ -1,11 +1,9 @@
 -- Sixteen stations on one clock (02, Six): "A table has 16 rows, one AP, one interval and one clock; a row is joined by an address and left by it."
-use Rattle.std.specs.Prelude.{Bool, false, not, ◌||◌, List, [], ◌∷◌, map, ℕ, ◌+◌, ltb, eqb, replicate}
-use Rattle.answer.specs.Checks.{Outcome, refused, accepted, pick, ◌⇒◌, judged, and_then}
+use Rattle.std.specs.Prelude.{Bool, false, not, ◌||◌, List, [], ◌∷◌, map, ℕ, ◌+◌, ltb, eqb, replicate, Ok, Err}
+use Rattle.answer.specs.Checks.{Outcome, pick, ◌⇒◌, judged, and_then}
 use Rattle.answer.specs.Faults.{Placed}
 use Rattle.answer.specs.Numbers.{number_of}
-use Rattle.answer.specs.declared.Answer.{Answer}
 use Rattle.answer.specs.declared.Refusal.{Refusal}
-use Rattle.answer.specs.declared.Verdict.{Verdict}
 use Rattle.channel.specs.Centres.{highest}
 use Rattle.frame.specs.Frames.{Kind, Sent, frame_means}
 use Rattle.header.specs.Headers.{da}
@@ -19,7 +17,6 @@ use Rattle.station.specs.declared.Station.{Station}
 use Rattle.station.specs.declared.asking.Permission.{Permission}
 use Rattle.table.specs.declared.Stepped.{Stepped}
 use Rattle.table.specs.declared.Table.{Table}
-use Rattle.table.specs.declared.asking.Asked.{Asked}
 use Rattle.table.specs.declared.starting.Started.{Started}
 use Rattle.table.specs.declared.taking.Taken.{Taken}
 
@@ -40,8 +37,8 @@ on_first p f (w ∷ ws) = pick (p w) (f w ∷ ws) (w ∷ on_first p f ws)
 
 -- the station of the first row that is such; "26 address not joined"
 unfoldable pub first_such : (Row → Bool) → List Row → Outcome Station
-first_such p [] = refused Refusal.NotJoined
-first_such p (w ∷ ws) = pick (p w) (accepted w.station) (first_such p ws)
+first_such p [] = Err Refusal.NotJoined
+first_such p (w ∷ ws) = pick (p w) (Ok w.station) (first_such p ws)
 
 abbrev pub is_joined : Table → List ℕ → Bool
 is_joined t own = some_row (is_of own) t.rows
@@ -51,8 +48,8 @@ station_of t own = first_such (is_of own) t.rows
 
 -- the answer of a call that may be refused, and the table after it
 abbrev pub stepped : Table → Outcome Table → Stepped
-stepped t (refused r) = record { answer = Answer.Refused r; table = t }
-stepped t (accepted next) = record { answer = Answer.Accepted; table = next }
+stepped t (Err r) = record { answer = Err r; table = t }
+stepped t (Ok next) = record { answer = Ok tt; table = next }
 
 -- ---- start: 15 as in 01, for the AP and B
 
@@ -62,8 +59,8 @@ empty ap b = record { ap = ap; interval = b; clock = 0; rows = replicate row_cou
 
 -- what stands beside a refusal; its interval is 0, so it is not valid
 abbrev pub started : Outcome Table → Started
-started (refused r) = record { answer = Answer.Refused r; table = empty (replicate 6 0) 0 }
-started (accepted t) = record { answer = Answer.Accepted; table = t }
+started (Err r) = record { answer = Err r; table = empty (replicate 6 0) 0 }
+started (Ok t) = record { answer = Ok tt; table = t }
 
 abbrev pub start_forbids : List ℕ → ℕ → Bool
 start_forbids ap b = eqb b 0 || bit 0 (octet 0 ap)
@@ -128,12 +125,12 @@ abbrev pub heard_rows : List ℕ → Sent → List Row → List Row
 heard_rows f x ws = pick x.to_all (map (hearing x.kind) ws) (on_first (is_of (da f)) (hearing x.kind) ws)
 
 unfoldable pub take_means : Table → List ℕ → Placed Table
-take_means t f = and_then (frame_means (reader_of t f) t.ap t.interval f) (λ x. accepted (with_rows t (heard_rows f x t.rows)))
+take_means t f = and_then (frame_means (reader_of t f) t.ap t.interval f) (λ x. Ok (with_rows t (heard_rows f x t.rows)))
 
 -- the verdict on a frame, and the table after it
 abbrev pub taken : Table → Placed Table → Taken
-taken t (refused x) = record { verdict = Verdict.Refused x; table = t }
-taken t (accepted next) = record { verdict = Verdict.Accepted; table = next }
+taken t (Err x) = record { verdict = Err x; table = t }
+taken t (Ok next) = record { verdict = Ok tt; table = next }
 
 abbrev pub take_of : Table → List ℕ → Taken
 take_of t f = taken t (take_means t f)
@@ -141,12 +138,8 @@ take_of t f = taken t (take_means t f)
 -- ---- questions: 26 where the address is not joined, and else what its station answers
 
 unfoldable pub ask_means : Table → List ℕ → ℕ → Outcome Permission
-ask_means t own n = and_then (station_of t own) (λ s. accepted (permission_of s n))
+ask_means t own n = and_then (station_of t own) (λ s. Ok (permission_of s n))
 
-abbrev pub asked_told : Asked → Outcome Permission
-asked_told (Asked.Refused r) = refused r
-asked_told (Asked.Told p) = accepted p
-
-abbrev pub asked_number : Asked → ℕ
-asked_number (Asked.Refused r) = number_of r
-asked_number (Asked.Told p) = permission_number p
+abbrev pub asked_number : Outcome Permission → ℕ
+asked_number (Err r) = number_of r
+asked_number (Ok p) = permission_number p

@@ -1,31 +1,29 @@
 // Joining and leaving a table (document 02, Six): a row is joined by an address and left by it.
 ghost use Rattle.std.specs.Prelude.{◌≡◌};
-ghost use Rattle.row.specs.declared.places.Place.{Place};
 ghost use Rattle.table.specs.CodeTerms.Seating.{seat_among, seat_means};
 ghost use Rattle.table.specs.Tables.{join_of, leave_of, stepped};
 ghost use Rattle.table.specs.Validity.{ValidTable};
 
 use crate::{Stepped, Table};
-use answer::{Answer, Refusal};
-use row::Place;
+use answer::Refusal;
 use station::Station;
 
 // The row that a station takes, or why it takes none.
 #[derive(Clone, Copy)]
-enum Seat {
+enum Result<usize, Refusal> {
     Refused(Refusal),
     At(usize),
 }
 
 // 25 where a station of its address sits somewhere, before 24 where no row is free.
-fn seat_among(sitting: Place, vacant: Place) -> Seat
+fn seat_among(sitting: Option<usize>, vacant: Option<usize>) -> Result<usize, Refusal>
     ensures { result ≡ seat_among sitting vacant }
 {
     match sitting {
-        Place::At(_) => Seat::Refused(Refusal::AlreadyJoined),
-        Place::Nowhere => match vacant {
-            Place::Nowhere => Seat::Refused(Refusal::NoFreeRow),
-            Place::At(place) => Seat::At(place),
+        Some(_) => Err(Refusal::AlreadyJoined),
+        None => match vacant {
+            None => Err(Refusal::NoFreeRow),
+            Some(place) => Ok(place),
         },
     }
 }
@@ -40,8 +38,8 @@ impl Table {
         let rows = self.rows;
         let seat = seat_among(row::place_of(rows, own), row::free_place(rows));
         match seat {
-            Seat::Refused(refusal) => Stepped::refused(refusal, self),
-            Seat::At(place) => {
+            Err(refusal) => Stepped::refused(refusal, self),
+            Ok(place) => {
                 let row = rows[place];
                 Stepped::accepted(self.with_row(place, row.taken_by(station)))
             }
@@ -59,8 +57,8 @@ impl Table {
         let answer = started.answer;
         let fresh = started.station;
         match answer {
-            Answer::Refused(refusal) => Stepped::refused(refusal, self),
-            Answer::Accepted => self.seat(Station {
+            Err(refusal) => Stepped::refused(refusal, self),
+            Ok(()) => self.seat(Station {
                 clock: self.clock,
                 ..fresh
             }),
@@ -75,8 +73,8 @@ impl Table {
     {
         let rows = self.rows;
         match row::place_of(rows, own) {
-            Place::Nowhere => Stepped::refused(Refusal::NotJoined, self),
-            Place::At(place) => {
+            None => Stepped::refused(Refusal::NotJoined, self),
+            Some(place) => {
                 let row = rows[place];
                 Stepped::accepted(self.with_row(place, row.vacated()))
             }

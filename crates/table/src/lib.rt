@@ -8,16 +8,13 @@ mod replying;
 mod starting;
 mod taking;
 
-ghost use Rattle.std.specs.Prelude.{◌≡◌, ◌<◌, set};
-ghost use Rattle.answer.specs.Checks.{refused, accepted};
+ghost use Rattle.std.specs.Prelude.{◌≡◌, ◌<◌, set, Ok, Err};
 ghost use Rattle.row.specs.Rows.{row_count};
-ghost use Rattle.row.specs.declared.places.Place.{Place};
 ghost use Rattle.table.specs.CodeTerms.Hearing.{reader_at};
 ghost use Rattle.table.specs.Tables.{reader_of, stepped, with_rows};
 
-use answer::{Answer, Refusal};
-pub use asking::Asked;
-use row::{Place, Row};
+use answer::Refusal;
+use row::Row;
 pub use starting::Started;
 pub use taking::Taken;
 
@@ -33,37 +30,37 @@ pub struct Table {
 // The answer, and the table after the call: the same as before where the call was refused.
 #[derive(Clone, Copy)]
 pub struct Stepped {
-    pub answer: Answer,
+    pub answer: Result<(), Refusal>,
     pub table: Table,
 }
 
 impl Stepped {
     fn refused(refusal: Refusal, table: Table) -> Stepped
-        ensures { result ≡ stepped table (refused refusal) }
+        ensures { result ≡ stepped table (Err refusal) }
     {
         Stepped {
-            answer: Answer::Refused(refusal),
+            answer: Err(refusal),
             table,
         }
     }
 
     fn accepted(table: Table) -> Stepped
-        ensures { result ≡ stepped table (accepted table) }
+        ensures { result ≡ stepped table (Ok table) }
     {
         Stepped {
-            answer: Answer::Accepted,
+            answer: Ok(()),
             table,
         }
     }
 }
 
 // The station as which a frame to an address is read: that address, where a station of it sits at a place, or one that only frames to all ones reach.
-fn reader_at(place: Place, to: [u8; 6]) -> [u8; 6]
+fn reader_at(place: Option<usize>, to: [u8; 6]) -> [u8; 6]
     ensures { result ≡ reader_at place to }
 {
     match place {
-        Place::At(_) => to,
-        Place::Nowhere => [255; 6],
+        Some(_) => to,
+        None => [255; 6],
     }
 }
 

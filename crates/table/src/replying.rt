@@ -6,11 +6,11 @@ ghost use Rattle.table.specs.Replies.{tpc_reply_of, measurement_reply_of};
 use crate::Table;
 use element::tpc_report::TpcReport;
 use measured_report::Readings;
-use octets::Wrote;
+use answer::Refusal;
 
 impl Table {
     // The reply to a TPC Request, with the power and the margin that the caller has measured.
-    pub fn reply_to_tpc_request(self, frame: &[u8], report: TpcReport, buffer: &mut [u8]) -> Wrote
+    pub fn reply_to_tpc_request(self, frame: &[u8], report: TpcReport, buffer: &mut [u8]) -> Result<usize, Refusal>
         ensures { Replied (tpc_reply_of self report frame.now) buffer.old result buffer.new }
     {
         let own = self.reader_of(frame);
@@ -25,7 +25,7 @@ impl Table {
         index: usize,
         readings: Readings,
         buffer: &mut [u8],
-    ) -> Wrote
+    ) -> Result<usize, Refusal>
         ensures { Replied (measurement_reply_of self index readings frame.now) buffer.old result buffer.new }
     {
         let own = self.reader_of(frame);

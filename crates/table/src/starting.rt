@@ -1,17 +1,16 @@
 // Starting a table (document 02, Six; document 01, "Answer numbers", 15).
-ghost use Rattle.std.specs.Prelude.{◌≡◌};
-ghost use Rattle.answer.specs.declared.Answer.{Answer};
+ghost use Rattle.std.specs.Prelude.{◌≡◌, Ok};
 ghost use Rattle.table.specs.Tables.{empty, started, start_forbids, start_means};
 ghost use Rattle.table.specs.Validity.{ValidTable};
 
 use crate::Table;
-use answer::{Answer, Refusal};
+use answer::Refusal;
 use row::Row;
 
 // What starting a table answers. Beside a refusal stands one fixed table that no call may be handed.
 #[derive(Clone, Copy)]
 pub struct Started {
-    pub answer: Answer,
+    pub answer: Result<(), Refusal>,
     pub table: Table,
 }
 
@@ -42,15 +41,15 @@ impl Table {
     // It begins at clock 0, or is refused with 15.
     pub fn start(ap: [u8; 6], interval: u16) -> Started
         ensures value { result ≡ started (start_means ap interval) }
-        ensures valid { result.answer ≡ Answer.Accepted → ValidTable result.table }
+        ensures valid { result.answer ≡ Ok tt → ValidTable result.table }
     {
         if Table::is_bad_start(ap, interval) {
             let table = Table::empty([0; 6], 0);
-            let answer = Answer::Refused(Refusal::BadStart);
+            let answer = Err(Refusal::BadStart);
             return Started { answer, table };
         }
         let table = Table::empty(ap, interval);
-        let answer = Answer::Accepted;
+        let answer = Ok(());
         Started { answer, table }
     }
 }

@@ -2,37 +2,35 @@
 ghost use Rattle.std.specs.Prelude.{◌≡◌, ◌<◌};
 ghost use Rattle.frame.specs.declared.Received.{Received};
 ghost use Rattle.row.specs.Rows.{row_count};
-ghost use Rattle.row.specs.declared.places.Place.{Place};
 ghost use Rattle.table.specs.CodeTerms.Hearing.{PlaceWithin, rows_after};
 ghost use Rattle.table.specs.Tables.{take_of, with_rows};
 ghost use Rattle.table.specs.Validity.{ValidTable};
 
 use crate::Table;
-use answer::Verdict;
-use frame::{Reading, Received};
-use row::Place;
+use frame::Received;
+use answer::Fault;
 
 // The verdict on a frame, and the table after it: the same as before where the frame was refused.
 #[derive(Clone, Copy)]
 pub struct Taken {
-    pub verdict: Verdict,
+    pub verdict: Result<(), Fault>,
     pub table: Table,
 }
 
 impl Table {
     // What was read goes to the row at a place, or, where it was sent to no station alone, to all of them.
-    fn heard(self, place: Place, received: Received) -> Table
+    fn heard(self, place: Option<usize>, received: Received) -> Table
         requires valid_table { ValidTable self }
         requires place_within { PlaceWithin place }
         ensures { result ≡ with_rows self (rows_after place received self.rows) }
     {
         let rows = self.rows;
         match place {
-            Place::At(at) => {
+            Some(at) => {
                 let row = rows[at];
                 self.with_row(at, row.hear(received))
             }
-            Place::Nowhere => {
+            None => {
                 let next = row::hear_all(rows, received);
                 Table { rows: next, ..self }
             }
@@ -53,12 +51,12 @@ impl Table {
         let received = frame::read(frame, own, ap, self.interval);
         let reading = received.reading;
         match reading {
-            Reading::Refused(fault) => Taken {
-                verdict: Verdict::Refused(fault),
+            Err(fault) => Taken {
+                verdict: Err(fault),
                 table: self,
             },
-            Reading::Is(_) => Taken {
-                verdict: Verdict::Accepted,
+            Ok(_) => Taken {
+                verdict: Ok(()),
                 table: self.heard(place, received),
             },
         }

@@ -1,4 +1,5 @@
 -- Laws of the element that has to be there, and of what is left after it. Assumes nothing.
+use Rattle.std.specs.Prelude.{Ok, Err}
 use mathlib.Core.Path.{◌≡◌, refl, sym, ap, subst, ◌∙◌}
 use mathlib.Core.Bool.{Bool, true, false}
 use mathlib.Core.List.{List, [], ◌∷◌}
@@ -10,7 +11,7 @@ use lib.ListN.{length, take, drop, length-drop}
 use lib.Seq.{length-take-le}
 use Rattle.answer.proofs.Booleans.{clash}
 use Rattle.answer.proofs.Judged as Judged
-use Rattle.answer.specs.Checks.{refused, accepted, pick, checked}
+use Rattle.answer.specs.Checks.{pick, checked}
 use Rattle.answer.specs.Faults.{fault_at, Placed}
 use Rattle.answer.specs.declared.Refusal.{Refusal}
 use Rattle.walk.specs.CodeTerms.Required.{between, required_told, RequiredWithin}
@@ -27,7 +28,7 @@ use Rattle.walk.proofs.Walking.{at_end, headed}
 
 module _ (id : ℕ) where
   -- is a whole one of this ID
-  pub whole : (hs : Handed) (s : Standing) → required id hs ≡ accepted s → hs ≡ more id s.contents s.rest
+  pub whole : (hs : Handed) (s : Standing) → required id hs ≡ Ok s → hs ≡ more id s.contents s.rest
   unfolding required
   whole end s e = absurd (Judged.never e)
   whole cut_header s e = absurd (Judged.never e)
@@ -40,7 +41,7 @@ module _ (id : ℕ) where
   whole cut_passed s e = absurd (Judged.never e)
 
   -- and such a one is there
-  pub there : (c : List ℕ) (hs : Handed) → required id (more id c hs) ≡ accepted (record { contents = c; rest = hs })
+  pub there : (c : List ℕ) (hs : Handed) → required id (more id c hs) ≡ Ok (record { contents = c; rest = hs })
   unfolding required checked
   there c hs = simp (eq-eqb id id refl)
 
@@ -48,7 +49,7 @@ module _ (id : ℕ) where
 
 -- the contents lie between two places of the run
 pub record Lies (run : List ℕ) (at id start stop : ℕ) : Type 0 where
-  pub stands : required id (handed_in (drop at run)) ≡ accepted (between run start stop)
+  pub stands : required id (handed_in (drop at run)) ≡ Ok (between run start stop)
   pub begins : start ≡ at + 2
   pub ordered : start ≤ stop
   pub inside : stop ≤ length run
@@ -67,7 +68,7 @@ module _ (run : List ℕ) (at id : ℕ) (x : Required) (t : required_told run x 
       let v = subst (RequiredWithin at (length run)) e w in
       record { stands = sym t ∙ ap (required_told run) e; begins = v.0; ordered = v.1; inside = v.2 }
 
-  pub is_not : {r : Refusal} → x ≡ Required.Refused r → required id (handed_in (drop at run)) ≡ refused r
+  pub is_not : {r : Refusal} → x ≡ Required.Refused r → required id (handed_in (drop at run)) ≡ Err r
   is_not e = sym t ∙ ap (required_told run) e
 
 -- ---- what is left after it
@@ -84,7 +85,7 @@ module _ {A : Type 0} (a : A) where
   left_onward cut_passed n h = clash h
 
   -- or one of them is cut
-  pub left_cut : (hs : Handed) (n : ℕ) → (next_after n hs).cut ≡ true → nothing_left n hs a ≡ refused (fault_at (next_after n hs).at Refusal.ElementCut)
+  pub left_cut : (hs : Handed) (n : ℕ) → (next_after n hs).cut ≡ true → nothing_left n hs a ≡ Err (fault_at (next_after n hs).at Refusal.ElementCut)
   unfolding nothing_left next_after
   left_cut end n h = clash (sym h)
   left_cut cut_header n h = clash (sym h)
@@ -95,7 +96,7 @@ module _ {A : Type 0} (a : A) where
 
   module _ (n : ℕ) where
     abbrev over : Placed A
-    over = refused (fault_at n Refusal.LeftOver)
+    over = Err (fault_at n Refusal.LeftOver)
 
     by_size : (t : Bool) (id : ℕ) (c : List ℕ) (es : Elements) → nothing_left n (handing (pick t (Raw.more id c es) (Raw.cut_contents id))) a ≡ over
     unfolding nothing_left handing
@@ -109,7 +110,7 @@ module _ {A : Type 0} (a : A) where
     left (id ∷ m ∷ os) h =
         ap (λ (es : Elements). nothing_left n (handing es) a) (headed id m os) ∙ by_size (leb m (length os)) id (take m os) (elements_in (drop m os))
 
-    none : (run : List ℕ) → length run ≤ n → nothing_left n (handed_in (drop n run)) a ≡ accepted a
+    none : (run : List ℕ) → length run ≤ n → nothing_left n (handed_in (drop n run)) a ≡ Ok a
     unfolding nothing_left handing
     none run h = ap (λ (es : Elements). nothing_left n (handing es) a) (at_end run n h)
 
@@ -121,8 +122,8 @@ module _ {A : Type 0} (a : A) where
     by_next : nothing_left at (passing_in (drop at run)) a ≡ nothing_left next (handed_in (drop next run)) a
     by_next = left_onward (passing_in (drop at run)) at whole-ones ∙ ap (λ (hs : Handed). nothing_left next hs a) (onward_at run at whole-ones)
 
-    pub left_over : next < length run → nothing_left at (passing_in (drop at run)) a ≡ refused (fault_at next Refusal.LeftOver)
+    pub left_over : next < length run → nothing_left at (passing_in (drop at run)) a ≡ Err (fault_at next Refusal.LeftOver)
     left_over h = by_next ∙ left next (drop next run) (simp length-drop (omega arith))
 
-    pub none_left : length run ≤ next → nothing_left at (passing_in (drop at run)) a ≡ accepted a
+    pub none_left : length run ≤ next → nothing_left at (passing_in (drop at run)) a ≡ Ok a
     none_left h = by_next ∙ none next run h

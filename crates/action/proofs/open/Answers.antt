@@ -1,33 +1,33 @@
 -- `open` meets its contract: each way out is a way through the list of checks.
+use Rattle.std.specs.Prelude.{Err}
 use Rattle.std.proofs.Common.{ap, eq-eqb, le-ltb, lt-ltb, ne_eqb, not, sym, ◌∙◌}
 use Rattle.answer.proofs.Judged.{past, stop, done, through}
-use Rattle.answer.specs.Checks.{refused}
 use Rattle.action.specs.Openings.{opens_with}
 use Rattle.action.proofs.open.Goals as goal
 
 pub returns-then-body-lt1 : goal.returns-then-body-lt1
 unfolding opens_with
 returns-then-body-lt1 c =
-    ap refused c.nowhere.ensures
+    ap Err c.nowhere.ensures
     ∙ stop _ _ _ (lt-ltb _ _ c.if-body-lt1.true)
 
 pub returns-then-body-ne0 : goal.returns-then-body-ne0
 unfolding opens_with
 returns-then-body-ne0 c =
-    ap refused c.at.ensures
+    ap Err c.at.ensures
     ∙ past _ _ _ (le-ltb _ _ c.if-body-lt1.false) (stop _ _ _ (ap not (ne_eqb _ _ c.if-body-ne0.true)))
 
 pub returns-then-body-lt-SWITCH_FIXED_FIELDS : goal.returns-then-body-lt-SWITCH_FIXED_FIELDS
 unfolding opens_with
 returns-then-body-lt-SWITCH_FIXED_FIELDS c =
-    ap refused c.nowhere-then-body-lt-SWITCH_FIXED_FIELDS.ensures
+    ap Err c.nowhere-then-body-lt-SWITCH_FIXED_FIELDS.ensures
     ∙ past _ _ _ (le-ltb _ _ c.if-body-lt1.false)
     (past _ _ _ (ap not (eq-eqb _ _ c.if-body-ne0.false)) (stop _ _ _ (lt-ltb _ _ c.if-body-lt-SWITCH_FIXED_FIELDS.true)))
 
 pub returns-then-action-gt4 : goal.returns-then-action-gt4
 unfolding opens_with
 returns-then-action-gt4 c =
-    ap refused c.at-then-action-gt4.ensures
+    ap Err c.at-then-action-gt4.ensures
     ∙ past _ _ _ (le-ltb _ _ c.if-body-lt1.false)
     (past _ _ _ (ap not (eq-eqb _ _ c.if-body-ne0.false))
     (past _ _ _ (le-ltb _ _ c.if-body-lt-SWITCH_FIXED_FIELDS.false)
@@ -45,7 +45,7 @@ returns-then-action-eq4 c =
 pub returns-then-body-lt-FIXED_FIELDS : goal.returns-then-body-lt-FIXED_FIELDS
 unfolding opens_with
 returns-then-body-lt-FIXED_FIELDS c =
-    ap refused c.nowhere-then-body-lt-FIXED_FIELDS.ensures
+    ap Err c.nowhere-then-body-lt-FIXED_FIELDS.ensures
     ∙ past _ _ _ (le-ltb _ _ c.if-body-lt1.false)
     (past _ _ _ (ap not (eq-eqb _ _ c.if-body-ne0.false))
     (past _ _ _ (le-ltb _ _ c.if-body-lt-SWITCH_FIXED_FIELDS.false)
@@ -55,7 +55,7 @@ returns-then-body-lt-FIXED_FIELDS c =
 pub returns-then-forbids_token : goal.returns-then-forbids_token
 unfolding opens_with
 returns-then-forbids_token c =
-    ap refused c.at-then-forbids_token.ensures
+    ap Err c.at-then-forbids_token.ensures
     ∙ past _ _ _ (le-ltb _ _ c.if-body-lt1.false)
     (past _ _ _ (ap not (eq-eqb _ _ c.if-body-ne0.false))
     (past _ _ _ (le-ltb _ _ c.if-body-lt-SWITCH_FIXED_FIELDS.false)

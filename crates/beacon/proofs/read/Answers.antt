@@ -1,8 +1,9 @@
 -- `read` meets its contract. The invariant: what was said so far, and what the elements from here on add to it is what the body
 -- says; the measure is what is left.
 -- Assumes nothing.
+use Rattle.std.specs.Prelude.{Err, Some}
 use Rattle.std.proofs.Common.{Bool, List, [], ap, ap₂, arith, drop, false, length, length-drop, length-take-le, refl, subst, sym, take, true, ℕ, ◌-◌, ◌∙◌, ◌≡◌}
-use Rattle.answer.specs.Checks.{refused}
+use Rattle.answer.specs.Checks.{Outcome}
 use Rattle.answer.specs.Faults.{Placed}
 use Rattle.answer.specs.declared.Fault.{Fault}
 use Rattle.walk.specs.Elements.{elements_in, past_element}
@@ -16,14 +17,13 @@ use Rattle.beacon.specs.CodeTerms.Quieting.{QuietAt}
 use Rattle.beacon.specs.IbssBeacons.{ToldInIbss, absent, tells_in_ibss, told_where}
 use Rattle.beacon.specs.Laid.{laid}
 use Rattle.beacon.specs.Notices.{elementless}
-use Rattle.beacon.specs.declared.adding.Added.{Added}
-use Rattle.beacon.specs.declared.quiets.MaybeQuiet.{MaybeQuiet}
 use Rattle.beacon.proofs.Allowing.{opening_allowed}
 use Rattle.beacon.proofs.InIbss.{where_read}
 use Rattle.beacon.proofs.Saying.{short_body, other_interval, body_says}
 use Rattle.beacon.proofs.Walking.{Comes, at_end, at_cut_header, at_cut_contents, at_bad_dfs, at_dfs, at_refused, at_notice, no_slot, at_quiet}
 use Rattle.beacon.proofs.read.Goals as goal
 use Rattle.beacon.proofs.read.Goals.{After-add_element, After-element_at, After-read_dfs-naming, In-Is}
+use Rattle.element.specs.declared.quiet.Quiet.{Quiet}
 
 -- ---- before the loop
 -- what a body means as the code goes over it, and what it is to mean
@@ -34,7 +34,7 @@ goes_over ibss interval body e = e ∙ where_read interval ibss body
 pub returns-then-body-lt-FIXED_LENGTH : goal.returns-then-body-lt-FIXED_LENGTH
 returns-then-body-lt-FIXED_LENGTH c =
     let a = c.args in
-    c.refused.ensures ∙ ap (λ (x : Fault). laid 0 (refused x)) c.nowhere.ensures
+    c.refused.ensures ∙ ap (λ (x : Fault). laid 0 (Err x)) c.nowhere.ensures
     ∙ ap (laid a.index)
     (goes_over a.ibss a.interval a.body.now (short_body (takes_where a.ibss a.interval) _ a.interval a.body.now c.if-body-lt-FIXED_LENGTH.true))
 
@@ -65,7 +65,7 @@ loop-quiet-init c =
 
 -- ---- a Quiet element that finds a slot stands at the place
 quiet : (c : In-Is)
-    → QuietAt c.args.body.now c.loop-quiet.at c.loop-quiet.count c.args.interval (MaybeQuiet.Is c.in-Is.quiet)
+    → QuietAt c.args.body.now c.loop-quiet.at c.loop-quiet.count c.args.interval (Some c.in-Is.quiet)
 quiet c = subst (QuietAt c.args.body.now c.loop-quiet.at c.loop-quiet.count c.args.interval) c.in-Is.is c.quiet_at.ensures
 
 pub bounds-quiets-count : goal.bounds-quiets-count
@@ -153,7 +153,7 @@ full c =
     (subst (QuietAt c.args.body.now c.loop-quiet.at c.loop-quiet.count c.args.interval) c.in-Absent.is c.quiet_at.ensures)
 
 -- what was added is what the definition adds
-comes : (c : After-add_element) (x : Added) → c.add_element.result ≡ x
+comes : (c : After-add_element) (x : Outcome Notice) → c.add_element.result ≡ x
     → Comes _ _ _ _ _ _ _ _ _ c.loop-quiet.invariant c.in-Whole.id (contents c) c.in-Whole.end (goes c) (ends c) x
 comes c x e =
     let w = c.loop-quiet.invariant in

@@ -1,7 +1,6 @@
 -- Element 41 as the code reads it and adds it: of those before it, it is known whether there is one.
-use Rattle.std.specs.Prelude.{Bool, ◌&&◌, List, [], ◌∷◌, ℕ, eqb}
-use Rattle.answer.specs.Checks.{Outcome, refused, accepted, pick, ◌⇒◌, judged, and_then}
-use Rattle.answer.specs.declared.Answer.{Answer}
+use Rattle.std.specs.Prelude.{Bool, ◌&&◌, List, [], ◌∷◌, ℕ, eqb, Ok, Err}
+use Rattle.answer.specs.Checks.{Outcome, pick, ◌⇒◌, judged, and_then}
 use Rattle.answer.specs.declared.Refusal.{Refusal}
 use Rattle.element.specs.IbssDfs.{Dfs, dfs_means}
 use Rattle.beacon.specs.IbssBeacons.{absent, is, ToldInIbss, takes_dfs, takes_too}
@@ -21,5 +20,5 @@ abbrev pub first_dfs : Bool → List ℕ → Outcome Dfs
 first_dfs names c = and_then (dfs_means c) (λ d. judged (names ⇒ Refusal.Repeated ∷ []) d)
 
 abbrev pub naming_laid : ℕ → Outcome Dfs → Naming
-naming_laid i (refused r) = record { answer = Answer.Refused r; dfs = dfs_heard i absent }
-naming_laid i (accepted d) = record { answer = Answer.Accepted; dfs = dfs_heard i (is d) }
+naming_laid i (Err r) = record { answer = Err r; dfs = dfs_heard i absent }
+naming_laid i (Ok d) = record { answer = Ok tt; dfs = dfs_heard i (is d) }

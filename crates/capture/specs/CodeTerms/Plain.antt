@@ -1,12 +1,11 @@
 -- The records that ask no more of a station than its clock and its pending switch, and their lines.
-use Rattle.std.specs.Prelude.{Bool, true, false, not, ◌&&◌, List, ◌≡◌, ℕ, ◌+◌, ◌-◌, ◌*◌, ◌/◌, ◌≤◌, leb, eqb, length, drop}
+use Rattle.std.specs.Prelude.{Bool, true, false, not, ◌&&◌, List, ◌≡◌, ℕ, ◌+◌, ◌-◌, ◌*◌, ◌/◌, ◌≤◌, leb, eqb, length, drop, Option}
 use Rattle.capture_record.specs.Entries.{Noted, advancing, asking, entry_means}
 use Rattle.capture_record.specs.Records.{more, records_in}
 use Rattle.octets.specs.Writing.{over}
 use Rattle.pen.specs.Numerals.{Spells}
 use Rattle.pen.specs.Rooms.{line_room}
 use Rattle.pen.specs.declared.Pen.{Pen}
-use Rattle.pending.specs.declared.Pending.{Pending}
 use Rattle.station.specs.Clear.{Clear}
 use Rattle.station.specs.Clock.{clock_advance}
 use Rattle.station.specs.Stations.{unit_limit, with_clock}
@@ -17,6 +16,7 @@ use Rattle.capture.specs.Lists.{before, recorded}
 use Rattle.capture.specs.declared.lister.Lister.{Lister}
 use Rattle.capture.specs.declared.plain.Plain.{Plain}
 use Rattle.capture.specs.declared.plain.Ran.{Ran}
+use Rattle.pending.specs.declared.Switch.{Switch}
 
 -- ---- one record
 
@@ -39,7 +39,7 @@ pub record Notes (used : List ℕ) (at end : ℕ) (x : Noted) : Type 0 where
   pub past : at + 3 ≤ end
   pub within : end ≤ length used
 
-abbrev pub PlainAt : List ℕ → ℕ → ℕ → Pending → ℕ → Plain → Type 0
+abbrev pub PlainAt : List ℕ → ℕ → ℕ → Option Switch → ℕ → Plain → Type 0
 PlainAt used at t p c (Plain.Goes later end) = (n : ℕ) × Notes used at end (advancing n) × (clock_advance t p n ≡ Advanced.Goes later)
 PlainAt used at t p c (Plain.Granted end) = (n : ℕ) × Notes used at end (asking n) × (n ≤ unit_limit) × (known_granted t c n ≡ true)
 PlainAt used at t p c Plain.Other = Unit {0}
@@ -55,7 +55,7 @@ abbrev pub clocked_at : Lister → ℕ → Lister
 clocked_at l t = with_station l l.active (with_clock l.station t)
 
 -- the station that is followed, if one is: its clock is at t, its pending switch is p, and it is clear before c
-pub record Watched (l : Lister) (active : Bool) (t : ℕ) (p : Pending) (c : ℕ) : Type 0 where
+pub record Watched (l : Lister) (active : Bool) (t : ℕ) (p : Option Switch) (c : ℕ) : Type 0 where
   pub same : l.active ≡ active
   pub clock : l.station.clock ≡ t
   pub pending : l.station.pending ≡ p
@@ -63,7 +63,7 @@ pub record Watched (l : Lister) (active : Bool) (t : ℕ) (p : Pending) (c : ℕ
   pub clear : active ≡ true → Clear l.station c
 
 -- what the lines of plain records leave, of which the first stands at `start`
-pub record RanFrom (used : List ℕ) (start : ℕ) (active : Bool) (t : ℕ) (p : Pending) (c : ℕ) (begun : Pen) (out : List ℕ) (r : Ran) (digits exit : List ℕ) : Type 0 where
+pub record RanFrom (used : List ℕ) (start : ℕ) (active : Bool) (t : ℕ) (p : Option Switch) (c : ℕ) (begun : Pen) (out : List ℕ) (r : Ran) (digits exit : List ℕ) : Type 0 where
   pub text : List ℕ
   pub told : (l : Lister) → Watched l active t p c
       → recorded (records_in (drop start used)) (with_lines l begun.lines)

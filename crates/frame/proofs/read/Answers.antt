@@ -1,6 +1,6 @@
 -- `read` meets its contract: the header, then the body by its subtype.
+use Rattle.std.specs.Prelude.{Ok, Err}
 use Rattle.std.proofs.Common.{[], ap, false, length, sym, ◌∙◌, ◌≡◌, ◌≤◌}
-use Rattle.answer.specs.Checks.{accepted}
 use Rattle.answer.specs.Faults.{placed_past}
 use Rattle.answer.specs.declared.Fault.{Fault}
 use Rattle.header.specs.Headers.{header_length, header_told, Head, header_means}
@@ -9,7 +9,6 @@ use Rattle.header.specs.declared.management.Subtype.{Subtype}
 use Rattle.frame.specs.CodeTerms.BodyKinds.{kind_subtype}
 use Rattle.frame.specs.Frames.{kind_of, sent, frame_means}
 use Rattle.frame.specs.Laid.{received, frame_laid}
-use Rattle.frame.specs.declared.Reading.{Reading}
 use Rattle.frame.proofs.ReadFrames.{framed, body_framed}
 use Rattle.frame.proofs.Within.{body_short}
 use Rattle.measurement_body.specs.Bodies.{longest_body}
@@ -20,7 +19,7 @@ use Rattle.frame.proofs.read.Goals.{After-body-body}
 abbrev head : After-body-body → Head
 head c = record { subtype = c.in-Is.subtype; to_all = c.in-Is.broadcast }
 
-header_read : (c : After-body-body) → accepted (head c) ≡ header_means Cell.Ap c.args.own c.args.ap c.args.frame.now
+header_read : (c : After-body-body) → Ok (head c) ≡ header_means Cell.Ap c.args.own c.args.ap c.args.frame.now
 header_read c = ap header_told (sym c.in-Is.is) ∙ c.read.ensures
 
 -- what is made of the body, by the subtype that was found
@@ -47,7 +46,7 @@ pub returns-in-Refused : goal.returns-in-Refused
 returns-in-Refused c =
     let a = c.args in
     c.alone.ensures
-    ∙ ap (λ (x : Fault). received (Reading.Refused x) false []) c.nowhere.ensures
+    ∙ ap (λ (x : Fault). received (Err x) false []) c.nowhere.ensures
     ∙ ap frame_laid (framed a.own a.ap a.interval a.frame.now _ (ap header_told (sym c.in-Refused.is) ∙ c.read.ensures))
 
 pub returns-in-Notice : goal.returns-in-Notice

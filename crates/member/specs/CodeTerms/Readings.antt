@@ -1,12 +1,12 @@
 -- What was read of a frame, as the code tells it.
-use Rattle.std.specs.Prelude.{Bool, true, false}
+use Rattle.std.specs.Prelude.{Bool, true, false, Ok, Err}
 use Rattle.answer.specs.Checks.{pick}
 use Rattle.beacon.specs.Notices.{has_switch}
 use Rattle.frame.specs.declared.Frame.{Frame}
-use Rattle.frame.specs.declared.Reading.{Reading}
 use Rattle.frame.specs.declared.ibss.ReceivedInIbss.{ReceivedInIbss}
 use Rattle.owner.specs.Owners.{named}
 use Rattle.owner.specs.declared.Owner.{Owner}
+use Rattle.answer.specs.Faults.{Placed}
 
 -- whether it has an announcement, in a beacon, in a probe response or in an action frame of its own
 abbrev announces_in : Frame → Bool
@@ -18,9 +18,9 @@ announces_in (Frame.TpcRequest token) = false
 announces_in (Frame.TpcReport token t) = false
 announces_in (Frame.ChannelSwitch w) = true
 
-abbrev pub announces : Reading → Bool
-announces (Reading.Refused x) = false
-announces (Reading.Is f) = announces_in f
+abbrev pub announces : Placed Frame → Bool
+announces (Err x) = false
+announces (Ok f) = announces_in f
 
 abbrev is_beacon_frame : Frame → Bool
 is_beacon_frame (Frame.Beacon n) = true
@@ -31,9 +31,9 @@ is_beacon_frame (Frame.TpcRequest token) = false
 is_beacon_frame (Frame.TpcReport token t) = false
 is_beacon_frame (Frame.ChannelSwitch w) = false
 
-abbrev pub is_beacon : Reading → Bool
-is_beacon (Reading.Refused x) = false
-is_beacon (Reading.Is f) = is_beacon_frame f
+abbrev pub is_beacon : Placed Frame → Bool
+is_beacon (Err x) = false
+is_beacon (Ok f) = is_beacon_frame f
 
 -- the owner that it names, if any, or the one before
 abbrev pub owner_named : Owner → ReceivedInIbss → Owner

@@ -1,8 +1,9 @@
 -- `measurement_reply` meets its contract: nothing is due, a broken body, another request,
 -- no report, or the report.
 -- Assumes nothing.
+use Rattle.std.specs.Prelude.{Ok}
 use Rattle.std.proofs.Common.{List, ap, sym, ℕ, ◌∙◌, ◌≡◌}
-use Rattle.answer.specs.Checks.{Outcome, accepted, and_then}
+use Rattle.answer.specs.Checks.{Outcome, and_then}
 use Rattle.header.specs.declared.address.Cell.{Cell}
 use Rattle.measured_report.specs.Reports.{report_for}
 use Rattle.measured_report.specs.declared.Readings.{Readings}
@@ -47,7 +48,7 @@ met c e = sym e ∙ c.due_to.ensures
 
 -- a body that is owed back
 back : (c : After-due_to) → c.due_to.result ≡ Due.Broken
-    → (body : List ℕ) × (meant c ≡ accepted (breaks body))
+    → (body : List ℕ) × (meant c ≡ Ok (breaks body))
 back c e = broken_due c.args.index (meant c) (met c e)
 
 -- what is owed for the element at the index, and the report that is made of it

@@ -1,7 +1,8 @@
 -- `tpc_reply` meets its contract: nothing is due, a broken body, another request, or the report.
 -- Assumes nothing.
+use Rattle.std.specs.Prelude.{Ok}
 use Rattle.std.proofs.Common.{List, ap, sym, ℕ, ◌∙◌, ◌≡◌}
-use Rattle.answer.specs.Checks.{Outcome, accepted, and_then}
+use Rattle.answer.specs.Checks.{Outcome, and_then}
 use Rattle.element.specs.declared.tpc_report.TpcReport.{TpcReport}
 use Rattle.header.specs.declared.address.Cell.{Cell}
 use Rattle.reply.specs.CodeTerms.Asked.{due_of}
@@ -38,7 +39,7 @@ met c e = sym e ∙ c.due_to.ensures
 
 -- a body that is owed back
 back : (c : After-due_to) → c.due_to.result ≡ Due.Broken
-    → (body : List ℕ) × (meant c ≡ accepted (breaks body))
+    → (body : List ℕ) × (meant c ≡ Ok (breaks body))
 back c e = broken_due 0 (meant c) (met c e)
 
 pub put_return-requires : goal.put_return-requires

@@ -1,8 +1,8 @@
 -- `start` meets its contract: a start that is refused, too few octets, or the new station's record.
 -- Assumes nothing.
+use Rattle.std.specs.Prelude.{Ok, Err}
 use Rattle.std.proofs.Common.{refl, ◌≡◌}
-use Rattle.answer.specs.Checks.{Outcome, refused, accepted, answer_of}
-use Rattle.answer.specs.declared.Answer.{Answer}
+use Rattle.answer.specs.Checks.{Outcome, answer_of}
 use Rattle.answer.specs.declared.Refusal.{Refusal}
 use Rattle.station.specs.Starting.{start_means}
 use Rattle.station.specs.declared.Station.{Station}
@@ -16,16 +16,16 @@ use Rattle.station_record.proofs.start.Goals.{After-start-started}
 abbrev outcome : After-start-started → Outcome Station
 outcome c = let a = c.args in started_in a.own a.ap a.interval a.channel a.memory.now
 
-started-at : (c : After-start-started) → c.start-started.result.answer ≡ Answer.Accepted
+started-at : (c : After-start-started) → c.start-started.result.answer ≡ Ok tt
     → let a = c.args in
-    start_means a.own a.ap a.interval a.channel ≡ accepted c.start-started.result.station
+    start_means a.own a.ap a.interval a.channel ≡ Ok c.start-started.result.station
 started-at c e = told_accepted _ c.start-started.result c.start-started.ensures.value e
 
 pub returns-then-memory-lt-SIZE : goal.returns-then-memory-lt-SIZE
 returns-then-memory-lt-SIZE c =
     let k = (goal.at.returns-then-memory-lt-SIZE c).After-start-started in
     let w =
-    comes_to answer_of c.args.memory.now (outcome k) (refused Refusal.BufferShort)
+    comes_to answer_of c.args.memory.now (outcome k) (Err Refusal.BufferShort)
     (no_room _ _ _ _ _ _ (started-at k c.in-Accepted.is) c.if-memory-lt-SIZE.true) refl refl in
     record { value = w.0; memory_after = w.1 }
 

@@ -1,11 +1,10 @@
 -- `take` meets its contract: octets that hold no station, or what the station does with the frame.
 -- Assumes nothing.
+use Rattle.std.specs.Prelude.{Ok, Err}
 use Rattle.std.proofs.Common.{List, ap, refl, ℕ, ◌∙◌, ◌≡◌}
-use Rattle.answer.specs.Checks.{Outcome, accepted, and_then}
+use Rattle.answer.specs.Checks.{Outcome, and_then}
 use Rattle.answer.specs.Faults.{Placed, nowhere, verdict_of}
-use Rattle.answer.specs.declared.Answer.{Answer}
 use Rattle.answer.specs.declared.Fault.{Fault}
-use Rattle.answer.specs.declared.Verdict.{Verdict}
 use Rattle.station.specs.Taking.{take_means}
 use Rattle.station.specs.declared.Station.{Station}
 use Rattle.station_record.specs.Calls.{taken_in}
@@ -22,8 +21,8 @@ memory c = c.args.memory.now
 abbrev comes : After-read-held → Outcome Station → Placed Station
 comes c o = and_then (nowhere o) (λ s. take_means s c.args.frame.now)
 
-holds : (c : After-read-held) → c.read-held.result.answer ≡ Answer.Accepted
-    → held_in (memory c) ≡ accepted c.read-held.result.station
+holds : (c : After-read-held) → c.read-held.result.answer ≡ Ok tt
+    → held_in (memory c) ≡ Ok c.read-held.result.station
 holds c e = told_accepted (held_in (memory c)) c.read-held.result c.read-held.ensures.value e
 
 pub take-taken-requires : goal.take-taken-requires
@@ -44,7 +43,7 @@ returns-in-Refused c =
     comes_to verdict_of os (taken_in c.args.frame.now os) _
     (ap (comes k)
     (told_refused (held_in os) c.read-held.result _ c.read-held.ensures.value c.in-Refused.is))
-    (ap (λ (f : Fault). Verdict.Refused f) c.nowhere.ensures) refl in
+    (ap (λ (f : Fault). Err f) c.nowhere.ensures) refl in
     record { value = w.0; memory_after = w.1 }
 
 pub returns-in-Refused-verdict : goal.returns-in-Refused-verdict

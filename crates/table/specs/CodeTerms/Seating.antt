@@ -1,13 +1,11 @@
 -- A station that may be joined, but for the rows (02, Six), and the row that it takes.
-use Rattle.std.specs.Prelude.{not, [], ◌∷◌}
+use Rattle.std.specs.Prelude.{not, [], ◌∷◌, Ok, Err, Some, None, Option}
 use Rattle.answer.specs.Checks.{Outcome, ◌⇒◌, judged}
 use Rattle.answer.specs.declared.Refusal.{Refusal}
 use Rattle.row.specs.Rows.{seated, is_free}
-use Rattle.row.specs.declared.places.Place.{Place}
 use Rattle.station.specs.declared.Station.{Station}
 use Rattle.table.specs.Tables.{with_rows, some_row, on_first, is_joined}
 use Rattle.table.specs.declared.Table.{Table}
-use Rattle.table.specs.declared.joining.Seat.{Seat}
 
 unfoldable pub seat_means : Table → Station → Outcome Table
 seat_means t s =
@@ -15,7 +13,7 @@ seat_means t s =
     (with_rows t (on_first is_free (λ w. seated s) t.rows))
 
 -- by the place of a station of its address, and that of the first free row
-abbrev pub seat_among : Place → Place → Seat
-seat_among (Place.At i) vacant = Seat.Refused Refusal.AlreadyJoined
-seat_among Place.Nowhere Place.Nowhere = Seat.Refused Refusal.NoFreeRow
-seat_among Place.Nowhere (Place.At i) = Seat.At i
+abbrev pub seat_among : Option ℕ → Option ℕ → Outcome ℕ
+seat_among (Some i) vacant = Err Refusal.AlreadyJoined
+seat_among None None = Err Refusal.NoFreeRow
+seat_among None (Some i) = Ok i

@@ -1,6 +1,6 @@
 -- Where the element that has to be there lies.
-use Rattle.std.specs.Prelude.{List, ◌≡◌, ℕ, ◌+◌, ◌-◌, ◌≤◌, take, drop}
-use Rattle.answer.specs.Checks.{Outcome, refused, accepted}
+use Rattle.std.specs.Prelude.{List, ◌≡◌, ℕ, ◌+◌, ◌-◌, ◌≤◌, take, drop, Ok, Err}
+use Rattle.answer.specs.Checks.{Outcome}
 use Rattle.walk.specs.Handed.{passing_in}
 use Rattle.walk.specs.Required.{Standing}
 use Rattle.walk.specs.declared.Required.{Required}
@@ -11,8 +11,8 @@ between run start stop = record { contents = take (stop - start) (drop start run
 
 -- the outcome that each case of the answer stands for
 abbrev pub required_told : List ℕ → Required → Outcome Standing
-required_told run (Required.Refused r) = refused r
-required_told run (Required.Contents start stop) = accepted (between run start stop)
+required_told run (Required.Refused r) = Err r
+required_told run (Required.Contents start stop) = Ok (between run start stop)
 
 -- its contents begin two octets past the place, and end in the run
 abbrev pub RequiredWithin : ℕ → ℕ → Required → Type 0

@@ -1,11 +1,11 @@
 -- `Apart::hear` meets its contract: what is heard changes the parts as the station's taking changes the whole.
 -- Assumes nothing.
+use Rattle.std.specs.Prelude.{Err}
 use Rattle.std.proofs.Common.{Bool, List, ap, subst, sym, take, ℕ, ◌/◌, ◌∙◌, ◌≡◌, ◌≤◌}
 use Rattle.beacon.specs.Beacons.{quiet_limit}
 use Rattle.station.proofs.Received.{taken_as}
 use Rattle.answer.specs.Checks.{pick}
 use Rattle.answer.specs.declared.Fault.{Fault}
-use Rattle.answer.specs.declared.Verdict.{Verdict}
 use Rattle.frame.specs.Frames.{frame_means}
 use Rattle.frame.specs.Hearing.{hearing_of}
 use Rattle.frame.specs.Laid.{frame_laid}
@@ -58,7 +58,7 @@ replaced-next-requires c =
 
 -- ---- a refused frame
 -- it sets no row
-no_rows : (a : Apart) (c : Columns) (v : Received) (x : Fault) → (hearing_of v).verdict ≡ Verdict.Refused x → c ≡ rows_by a (hearing_of v) c
+no_rows : (a : Apart) (c : Columns) (v : Received) (x : Fault) → (hearing_of v).verdict ≡ Err x → c ≡ rows_by a (hearing_of v) c
 no_rows a c v x e = ap (λ (t : Bool). pick t (rows_over (schedules_of (a.rest.clock / a.rest.interval) a.rest.interval (take v.count v.quiets)) c) c) (sym (refused_replaces v.reading x e))
 
 pub returns-in-Refused : goal.returns-in-Refused

@@ -1,7 +1,7 @@
 -- `Apart::told` meets its contract.
 -- Assumes nothing.
+use Rattle.std.specs.Prelude.{None}
 use Rattle.std.proofs.Common.{ap, ap₂, sym, ℕ, ◌∙◌}
-use Rattle.beacon.specs.declared.MaybeSwitch.{MaybeSwitch}
 use Rattle.station.specs.Rests.{rest_announced}
 use Rattle.station.specs.Taking.{constrained, announced_if}
 use Rattle.station.specs.declared.changing.Rest.{Rest}
@@ -13,7 +13,7 @@ pub returns-in-Absent : goal.returns-in-Absent
 returns-in-Absent c =
     let a = c.args in
     λ columns. ap (λ (r : Rest). whole_of (with_parts a.self r a.self.count) columns) c.constrained-kept.ensures
-    ∙ told_whole a.self columns a.power MaybeSwitch.Absent
+    ∙ told_whole a.self columns a.power None
     ∙ ap (announced_if (constrained (whole_of a.self columns) a.power)) (sym c.in-Absent.is)
 
 pub returns-in-Is : goal.returns-in-Is

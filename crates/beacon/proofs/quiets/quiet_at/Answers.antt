@@ -1,7 +1,6 @@
 -- `quiet_at` meets its contract: each way out but the last says why no Quiet element that is taken stands there.
 -- Assumes nothing.
 use Rattle.std.proofs.Common.{ap, arith, sym, ◌∙◌}
-use Rattle.element.specs.Quiet.{quiet_told}
 use Rattle.beacon.proofs.Quieting.{too_short, other_header, bad_contents, stands}
 use Rattle.beacon.proofs.quiets.quiet_at.Goals as goal
 
@@ -23,12 +22,12 @@ returns-then-number16-ne-HEADER c x es q e m =
 pub returns-in-Refused : goal.returns-in-Refused
 returns-in-Refused c x es q e m =
     let a = c.args in
-    bad_contents a.body.now a.at a.interval x es q e m _ (ap quiet_told (sym c.in-Refused.is) ∙ c.read.ensures)
+    bad_contents a.body.now a.at a.interval x es q e m _ (ap (sym c.in-Refused.is) ∙ c.read.ensures)
 
 pub returns-in-Is : goal.returns-in-Is
 returns-in-Is c =
     let a = c.args in (
       stands a.body.now a.at a.interval (λ i. omega (arith, c.shared_slice_known-1.given i)) _ c.number16.ensures c.if-number16-ne-HEADER.false (omega (arith, c.if-body-at.false, c.if-body-lt-LENGTH.false)) _
-          (ap quiet_told (sym c.in-Is.is) ∙ c.read.ensures),
+          (ap (sym c.in-Is.is) ∙ c.read.ensures),
       c.if-count-ge-QUIETS.false,
     )

@@ -1,6 +1,7 @@
 -- `oneiralth_read_ibss_quiet` meets its contract: minus a refusal's number, or the fields of the element at the index.
+use Rattle.std.specs.Prelude.{Ok}
 use Rattle.std.proofs.Common.{List, ap, ap₂, subst, sym, ℕ, ◌∙◌, ◌≡◌, ◌≤◌}
-use Rattle.answer.specs.Checks.{Outcome, accepted, and_then}
+use Rattle.answer.specs.Checks.{Outcome, and_then}
 use Rattle.answer.specs.Faults.{Placed}
 use Rattle.beacon.specs.Beacons.{quiet_limit}
 use Rattle.element.specs.Quiet.{quiet_contents}
@@ -31,7 +32,7 @@ means c =
     ∙ laid_in_ibss (outcome c)
 
 abbrev fields : Outcome Quiet → Outcome (List ℕ)
-fields o = and_then o (λ q. accepted (quiet_contents q))
+fields o = and_then o (λ q. Ok (quiet_contents q))
 
 pub put_quiet-requires : goal.put_quiet-requires
 put_quiet-requires c =

@@ -1,6 +1,7 @@
 -- `oneiralth_read_report` meets its contract: minus a refusal's number, or the fields.
+use Rattle.std.specs.Prelude.{Ok}
 use Rattle.std.proofs.Common.{List, ap, ap₂, sym, ℕ, ◌∙◌, ◌≡◌}
-use Rattle.answer.specs.Checks.{Outcome, accepted, and_then}
+use Rattle.answer.specs.Checks.{Outcome, and_then}
 use Rattle.measurement_element.specs.MeasurementReport.{report_laid}
 use Rattle.measurement_element.specs.declared.measurement_report.Reading.{Reading}
 use Rattle.measurement_element.specs.declared.measurement_report.Report.{Report}
@@ -25,7 +26,7 @@ means c =
     ∙ ap₂ (λ (own ap' : List ℕ). report_laid (element_of report_in a.index (frame_means own ap' a.interval a.frame.now))) c.address-own.ensures c.address-ap.ensures
 
 abbrev fields : Outcome Report → Outcome (List ℕ)
-fields o = and_then o (λ q. accepted (report_fields q))
+fields o = and_then o (λ q. Ok (report_fields q))
 
 answered : (c : After-report_at-reading) → c.report_at-reading.result.answer ≡ (report_laid (outcome c)).answer
 answered c = ap (λ (r : Reading). r.answer) (means c)
@@ -37,5 +38,5 @@ returns-in-Refused c =
 
 pub returns-in-Accepted : goal.returns-in-Accepted
 returns-in-Accepted c =
-    let e = report_accepted (outcome (goal.at.returns-in-Accepted c).After-report_at-reading) (sym (answered (goal.at.returns-in-Accepted c).After-report_at-reading) ∙ c.in-Accepted.is) ∙ ap (λ (r : Reading). accepted r.report) (sym (means (goal.at.returns-in-Accepted c).After-report_at-reading)) in
+    let e = report_accepted (outcome (goal.at.returns-in-Accepted c).After-report_at-reading) (sym (answered (goal.at.returns-in-Accepted c).After-report_at-reading) ∙ c.in-Accepted.is) ∙ ap (λ (r : Reading). Ok r.report) (sym (means (goal.at.returns-in-Accepted c).After-report_at-reading)) in
     given_put (fields (outcome (goal.at.returns-in-Accepted c).After-report_at-reading)) _ _ _ _ _ (ap fields e) c.put_report.ensures c.wrote.ensures

@@ -1,10 +1,9 @@
 -- `pass_block` meets its contract: the lines are made in the room, and put from there. That there is no room for them, or that the lister is full, does
 -- not come to pass.
 -- Assumes nothing.
+use Rattle.std.specs.Prelude.{Ok}
 use Rattle.std.proofs.Common.{List, ap, ap₂, arith, length, length-take, rules, subst, sym, take, ℕ, ◌∙◌, ◌≡◌, ◌≤◌}
-use Rattle.answer.specs.Checks.{accepted}
 use Rattle.octets.specs.Writing.{left, filled}
-use Rattle.octets.specs.declared.writing.Wrote.{Wrote}
 use Rattle.octets.proofs.Storing.{filled_inside, filled_front}
 use Rattle.capture.specs.Feeding.{feed_means, listing_of}
 use Rattle.capture.specs.Lists.{Told, block_told}
@@ -24,13 +23,13 @@ abbrev room_in : After-feed-listing → List ℕ
 room_in k = k.feed-listing.new.out
 
 -- there always are lines
-always : (k : After-feed-listing) → let a = k.args in feed_means a.lister 1 (told_in k) (length a.room.now) ≡ accepted (told_in k)
+always : (k : After-feed-listing) → let a = k.args in feed_means a.lister 1 (told_in k) (length a.room.now) ≡ Ok (told_in k)
 always k =
     let a = k.args in
     always_fed a.lister 1 (told_in k) (length a.room.now) (omega (arith, k.requires.blocks_lt_block_limit.1)) (omega (arith, k.requires.blocks_lt_block_limit.0))
 
 -- so many octets of it are the block's lines
-lines : (k : After-feed-listing) (n : ℕ) → k.feed-listing.result.wrote ≡ Wrote.Length n
+lines : (k : After-feed-listing) (n : ℕ) → k.feed-listing.result.wrote ≡ Ok n
     → (n ≡ length (told_in k).text) × (k.feed-listing.result.lister ≡ (told_in k).lister) × (room_in k ≡ filled (told_in k).text k.args.room.now)
 lines k n e =
     let room = k.args.room.now in
@@ -39,7 +38,7 @@ lines k n e =
     (w.2 ∙ ap (λ (t : Told). length t.text) same, w.3 ∙ ap (λ (t : Told). t.lister) same, w.4 ∙ ap (λ (t : Told). filled t.text room) same)
 
 -- they lie in the room
-made : (k : After-feed-listing) (n : ℕ) → k.feed-listing.result.wrote ≡ Wrote.Length n → n ≤ length (room_in k)
+made : (k : After-feed-listing) (n : ℕ) → k.feed-listing.result.wrote ≡ Ok n → n ≤ length (room_in k)
 made k n e =
     let same : length (room_in k) ≡ length k.args.room.now = search rules in
     let w = lines k n e in
@@ -75,6 +74,6 @@ returns-in-Length c =
 pub returns-in-Refused : goal.returns-in-Refused
 returns-in-Refused c =
     let k = (goal.at.returns-in-Refused c).After-feed-listing in
-    let e : Wrote.Length (length (told_in k).text) ≡ _ =
+    let e : Ok (length (told_in k).text) ≡ _ =
     sym (ap (λ (x : Listing). x.wrote) (c.feed-listing.ensures.fed_with.answers ∙ ap (listing_of c.args.lister) (always k))) ∙ c.in-Refused.is in
     absurd (let z : ◌≡◌ {A = ℕ} 0 1 = cc in omega arith)

@@ -1,9 +1,8 @@
 -- `put_blocks` meets its contract: the lines so far, with what is left from the place on, are the
 -- lines of the blocks.
 -- Assumes nothing.
+use Rattle.std.specs.Prelude.{None, Option}
 use Rattle.std.proofs.Common.{Bool, true, List, length, take, drop, refl, sym, ap, ap₂, ◌∙◌, subst, arith, ℕ, ◌≡◌, ◌+◌, ◌*◌, ◌-◌, ◌≤◌}
-use Rattle.answer.specs.declared.Offset.{Offset}
-use Rattle.answer.specs.declared.Verdict.{Verdict}
 use Rattle.apart.specs.Apart.{whole_of, Makes, HeardAs}
 use Rattle.apart.specs.Columns.{Columns, columns, Roomy}
 use Rattle.apart.specs.declared.Apart.{Apart}
@@ -27,28 +26,12 @@ use Rattle.capture.specs.Lists.{answer_line, blocks_in, blocks_told}
 use Rattle.capture.specs.declared.lister.Lister.{Lister}
 use Rattle.capture.specs.declared.parts.Parts.{Parts}
 use Rattle.capture.specs.declared.response.Response.{Response}
-use Rattle.capture.proofs.Passing.{
-  penned_as,
-  standing_as,
-  clocked_parts,
-  Few,
-  Standing,
-  begins,
-  used_size,
-  few_counts,
-  few_without,
-  ran_standing,
-  ended,
-  opened,
-  damaged_room,
-  damaged_standing,
-  cut_standing,
-  record_standing,
-}
+use Rattle.capture.proofs.Passing.{penned_as, standing_as, clocked_parts, Few, Standing, begins, used_size, few_counts, few_without, ran_standing, ended, opened, damaged_room, damaged_standing, cut_standing, record_standing}
 use Rattle.capture.proofs.Plainly.{may_put_lem}
 use Rattle.capture.proofs.Together.{is_frame, no_hearer, heard_parts, answered, frame_says, frame_follows, frame_same, frame_makes}
 use Rattle.capture.proofs.listing.put_blocks.Goals as goal
 use Rattle.capture.proofs.listing.put_blocks.Goals.{After-run-ran, After-entry_of-entry}
+use Rattle.answer.specs.Faults.{Verdict}
 
 -- ---- before the first block
 
@@ -159,7 +142,7 @@ loop-count-preserved-in-Damaged c =
     let r = (goal.at.loop-count-preserved-in-Damaged c).After-run-ran in
     let put = c.put_told-pen in
     let k = c.run-ran.result.pen.lines + 1 in
-    let number = ap (λ (m : ℕ). line_of k Word.Block m Offset.Absent) c.number-number.ensures in
+    let number = ap (λ (m : ℕ). line_of k Word.Block m None) c.number-number.ensures in
     let same = c.without-parts.ensures.by_index put.result.lines (columns_in r) in (
       standing_as (ap (λ (x : Lister). one_block_more x 1) same) refl
           (damaged_standing (fits₀ r) (limit r) (big r) (standing r) c.in-End.ensures.used_value
@@ -192,7 +175,7 @@ loop-count-preserved-in-Cut c =
     let size = used_size (fits₀ r) (limit r) (big r) c.loop-count.invariant.0 in
     let k = c.run-ran.result.pen.lines + 1 in
     let number =
-    ap (λ (m : ℕ). line_of k Word.Record m Offset.Absent) c.number-number-in-Cut.ensures in
+    ap (λ (m : ℕ). line_of k Word.Record m None) c.number-number-in-Cut.ensures in
     let same = c.without-parts-in-Cut.ensures.by_index put.result.lines (columns_in r) in (
       standing_as same refl
           (cut_standing (fits₀ r) (limit r) (big r) (standing r) c.in-Cut.ensures.used_value
@@ -281,7 +264,7 @@ loop-count-preserved-in-Refused c =
     heard-standing (parts_in r) (columns_in r) (fits₀ r) (limit r) (big r) (standing r)
     (frame-notes f.0 n) f.1 c.hear-told.ensures
     (penned_as
-    (ap₂ (λ (m : ℕ) (x : Offset). line_of k Word.Frame m x) number c.offset.ensures)
+    (ap₂ (λ (m : ℕ) (x : Option ℕ). line_of k Word.Frame m x) number c.offset.ensures)
     c.put_told-pen-in-Refused.ensures.penned)
 
 -- ---- any other record
@@ -308,7 +291,7 @@ loop-count-preserved c =
     let contents = take (w.end - w.start) (drop w.start used) in
     let line =
     penned_as
-    (ap₂ (λ (i : ℕ) (x : Offset). line_of k m.result.word i x) n.number n.offset
+    (ap₂ (λ (i : ℕ) (x : Option ℕ). line_of k m.result.word i x) n.number n.offset
     ∙ ap (λ (x : Word). answer_line k x n.answered.answer) n.word)
     put.ensures.penned in (
       standing_as (n.parts.same put.result.lines) c.goes_on-at.ensures

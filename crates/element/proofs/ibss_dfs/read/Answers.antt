@@ -1,7 +1,7 @@
 -- `ibss_dfs::read` meets its contract: the length, then the values.
 -- Assumes nothing.
+use Rattle.std.specs.Prelude.{Ok}
 use Rattle.std.proofs.Common.{List, ap, arith, length, length-drop, sym, true, ℕ, ◌/◌, ◌∙◌, ◌≡◌}
-use Rattle.answer.specs.declared.Answer.{Answer}
 use Rattle.octets.specs.Numbers.{octet, octets_from}
 use Rattle.element.specs.IbssDfs.{dfs_length, dfs_laid}
 use Rattle.element.specs.declared.ibss_dfs.Reading.{Reading}
@@ -29,7 +29,7 @@ right c =
 
 -- what is read, with so many pairs
 found : List ℕ → ℕ → Reading
-found os n = record { answer = Answer.Accepted; dfs = record { owner = octets_from 6 0 os; recovery = octet 6 os; pairs = n } }
+found os n = record { answer = Ok tt; dfs = record { owner = octets_from 6 0 os; recovery = octet 6 os; pairs = n } }
 
 pub returns-then-is_forbidden : goal.returns-then-is_forbidden
 returns-then-is_forbidden c =

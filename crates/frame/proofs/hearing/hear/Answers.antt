@@ -1,7 +1,7 @@
 -- `hear` meets its contract: the header, then the body by its subtype, as `read` does.
+use Rattle.std.specs.Prelude.{Ok, Err}
 use Rattle.std.proofs.Common.{[], ap, false, length, sym, ◌∙◌, ◌≡◌, ◌≤◌}
-use Rattle.answer.specs.Checks.{accepted}
-use Rattle.answer.specs.Faults.{placed_past}
+use Rattle.answer.specs.Faults.{placed_past, Placed}
 use Rattle.answer.specs.declared.Fault.{Fault}
 use Rattle.header.specs.Headers.{header_length, header_told, Head, header_means}
 use Rattle.header.specs.declared.address.Cell.{Cell}
@@ -11,19 +11,19 @@ use Rattle.frame.specs.CodeTerms.BodyKinds.{kind_subtype}
 use Rattle.frame.specs.Frames.{kind_of, sent, frame_means}
 use Rattle.frame.specs.Hearing.{hearing_of}
 use Rattle.frame.specs.Laid.{received, frame_laid}
-use Rattle.frame.specs.declared.Reading.{Reading}
 use Rattle.frame.proofs.Hearings.{action_heard}
 use Rattle.frame.proofs.ReadFrames.{framed, body_framed}
 use Rattle.frame.proofs.Within.{body_short, reading_within}
 use Rattle.measurement_body.specs.Bodies.{longest_body}
 use Rattle.frame.proofs.hearing.hear.Goals as goal
 use Rattle.frame.proofs.hearing.hear.Goals.{After-body-body}
+use Rattle.frame.specs.declared.Frame.{Frame}
 
 -- the header that was read
 abbrev head : After-body-body → Head
 head c = record { subtype = c.in-Is.subtype; to_all = c.in-Is.to_all }
 
-header_read : (c : After-body-body) → accepted (head c) ≡ header_means Cell.Ap c.args.own c.args.ap c.args.frame.now
+header_read : (c : After-body-body) → Ok (head c) ≡ header_means Cell.Ap c.args.own c.args.ap c.args.frame.now
 header_read c = ap header_told (sym c.in-Is.is) ∙ c.read.ensures
 
 -- what is heard of the body, by the subtype that was found
@@ -51,7 +51,7 @@ pub returns-in-Refused : goal.returns-in-Refused
 returns-in-Refused c =
     let a = c.args in
     c.heard_alone.ensures
-    ∙ ap (λ (x : Fault). hearing_of (received (Reading.Refused x) false [])) c.nowhere.ensures
+    ∙ ap (λ (x : Fault). hearing_of (received (Err x) false [])) c.nowhere.ensures
     ∙ ap (λ x. hearing_of (frame_laid x)) (framed a.own a.ap a.interval a.frame.now _ (ap header_told (sym c.in-Refused.is) ∙ c.read.ensures))
 
 pub returns-in-Notice : goal.returns-in-Notice
@@ -61,6 +61,6 @@ returns-in-Notice c =
 pub returns-in-Action : goal.returns-in-Action
 returns-in-Action c =
     c.heard_alone-in-Action.ensures
-    ∙ ap (λ (x : Reading). hearing_of (received x false [])) c.reading_in_frame.ensures
+    ∙ ap (λ (x : Placed Frame). hearing_of (received x false [])) c.reading_in_frame.ensures
     ∙ action_heard c.in-Is.to_all (action_means c.body-body.result.now) c.read_body.result c.read_body.ensures
     ∙ of_body (goal.at.returns-in-Action c).After-body-body (sym c.body_kind.ensures ∙ ap kind_subtype c.in-Action.is)

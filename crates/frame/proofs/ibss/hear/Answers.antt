@@ -1,6 +1,6 @@
 -- `hear` meets its contract: the header, then the body by its subtype.
+use Rattle.std.specs.Prelude.{Ok, Err}
 use Rattle.std.proofs.Common.{List, [], ap, ap₂, false, length, sym, ℕ, ◌∙◌, ◌≡◌, ◌≤◌}
-use Rattle.answer.specs.Checks.{accepted}
 use Rattle.answer.specs.Faults.{placed_past}
 use Rattle.answer.specs.declared.Fault.{Fault}
 use Rattle.beacon.specs.IbssBeacons.{absent}
@@ -13,7 +13,6 @@ use Rattle.frame.specs.CodeTerms.InIbss.{heard_laid, sent_by}
 use Rattle.frame.specs.Frames.{kind_of}
 use Rattle.frame.specs.IbssFrames.{kind_in_ibss, sent_in_ibss, ibss_frame_means}
 use Rattle.frame.specs.Laid.{received}
-use Rattle.frame.specs.declared.Reading.{Reading}
 use Rattle.frame.specs.declared.Received.{Received}
 use Rattle.frame.proofs.ReadInIbss.{sent_nameless, framed_in_ibss}
 use Rattle.frame.proofs.Within.{body_short}
@@ -25,7 +24,7 @@ module _ (c : After-body-body) where
   abbrev head : Head
   head = record { subtype = c.in-Is.subtype; to_all = c.in-Is.broadcast }
 
-  header_read : accepted head ≡ header_means Cell.Ibss c.args.own c.args.bssid c.args.frame.now
+  header_read : Ok head ≡ header_means Cell.Ibss c.args.own c.args.bssid c.args.frame.now
   header_read = ap header_told (sym c.in-Is.is) ∙ c.read.ensures
 
   -- the body is no longer than one may be
@@ -59,7 +58,7 @@ returns-in-Refused c =
     let a = c.args in
     c.sent_by.ensures
     ∙ ap (λ (x : Received). sent_by x c.sender-sender.result (dfs_heard a.index absent))
-    (c.alone.ensures ∙ ap (λ (x : Fault). received (Reading.Refused x) false []) c.nowhere-fault.ensures)
+    (c.alone.ensures ∙ ap (λ (x : Fault). received (Err x) false []) c.nowhere-fault.ensures)
     ∙ ap (heard_laid a.index) (framed_in_ibss a.own a.bssid a.interval a.frame.now _ (ap header_told (sym c.in-Refused.is) ∙ c.read.ensures))
 
 pub returns-in-Beacon : goal.returns-in-Beacon

@@ -1,6 +1,6 @@
 -- `locate` meets its contract: the header, then the body by its subtype.
+use Rattle.std.specs.Prelude.{Ok, Err}
 use Rattle.std.proofs.Common.{List, ap, false, length, sym, true, ℕ, ◌∙◌, ◌≡◌, ◌≤◌}
-use Rattle.answer.specs.Checks.{accepted}
 use Rattle.answer.specs.Faults.{placed_past}
 use Rattle.answer.specs.declared.Fault.{Fault}
 use Rattle.header.specs.Headers.{header_length, body_of, header_told}
@@ -9,7 +9,6 @@ use Rattle.header.specs.declared.management.Subtype.{Subtype}
 use Rattle.measurement_body.specs.Bodies.{longest_body}
 use Rattle.frame.specs.CodeTerms.Located.{unplaced, located_in, kind_means}
 use Rattle.frame.specs.Frames.{kind_of}
-use Rattle.frame.specs.declared.Reading.{Reading}
 use Rattle.frame.specs.declared.Received.{Received}
 use Rattle.frame.proofs.Indexing.{of_notice, by_header}
 use Rattle.frame.proofs.Within.{body_short}
@@ -29,7 +28,7 @@ module _ (c : After-body-body) where
       let f = a.frame.now in
       ap (λ (x : List ℕ). located_in a.index x (placed_past header_length (kind_of a.interval t x))) c.body-body.ensures
       ∙ ap (λ (t : Subtype). located_in a.index (body_of f) (placed_past header_length (kind_of a.interval t (body_of f)))) (sym e)
-      ∙ ap (located_in a.index (body_of f)) (by_header a.own a.ap a.interval f (accepted (record { subtype = c.in-Is.subtype; to_all = c.in-Is.to_all })) (ap header_told (sym c.in-Is.is) ∙ c.read.ensures))
+      ∙ ap (located_in a.index (body_of f)) (by_header a.own a.ap a.interval f (Ok (record { subtype = c.in-Is.subtype; to_all = c.in-Is.to_all })) (ap header_told (sym c.in-Is.is) ∙ c.read.ensures))
 
   -- it is no longer than a body may be
   short : length body ≤ longest_body
@@ -50,7 +49,7 @@ pub returns-in-Refused : goal.returns-in-Refused
 returns-in-Refused c =
     let a = c.args in
     let f = a.frame.now in
-    c.unplaced.ensures ∙ ap (λ (x : Fault). unplaced (Reading.Refused x)) c.nowhere.ensures
+    c.unplaced.ensures ∙ ap (λ (x : Fault). unplaced (Err x)) c.nowhere.ensures
     ∙ ap (located_in a.index (body_of f)) (by_header a.own a.ap a.interval f _ (ap header_told (sym c.in-Refused.is) ∙ c.read.ensures))
 
 pub returns-in-Action : goal.returns-in-Action

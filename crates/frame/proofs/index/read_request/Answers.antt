@@ -3,7 +3,6 @@ use Rattle.std.proofs.Common.{ap, subst, sym, ◌∙◌}
 use Rattle.measurement_element.specs.MeasurementRequest.{request_means}
 use Rattle.frame.specs.Actions.{action_means}
 use Rattle.frame.specs.CodeTerms.Located.{PlaceWithin, read_there}
-use Rattle.frame.specs.Laid.{frame_told}
 use Rattle.frame.specs.declared.bodies.Located.{Located}
 use Rattle.frame.proofs.Indexing.{located_frame, in_body}
 use Rattle.frame.proofs.index.read_request.Goals as goal
@@ -17,7 +16,7 @@ pub returns : goal.returns
 returns c =
     let a = c.args in
     let found = c.read_at-found.ensures in record {
-      reading_value = ap (λ (l : Located). frame_told l.reading) found ∙ located_frame a.body.now a.index (action_means a.body.now);
+      reading_value = ap (λ (l : Located). l.reading) found ∙ located_frame a.body.now a.index (action_means a.body.now);
       request_value = c.request_there-request.ensures ∙ ap (λ (l : Located). read_there request_means a.body.now l.reading l.request) found
           ∙ (in_body a.body.now a.index).request_is;
     }

@@ -1,6 +1,6 @@
 -- `read_management` meets its contract: each way out is a way through the list of checks.
+use Rattle.std.specs.Prelude.{Ok}
 use Rattle.std.proofs.Common.{ap, le-ltb, lt-ltb, sym, ℕ, ◌/◌, ◌∙◌}
-use Rattle.answer.specs.Checks.{accepted}
 use Rattle.answer.proofs.Judged.{past, stop, done}
 use Rattle.header.specs.Headers.{subtype_of, management_means}
 use Rattle.header.proofs.management.read_management.Goals as goal
@@ -25,4 +25,4 @@ returns c =
     past _ _ _ (le-ltb _ _ c.if-frame-lt-LENGTH.false)
     (past _ _ _ (le-ltb _ _ c.if-frame-gt-LONGEST_FRAME.false)
     (past _ _ _ (sym c.is_foreign.ensures ∙ c.if-is_foreign.false)
-    (ap accepted (c.subtype_of.ensures ∙ ap (λ (o : ℕ). subtype_of (o / 16)) c.octet_at-control.ensures) ∙ done _)))
+    (ap Ok (c.subtype_of.ensures ∙ ap (λ (o : ℕ). subtype_of (o / 16)) c.octet_at-control.ensures) ∙ done _)))

@@ -1,23 +1,6 @@
 -- `survey` meets its contract: listing the rest after what was met is listing the whole.
-use Rattle.std.proofs.Common.{
-  Bool,
-  List,
-  ap,
-  arith,
-  drop,
-  false,
-  get_or,
-  rules,
-  subst,
-  sym,
-  take,
-  ◌&&◌,
-  ◌-◌,
-  ◌∙◌,
-  ◌≡◌,
-  ℕ,
-}
-use Rattle.answer.specs.Checks.{refused}
+use Rattle.std.specs.Prelude.{Err}
+use Rattle.std.proofs.Common.{Bool, List, ap, arith, drop, false, get_or, rules, subst, sym, take, ◌&&◌, ◌-◌, ◌∙◌, ◌≡◌, ℕ}
 use Rattle.answer.specs.Faults.{fault_at}
 use Rattle.answer.specs.declared.Refusal.{Refusal}
 use Rattle.walk.proofs.Passing.{no_further_back}
@@ -27,16 +10,7 @@ use Rattle.walk.specs.Handed.{passing_in}
 use Rattle.walk.specs.declared.Next.{Next}
 use Rattle.measurement_body.specs.Kinds.{sort_of}
 use Rattle.measurement_body.proofs.Judgements.{unread, holds}
-use Rattle.measurement_body.proofs.Walked.{
-  start,
-  absent,
-  unfit,
-  again,
-  cut_after,
-  further,
-  read,
-  refused_as,
-}
+use Rattle.measurement_body.proofs.Walked.{start, absent, unfit, again, cut_after, further, read, refused_as}
 use Rattle.measurement_body.proofs.surveying.survey.Goals as goal
 use Rattle.measurement_body.proofs.surveying.survey.Goals.{
   After-both,
@@ -108,7 +82,7 @@ returns-then-next c =
     refused_as (sort_of a.kind) a.index a.token a.body.now c.refused-then-next.ensures
     (cut_after c.loop-more.invariant (place k.After-judge) h (search rules)
     (repeat k.After-both c.if-both.false) (is_cut k.After-pass_over-next c.if-next.true)
-    ∙ ap (λ (x : Next). refused (fault_at x.at Refusal.ElementCut)) (sym c.pass_over-next.ensures))
+    ∙ ap (λ (x : Next). Err (fault_at x.at Refusal.ElementCut)) (sym c.pass_over-next.ensures))
 
 pub loop-more-smaller : goal.loop-more-smaller
 loop-more-smaller c =

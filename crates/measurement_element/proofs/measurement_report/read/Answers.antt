@@ -1,6 +1,6 @@
 -- `measurement_report::read` meets its contract: each way out is a way through the list of checks.
+use Rattle.std.specs.Prelude.{Ok}
 use Rattle.std.proofs.Common.{ap, false, le-ltb, length, lt-ltb, ltb, sym, ◌∙◌, ◌≡◌}
-use Rattle.answer.specs.Checks.{accepted}
 use Rattle.answer.proofs.Judged.{past, stop, done}
 use Rattle.octets.specs.Numbers.{octet}
 use Rattle.measurement_element.specs.MeasurementReport.{report_flags, report_in, report_misfits, report_forbids, report_means, report_laid}
@@ -60,7 +60,7 @@ returns-then-is_forbidden c =
 pub returns : goal.returns
 unfolding report_means
 returns c =
-    ap (λ (r : Report). report_laid (accepted r)) c.report_in-report.ensures
+    ap (λ (r : Report). report_laid (Ok r)) c.report_in-report.ensures
     ∙ ap report_laid
     (past _ _ _ (long (goal.at.returns c).Else-contents-lt3)
     (past _ _ _ (single (goal.at.returns c).Else-flags_in-gt-MOST_FLAGS)

@@ -1,6 +1,6 @@
 -- `measurement_request::read` meets its contract: each way out is a way through the list of checks.
+use Rattle.std.specs.Prelude.{Ok}
 use Rattle.std.proofs.Common.{ap, le-ltb, length, lt-ltb, sym, ◌∙◌, ◌≡◌}
-use Rattle.answer.specs.Checks.{accepted}
 use Rattle.answer.proofs.Judged.{past, stop, done}
 use Rattle.measurement_element.specs.MeasurementRequest.{request_in, request_misfits, request_forbids, request_means}
 use Rattle.measurement_element.specs.declared.measurement_request.Request.{Request}
@@ -36,7 +36,7 @@ returns-then-is_forbidden c =
 pub returns : goal.returns
 unfolding request_means
 returns c =
-    ap accepted c.request_in-request.ensures
+    ap Ok c.request_in-request.ensures
     ∙ past _ _ _ (le-ltb _ _ c.if-contents-lt3.false)
     (past _ _ _ (misfits (goal.at.returns c).After-is_misfit ∙ c.if-is_misfit.false)
     (past _ _ _ (forbids (goal.at.returns c).After-is_forbidden ∙ c.if-is_forbidden.false) (done _)))

@@ -1,8 +1,8 @@
 -- `Member::take` meets its contract, and the station stays valid: what was read is judged by the owner that it names, and heard. Assumes nothing.
+use Rattle.std.specs.Prelude.{Err}
 use Rattle.std.proofs.Common.{ap, ap₂, false, not, subst, sym, true, ◌&&◌, ◌∙◌, ◌≡◌}
 use Rattle.answer.specs.Checks.{pick}
 use Rattle.answer.specs.declared.Fault.{Fault}
-use Rattle.answer.specs.declared.Verdict.{Verdict}
 use Rattle.frame.specs.Allowed.{ReceivedAllowed}
 use Rattle.frame.specs.IbssFrames.{ibss_frame_means}
 use Rattle.frame.specs.IbssLaid.{ibss_laid}
@@ -24,7 +24,7 @@ returns-then-is_foreign c =
     let foreign : foreign_in m c.read_in_ibss-heard.result ≡ true =
     ap (λ (y : Owner). announces c.read_in_ibss-heard.result.received.reading && not (is_owner y c.read_in_ibss-heard.result.sender)) (sym c.named_by-named.ensures)
     ∙ sym c.is_foreign.ensures ∙ c.if-is_foreign.true in record {
-      value = ap (λ (x : Fault). record { verdict = Verdict.Refused x; member = m }) c.nowhere.ensures
+      value = ap (λ (x : Fault). record { verdict = Err x; member = m }) c.nowhere.ensures
           ∙ refused_as m o (subst (λ (v : ReceivedInIbss). foreign_in m v ≡ true) c.read_in_ibss-heard.ensures foreign);
       kept = c.requires;
     }

@@ -1,16 +1,16 @@
 -- `put_offset` meets its contract: none, or a space and the number.
 -- Assumes nothing.
+use Rattle.std.specs.Prelude.{Some, Option}
 use Rattle.std.proofs.Common.{[], ap, arith, length, sym, ℕ, ◌+◌, ◌∷◌, ◌≡◌, ◌≤◌}
 use lib.Seq.{sets-eq}
-use Rattle.answer.specs.declared.Offset.{Offset}
 use Rattle.pen.specs.Decimals.{decimal}
 use Rattle.pen.specs.Lines.{placed}
 use Rattle.pen.proofs.Following.{put_as, put_after}
 use Rattle.pen.proofs.putting.put_offset.Goals as goal
 
 -- there is room for the space and the number
-roomy : {offset : Offset} {n : ℕ} (at size : ℕ) → offset ≡ Offset.At n → at + length (placed offset) ≤ size → at + 1 + length (decimal n) ≤ size
-roomy at size e h = omega (arith, ap (λ (o : Offset). length (placed o)) e)
+roomy : {offset : Option ℕ} {n : ℕ} (at size : ℕ) → offset ≡ Some n → at + length (placed offset) ≤ size → at + 1 + length (decimal n) ≤ size
+roomy at size e h = omega (arith, ap (λ (o : Option ℕ). length (placed o)) e)
 
 pub put-spaced-requires : goal.put-spaced-requires
 put-spaced-requires c = omega (arith, roomy _ _ c.in-At.is c.requires)

@@ -1,9 +1,9 @@
 -- `owed_to` meets its contract, kind by kind.
+use Rattle.std.specs.Prelude.{Ok, Err}
 use Rattle.std.proofs.Common.{Bool, ap, sym, ◌∙◌, ◌≡◌}
-use Rattle.answer.specs.Checks.{refused, accepted, pick}
+use Rattle.answer.specs.Checks.{pick}
 use Rattle.answer.specs.declared.Refusal.{Refusal}
 use Rattle.frame.specs.Actions.{action_means}
-use Rattle.frame.specs.Laid.{frame_told}
 use Rattle.frame.specs.declared.Frame.{Frame}
 use Rattle.reply.specs.CodeTerms.Asked.{due_of}
 use Rattle.reply.specs.Due.{breaks, or_return}
@@ -18,16 +18,16 @@ due c e =
     let a = c.args in
     let asked = c.read_request-asked in
     frame_due_lem a.index asked.result.request a.body.now asked.ensures.request_value _
-    (ap accepted (sym e) ∙ ap frame_told (sym c.in-Is.is) ∙ asked.ensures.reading_value)
+    (ap Ok (sym e) ∙ ap (sym c.in-Is.is) ∙ asked.ensures.reading_value)
 
 -- a broken body, by its category
 back : (c : After-has_category) {t : Bool} → c.has_category.result ≡ t
     → let a = c.args in
-    due_of a.index (pick t (accepted (breaks a.body.now)) (refused Refusal.NoReplyDue)) ≡ due_of a.index (or_return a.body.now (action_means a.body.now))
+    due_of a.index (pick t (Ok (breaks a.body.now)) (Err Refusal.NoReplyDue)) ≡ due_of a.index (or_return a.body.now (action_means a.body.now))
 back c e =
     let a = c.args in
     let asked = c.read_request-asked in
-    broken a.index asked.result.request a.body.now (ap frame_told (sym c.in-Refused.is) ∙ asked.ensures.reading_value) (sym c.has_category.ensures ∙ e)
+    broken a.index asked.result.request a.body.now (ap (sym c.in-Refused.is) ∙ asked.ensures.reading_value) (sym c.has_category.ensures ∙ e)
 
 pub returns-then-has_category : goal.returns-then-has_category
 returns-then-has_category c = back (goal.at.returns-then-has_category c).After-has_category c.if-has_category.true

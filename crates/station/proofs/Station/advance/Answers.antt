@@ -1,7 +1,7 @@
 -- `Station::advance` meets its contract, and the station stays valid: it does what `advance_clock` says.
 -- Assumes nothing.
+use Rattle.std.specs.Prelude.{Ok}
 use Rattle.std.proofs.Common.{ap, subst, sym, ◌∙◌, ◌≡◌}
-use Rattle.answer.specs.Checks.{accepted}
 use Rattle.station.specs.Clock.{stepped, switched, advanced_to, advance_of}
 use Rattle.station.specs.Validity.{Valid}
 use Rattle.station.specs.declared.Station.{Station}
@@ -28,7 +28,7 @@ pub returns-in-Goes : goal.returns-in-Goes
 returns-in-Goes c =
     let w =
     does (goal.at.returns-in-Goes c).After-advance_clock _ _ c.in-Goes.is
-    (c.accepted.ensures ∙ ap (λ (s : Station). stepped c.args.self (accepted s)) c.with_clock.ensures) in
+    (c.accepted.ensures ∙ ap (λ (s : Station). stepped c.args.self (Ok s)) c.with_clock.ensures) in
     record { value = w.0; kept = w.1 }
 
 pub returns-in-Switches : goal.returns-in-Switches
@@ -36,5 +36,5 @@ returns-in-Switches c =
     let next = c.switched.ensures ∙ ap (λ (s : Station). switched s c.in-Switches.channel) c.with_clock-in-Switches.ensures in
     let w =
     does (goal.at.returns-in-Switches c).After-advance_clock _ _ c.in-Switches.is
-    (c.accepted-in-Switches.ensures ∙ ap (λ (s : Station). stepped c.args.self (accepted s)) next) in
+    (c.accepted-in-Switches.ensures ∙ ap (λ (s : Station). stepped c.args.self (Ok s)) next) in
     record { value = w.0; kept = w.1 }

@@ -1,9 +1,9 @@
 -- `Station::ask` meets its contract: each way out is a way through the list of cases.
 -- Assumes nothing.
+use Rattle.std.specs.Prelude.{Some, None, Option}
 use Rattle.std.proofs.Common.{◌≤◌, Bool, [], ap, arith, eq-eqb, false, le-ltb, lt-ltb, ltb, ne_eqb, sym, true, ℕ, ◌+◌, ◌<◌, ◌∙◌, ◌∷◌, ◌≡◌}
 use Rattle.answer.specs.Checks.{pick}
 use Rattle.pending.specs.Waiting.{silences, up_to, comes_before}
-use Rattle.pending.specs.declared.Pending.{Pending}
 use Rattle.schedule.proofs.FirstUnit.{at_once_lem, not_at_once, among_others}
 use Rattle.station.specs.Asking.{quiet, quiet_between, first_quiet, ◌gives◌, first_of, permission_of}
 use Rattle.station.specs.Stations.{unit_limit}
@@ -13,11 +13,12 @@ use Rattle.station.specs.declared.asking.Permission.{Permission}
 use Rattle.station.proofs.Answers.{past, stop, done}
 use Rattle.station.proofs.Station.ask.Goals as goal
 use Rattle.station.proofs.Station.ask.Goals.{After-first_quiet-quiet}
+use Rattle.pending.specs.declared.Switch.{Switch}
 
 -- a pending switch lies after the clock, and so does the end of the units before it
-past-clock : (p : Pending) (t n : ℕ) → PendingFits t p → (n ≡ 0 → ⊥) → t < up_to p (t + n)
-past-clock Pending.Nothing t n f some = omega arith
-past-clock (Pending.Switch x) t n f some = by (ltb x.at (t + n))
+past-clock : (p : Option Switch) (t n : ℕ) → PendingFits t p → (n ≡ 0 → ⊥) → t < up_to p (t + n)
+past-clock None t n f some = omega arith
+past-clock (Some x) t n f some = by (ltb x.at (t + n))
   where
     by : (b : Bool) → t < pick b x.at (t + n)
     by true = f.0

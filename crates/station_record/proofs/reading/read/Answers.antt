@@ -1,7 +1,7 @@
 -- `read` meets its contract: nothing is held, or each field is read where it stands.
 -- Assumes nothing.
+use Rattle.std.specs.Prelude.{Ok, Err}
 use Rattle.std.proofs.Common.{List, ap, arith, false, subst, sym, ℕ, ◌∙◌, ◌≡◌}
-use Rattle.answer.specs.declared.Answer.{Answer}
 use Rattle.answer.specs.declared.Refusal.{Refusal}
 use Rattle.station.specs.Starting.{started}
 use Rattle.station.specs.Stations.{slotted}
@@ -15,13 +15,13 @@ use Rattle.station_record.proofs.Sound.{sound}
 use Rattle.station_record.proofs.reading.read.Goals as goal
 use Rattle.station_record.proofs.reading.read.Goals.{After-octet_at-count}
 
-not-accepted : (r : Refusal) → Answer.Refused r ≡ Answer.Accepted → ⊥
+not-accepted : (r : Refusal) → Err r ≡ Ok tt → ⊥
 not-accepted r e = let z : ◌≡◌ {A = ℕ} 0 1 = cc in omega arith
 
 pub returns-then-is_broken : goal.returns-then-is_broken
 returns-then-is_broken c =
     record {
-      value = ap (λ (s : Station). record { answer = Answer.Refused Refusal.Impossible; station = s }) c.nobody-station.ensures
+      value = ap (λ (s : Station). record { answer = Err Refusal.Impossible; station = s }) c.nobody-station.ensures
           ∙ ap started (sym (held_none c.args.memory.now (sym c.is_broken.ensures ∙ c.if-is_broken.true)));
       valid = λ e. absurd (not-accepted Refusal.Impossible e);
     }
@@ -44,6 +44,6 @@ returns c =
     let same =
     same_station c.address_at-own.ensures c.address_at-ap.ensures c.number16-interval.ensures c.number32-clock.ensures c.octet_at-channel.ensures
     c.power_in-power.ensures c.pending_in-pending.ensures (c.schedules_in-schedules.ensures ∙ ap (λ (n : ℕ). slotted (schedules_from n head_length os)) count) count c.number64-until.ensures in record {
-      value = ap (λ (s : Station). record { answer = Answer.Accepted; station = s }) same ∙ ap started (sym (held_some os (holds (goal.at.returns c).After-octet_at-count)));
+      value = ap (λ (s : Station). record { answer = Ok tt; station = s }) same ∙ ap started (sym (held_some os (holds (goal.at.returns c).After-octet_at-count)));
       valid = λ e. subst Valid (sym same) (held_valid os (holds (goal.at.returns c).After-octet_at-count));
     }

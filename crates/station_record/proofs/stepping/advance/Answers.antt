@@ -1,14 +1,12 @@
 -- `advance` meets its contract: what `advance_clock` says is done to the octets, and to no others.
 -- Assumes nothing.
+use Rattle.std.specs.Prelude.{Err, None, Option}
 use Rattle.std.proofs.Common.{List, [], ap, ap₂, arith, false, length, refl, rules, sym, ℕ, ◌∙◌, ◌∷◌, ◌≡◌, ◌≤◌}
-use Rattle.answer.specs.Checks.{Outcome, refused, and_then, answer_of}
-use Rattle.answer.specs.declared.Answer.{Answer}
+use Rattle.answer.specs.Checks.{Outcome, and_then, answer_of, Answer}
 use Rattle.answer.specs.declared.Refusal.{Refusal}
-use Rattle.beacon.specs.declared.MaybePower.{MaybePower}
 use Rattle.octets.proofs.Storing.{over_length}
 use Rattle.octets.specs.Numbers.{Octets, split}
 use Rattle.octets.specs.Writing.{over}
-use Rattle.pending.specs.declared.Pending.{Pending}
 use Rattle.station.specs.Clock.{clock_advance, advanced_to, advance_means}
 use Rattle.station.specs.declared.Station.{Station}
 use Rattle.station.specs.declared.clock.Advanced.{Advanced}
@@ -20,13 +18,14 @@ use Rattle.station_record.proofs.InPlace.{told_in_place, switched_in_place}
 use Rattle.station_record.proofs.Sound.{sound}
 use Rattle.station_record.proofs.stepping.advance.Goals as goal
 use Rattle.station_record.proofs.stepping.advance.Goals.{After-advance_clock}
+use Rattle.pending.specs.declared.Switch.{Switch}
 
 pub returns-then-is_broken : goal.returns-then-is_broken
 returns-then-is_broken c =
     let n = c.args.units in
     let os = c.args.memory.now in
     let w =
-    comes_to answer_of os (advanced_in n os) (refused Refusal.Impossible)
+    comes_to answer_of os (advanced_in n os) (Err Refusal.Impossible)
     (ap (λ (o : Outcome Station). and_then o (λ s. advance_means s n))
     (held_none os (sym c.is_broken.ensures ∙ c.if-is_broken.true))) refl refl in
     record { value = w.0; memory_after = w.1 }
@@ -60,7 +59,7 @@ does c k told says left =
     let os = octets c in
     let n = c.args.units in
     let judged =
-    ap₂ (λ (t : ℕ) (p : Pending). clock_advance t p n)
+    ap₂ (λ (t : ℕ) (p : Option Switch). clock_advance t p n)
     (sym c.number32-clock.ensures) (sym c.pending_in-pending.ensures)
     ∙ sym c.advance_clock.ensures ∙ told in
     comes_to answer_of os (advanced_in n os) _
@@ -100,7 +99,7 @@ returns-in-Switches c =
     let k = (goal.at.returns-in-Switches c).After-advance_clock in
     let m = c.in-Switches.moment in
     let channel = c.in-Switches.channel in
-    let state = state_octets MaybePower.Absent Pending.Nothing 0 0 in
+    let state = state_octets None None 0 0 in
     let w =
     does k (Advanced.Switches m channel) c.in-Switches.is refl
     (c.switch.ensures

@@ -1,6 +1,7 @@
 -- `Table::ask` meets its contract: the address is not joined, or its station answers. Assumes nothing.
+use Rattle.std.specs.Prelude.{Ok}
 use Rattle.std.proofs.Common.{ap, arith, length, rules, sym, ◌<◌, ◌∙◌, ◌≡◌}
-use Rattle.answer.specs.Checks.{Outcome, accepted, and_then}
+use Rattle.answer.specs.Checks.{Outcome, and_then}
 use Rattle.station.specs.Asking.{permission_of}
 use Rattle.station.specs.declared.Station.{Station}
 use Rattle.station.specs.declared.asking.Permission.{Permission}
@@ -33,14 +34,14 @@ unfolding ask_means
 returns-in-Nowhere c =
     let a = c.args in
     sym
-    (ap (λ (o : Outcome Station). and_then o (λ s. accepted (permission_of s a.units)))
+    (ap (λ (o : Outcome Station). and_then o (λ s. Ok (permission_of s a.units)))
     (none_such (is_of a.own) a.self.rows (sym c.place_of.ensures ∙ c.in-Nowhere.is)).1)
 
 pub returns-in-At : goal.returns-in-At
 unfolding ask_means
 returns-in-At c =
     let a = c.args in
-    ap (λ (p : Permission). accepted p) c.ask.ensures
+    ap (λ (p : Permission). Ok p) c.ask.ensures
     ∙ sym
-    (ap (λ (o : Outcome Station). and_then o (λ s. accepted (permission_of s a.units)))
+    (ap (λ (o : Outcome Station). and_then o (λ s. Ok (permission_of s a.units)))
     ((found_at (is_of a.own) a.self.rows _ (sym c.place_of.ensures ∙ c.in-At.is)).station _))

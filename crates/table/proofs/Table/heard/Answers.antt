@@ -1,9 +1,9 @@
 -- `Table::heard` meets its contract: the row at the place hears what was read, or all of them do. Assumes nothing.
+use Rattle.std.specs.Prelude.{Option}
 use Rattle.std.proofs.Common.{ap, arith, length, set, subst, sym, ◌<◌, ◌∙◌}
 use Rattle.row.proofs.InTurn.{within_reads, all_at}
 use Rattle.row.specs.Rows.{row_count, free, ValidRow, row_heard}
 use Rattle.row.specs.declared.Row.{Row}
-use Rattle.row.specs.declared.places.Place.{Place}
 use Rattle.table.specs.CodeTerms.Hearing.{PlaceWithin, rows_after}
 use Rattle.table.specs.Tables.{with_rows}
 use Rattle.table.proofs.StaysValid.{rows_valid}
@@ -35,10 +35,10 @@ returns-in-At c =
     c.with_row.ensures
     ∙ ap (λ (r : Row). with_rows a.self (set a.self.rows c.in-At.at r))
     (c.hear.ensures.value ∙ ap (row_heard a.received) (within_reads a.self.rows c.in-At.at _ free (within (goal.at.returns-in-At c).In-At)))
-    ∙ ap (λ (q : Place). with_rows a.self (rows_after q a.received a.self.rows)) (sym c.in-At.is)
+    ∙ ap (λ (q : Option ℕ). with_rows a.self (rows_after q a.received a.self.rows)) (sym c.in-At.is)
 
 pub returns-in-Nowhere : goal.returns-in-Nowhere
 returns-in-Nowhere c =
     let a = c.args in
     ap (with_rows a.self) c.hear_all-next.ensures
-    ∙ ap (λ (q : Place). with_rows a.self (rows_after q a.received a.self.rows)) (sym c.in-Nowhere.is)
+    ∙ ap (λ (q : Option ℕ). with_rows a.self (rows_after q a.received a.self.rows)) (sym c.in-Nowhere.is)

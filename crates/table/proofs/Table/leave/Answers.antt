@@ -1,6 +1,6 @@
 -- `Table::leave` meets its contract, and the table stays valid. Assumes nothing.
+use Rattle.std.specs.Prelude.{Ok}
 use Rattle.std.proofs.Common.{ap, arith, length, rules, set, subst, sym, ◌<◌, ◌∙◌, ◌≡◌}
-use Rattle.answer.specs.Checks.{accepted}
 use Rattle.row.specs.Rows.{row_count}
 use Rattle.row.specs.declared.Row.{Row}
 use Rattle.table.specs.Tables.{stepped, with_rows}
@@ -40,7 +40,7 @@ returns-in-At c =
     let a = c.args in
     let w = leave_one a.self c.requires a.own _ (sym c.place_of.ensures ∙ c.in-At.is) in
     let left = c.accepted.ensures
-    ∙ ap (λ (t : Table). stepped a.self (accepted t))
+    ∙ ap (λ (t : Table). stepped a.self (Ok t))
     (c.with_row.ensures ∙ ap (λ (r : Row). with_rows a.self (set a.self.rows c.in-At.place r)) c.vacated.ensures) in
     record {
       value = left ∙ w.0;

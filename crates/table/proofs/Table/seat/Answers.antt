@@ -1,13 +1,13 @@
 -- `Table::seat` meets its contract: it takes the row that is found, or none. Assumes nothing.
+use Rattle.std.specs.Prelude.{Ok}
 use Rattle.std.proofs.Common.{ap, ap₂, arith, length, rules, set, sym, ◌<◌, ◌∙◌, ◌≡◌}
-use Rattle.answer.specs.Checks.{accepted}
+use Rattle.answer.specs.Checks.{Outcome}
 use Rattle.row.specs.Places.{place_of}
 use Rattle.row.specs.Rows.{row_count, is_of, is_free}
 use Rattle.row.specs.declared.Row.{Row}
 use Rattle.table.specs.CodeTerms.Seating.{seat_among}
 use Rattle.table.specs.Tables.{stepped, with_rows}
 use Rattle.table.specs.declared.Table.{Table}
-use Rattle.table.specs.declared.joining.Seat.{Seat}
 use Rattle.table.proofs.Outcomes.{seat_within, taking, seat_told}
 use Rattle.table.proofs.Table.seat.Goals as goal
 use Rattle.table.proofs.Table.seat.Goals.{After-seat_among-seat, In-At}
@@ -38,14 +38,14 @@ with_row-requires c = fits (goal.at.with_row-requires c).In-At
 pub returns-in-Refused : goal.returns-in-Refused
 returns-in-Refused c =
     let a = c.args in
-    c.refused.ensures ∙ ap (λ (x : Seat). stepped a.self (taking a.self a.station x)) (sym c.in-Refused.is ∙ found (goal.at.returns-in-Refused c).After-seat_among-seat)
+    c.refused.ensures ∙ ap (λ (x : Outcome ℕ). stepped a.self (taking a.self a.station x)) (sym c.in-Refused.is ∙ found (goal.at.returns-in-Refused c).After-seat_among-seat)
     ∙ seat_told a.self a.station
 
 pub returns-in-At : goal.returns-in-At
 returns-in-At c =
     let a = c.args in
     c.accepted.ensures
-    ∙ ap (λ (t : Table). stepped a.self (accepted t))
+    ∙ ap (λ (t : Table). stepped a.self (Ok t))
     (c.with_row.ensures ∙ ap (λ (r : Row). with_rows a.self (set a.self.rows c.in-At.place r)) c.taken_by.ensures)
-    ∙ ap (λ (x : Seat). stepped a.self (taking a.self a.station x)) (sym c.in-At.is ∙ found (goal.at.returns-in-At c).After-seat_among-seat)
+    ∙ ap (λ (x : Outcome ℕ). stepped a.self (taking a.self a.station x)) (sym c.in-At.is ∙ found (goal.at.returns-in-At c).After-seat_among-seat)
     ∙ seat_told a.self a.station

@@ -1,13 +1,12 @@
 -- `Table::take` meets its contract, and the table stays valid: the frame is read once, and goes where it was sent to. Assumes nothing.
+use Rattle.std.specs.Prelude.{Ok, Option}
 use Rattle.std.proofs.Common.{List, ap, subst, sym, ℕ, ◌∙◌, ◌≡◌}
-use Rattle.answer.specs.declared.Verdict.{Verdict}
 use Rattle.frame.specs.Frames.{frame_means}
 use Rattle.frame.specs.Laid.{frame_laid}
 use Rattle.frame.specs.declared.Received.{Received}
 use Rattle.header.specs.Headers.{da}
 use Rattle.row.specs.Places.{place_of}
 use Rattle.row.specs.Rows.{is_of}
-use Rattle.row.specs.declared.places.Place.{Place}
 use Rattle.table.specs.CodeTerms.Hearing.{reader_at, rows_after}
 use Rattle.table.specs.Tables.{with_rows, reader_of, taken}
 use Rattle.table.specs.Validity.{ValidTable}
@@ -25,7 +24,7 @@ module _ (c : After-read-received) where
   abbrev frame : List ℕ
   frame = c.args.frame.now
 
-  abbrev place : Place
+  abbrev place : Option ℕ
   place = c.place_of-place.result
 
   found : place_of (is_of (da frame)) self.rows ≡ place
@@ -63,6 +62,6 @@ returns-in-Is c =
     let next = c.heard.ensures
     ∙ ap (λ (v : Received). with_rows (self (goal.at.returns-in-Is c).After-read-received) (rows_after (place (goal.at.returns-in-Is c).After-read-received) v (self (goal.at.returns-in-Is c).After-read-received).rows)) (read (goal.at.returns-in-Is c).After-read-received ∙ ap frame_laid x.1)
     ∙ ap (with_rows (self (goal.at.returns-in-Is c).After-read-received)) (placed_rows (self (goal.at.returns-in-Is c).After-read-received) c.requires (frame (goal.at.returns-in-Is c).After-read-received) x.0 x.1 (place (goal.at.returns-in-Is c).After-read-received) (found (goal.at.returns-in-Is c).After-read-received)) in record {
-      value = ap (λ (t : Table). record { verdict = Verdict.Accepted; table = t }) next ∙ ap (taken (self (goal.at.returns-in-Is c).After-read-received)) (take_accepted (self (goal.at.returns-in-Is c).After-read-received) c.requires (frame (goal.at.returns-in-Is c).After-read-received) x.0 x.1);
+      value = ap (λ (t : Table). record { verdict = Ok tt; table = t }) next ∙ ap (taken (self (goal.at.returns-in-Is c).After-read-received)) (take_accepted (self (goal.at.returns-in-Is c).After-read-received) c.requires (frame (goal.at.returns-in-Is c).After-read-received) x.0 x.1);
       kept = subst ValidTable (sym next) (take_valid (self (goal.at.returns-in-Is c).After-read-received) c.requires (frame (goal.at.returns-in-Is c).After-read-received) x.0 x.1);
     }
