@@ -26,7 +26,8 @@ use Rattle.element.specs.TpcRequest.{tpc_request_means}
 use Rattle.frame.proofs.BodyFaults.{Misread, switch_misread, tpc_report_misread, tpc_request_misread, request_misread, report_misread, NoticeFaults, takes_by}
 use Rattle.frame.specs.Actions.{Body, requests, reports, tpc_request, tpc_report, switch, after_opening, action_means}
 use Rattle.frame.specs.Frames.{Kind, action, Sent, kind_of, frame_means}
-use Rattle.header.specs.Headers.{header_length, body_of, management_means, address_means, Head, header_means}
+use Rattle.header.specs.Headers.{header_length, body_of, management_means, address_means, header_means}
+use Rattle.header.specs.declared.Head.{Head}
 use Rattle.header.specs.declared.address.Cell.{Cell}
 use Rattle.header.specs.declared.management.Subtype.{Subtype}
 use Rattle.measurement_body.specs.Lists.{Sort, repeats, next_in, listed, measurements_in}

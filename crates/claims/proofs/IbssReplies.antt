@@ -13,7 +13,8 @@ use Rattle.answer.specs.declared.Refusal.{Refusal}
 use Rattle.element.specs.declared.tpc_report.TpcReport.{TpcReport}
 use Rattle.frame.specs.Actions.{Body, requests, reports, tpc_request, tpc_report, switch}
 use Rattle.header.proofs.SentBy.{heard_as_from_ap, same_body}
-use Rattle.header.specs.Headers.{sa, Head, from_ap}
+use Rattle.header.specs.Headers.{sa, from_ap}
+use Rattle.header.specs.declared.Head.{Head}
 use Rattle.header.specs.declared.address.Cell.{Cell}
 use Rattle.measured_report.specs.declared.Readings.{Readings}
 use Rattle.measured_report.specs.Reports.{report_for}

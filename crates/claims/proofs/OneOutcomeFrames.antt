@@ -38,7 +38,7 @@ use Rattle.header.proofs.read_address as HeaderReadAddress
 use Rattle.header.proofs.read_management as HeaderReadManagement
 use Rattle.header.proofs.receiver as HeaderReceiver
 use Rattle.header.proofs.sender as HeaderSender
-use Rattle.header.specs.Headers.{Head, header_told}
+use Rattle.header.specs.declared.Head.{Head}
 use Rattle.header.specs.declared.Header.{Header}
 use Rattle.header.specs.declared.management.Subtype.{Subtype}
 use Rattle.measurement_body.proofs.reports.append as ReportsAppend

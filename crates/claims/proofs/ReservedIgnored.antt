@@ -18,7 +18,8 @@ use Rattle.answer.specs.Faults.{Placed, nowhere, placed_past}
 use Rattle.answer.specs.declared.Refusal.{Refusal}
 use Rattle.frame.specs.Actions.{Body}
 use Rattle.frame.specs.Frames.{Kind, action, kind_of, sent, frame_means}
-use Rattle.header.specs.Headers.{header_length, longest_frame, body_of, same, da, sa, bssid, flags, subtype, fragment, is_read, subtype_of, has_foreign_flag, foreign_header, to_all, foreign_address, management_means, address_means, Head, header_means}
+use Rattle.header.specs.Headers.{header_length, longest_frame, body_of, same, da, sa, bssid, flags, subtype, fragment, is_read, subtype_of, has_foreign_flag, foreign_header, to_all, foreign_address, management_means, address_means, header_means}
+use Rattle.header.specs.declared.Head.{Head}
 use Rattle.header.specs.declared.address.Cell.{Cell}
 use Rattle.header.specs.declared.management.Subtype.{Subtype}
 use Rattle.octets.specs.Numbers.{octet, bit}

@@ -22,7 +22,8 @@ use Rattle.beacon.specs.Beacons.{Told, fixed_length, beacon_means}
 use Rattle.frame.specs.Actions.{Body, action_means}
 use Rattle.frame.specs.Frames.{Kind, beacon, probe_response, action, kind_of, sent, frame_means}
 use Rattle.header.proofs.Heard.{heard_as, has_header, not_too_long}
-use Rattle.header.specs.Headers.{header_length, body_of, same, da, sa, bssid, version, type, flags, fragment, subtype, is_read, has_foreign_flag, subtype_of, foreign_header, to_all, foreign_address, management_means, address_means, Head, header_means}
+use Rattle.header.specs.Headers.{header_length, body_of, same, da, sa, bssid, version, type, flags, fragment, subtype, is_read, has_foreign_flag, subtype_of, foreign_header, to_all, foreign_address, management_means, address_means, header_means}
+use Rattle.header.specs.declared.Head.{Head}
 use Rattle.header.specs.declared.address.Cell.{Cell}
 use Rattle.header.specs.declared.management.Subtype.{Subtype}
 use Rattle.octets.specs.Numbers.{octet}

@@ -15,7 +15,8 @@ use Rattle.channel.specs.Centres.{highest}
 use Rattle.element.specs.declared.tpc_report.TpcReport.{TpcReport}
 use Rattle.frame.specs.Frames.{Sent, kind_of, sent, frame_means}
 use Rattle.header.proofs.Addresses.{same_self}
-use Rattle.header.specs.Headers.{header_length, body_of, same, da, bssid, to_all, foreign_sender, foreign_address, management_means, address_means, Head, header_means}
+use Rattle.header.specs.Headers.{header_length, body_of, same, da, bssid, to_all, foreign_sender, foreign_address, management_means, address_means, header_means}
+use Rattle.header.specs.declared.Head.{Head}
 use Rattle.header.specs.declared.address.Cell.{Cell}
 use Rattle.header.specs.declared.management.Subtype.{Subtype}
 use Rattle.measured_report.specs.declared.Readings.{Readings}

@@ -13,7 +13,8 @@ use Rattle.element.specs.TpcReport.{tpc_report_means}
 use Rattle.element.specs.TpcRequest.{tpc_request_means}
 use Rattle.frame.specs.Actions.{Body, requests, reports, tpc_request, tpc_report, switch}
 use Rattle.frame.specs.Frames.{Kind, beacon, probe_response, action, Sent}
-use Rattle.header.specs.Headers.{body_of, Head, header_means}
+use Rattle.header.specs.Headers.{body_of, header_means}
+use Rattle.header.specs.declared.Head.{Head}
 use Rattle.header.specs.declared.address.Cell.{Cell}
 use Rattle.header.specs.declared.management.Subtype.{Subtype}
 use Rattle.measurement_body.specs.Lists.{Sort, repeats}

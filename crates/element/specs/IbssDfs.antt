@@ -5,7 +5,7 @@ use Rattle.answer.specs.declared.Refusal.{Refusal}
 use Rattle.octets.specs.Elements.{element}
 use Rattle.octets.specs.Numbers.{octet, octets_from, bit}
 use Rattle.element.specs.declared.ibss_dfs.ChannelMap.{ChannelMap}
-use Rattle.element.specs.declared.ibss_dfs.Reading.{Reading}
+use Rattle.element.specs.declared.ibss_dfs.IbssDfs.{IbssDfs}
 
 -- owner, recovery interval, and the octets of the pairs
 pub record Dfs : Type 0 where
@@ -34,10 +34,14 @@ dfs_means c =
     (not (dfs_length (length c)) ⇒ Refusal.WrongLength ∷ dfs_forbids (octets_from 6 0 c) (octet 6 c) ⇒ Refusal.ForbiddenValue ∷ [])
     (dfs_in c)
 
--- the answer from the outcome; beside a refusal everything is 0
-abbrev pub dfs_laid : Outcome Dfs → Reading
-dfs_laid (Err r) = record { answer = Err r; dfs = record { owner = replicate 6 0; recovery = 0; pairs = 0 } }
-dfs_laid (Ok d) = record { answer = Ok tt; dfs = record { owner = d.owner; recovery = d.recovery; pairs = length d.pairs / 2 } }
+-- an element but for its pairs, of which it says how many there are
+abbrev pub dfs_fields : Dfs → IbssDfs
+dfs_fields d = record { owner = d.owner; recovery = d.recovery; pairs = length d.pairs / 2 }
+
+-- what the reader answers
+abbrev pub dfs_laid : Outcome Dfs → Outcome IbssDfs
+dfs_laid (Err r) = Err r
+dfs_laid (Ok d) = Ok (dfs_fields d)
 
 -- the pair at an index: 16 where there is none
 unfoldable pub pair_means : ℕ → List ℕ → Outcome ChannelMap

@@ -26,20 +26,6 @@ pub struct IbssDfs {
     pub pairs: usize,
 }
 
-// What stands beside a refusal, and where there is no element 41.
-pub const NONE: IbssDfs = IbssDfs {
-    owner: [0; 6],
-    recovery: 0,
-    pairs: 0,
-};
-
-// The answer, and what was read; beside a refusal everything is 0.
-#[derive(Clone, Copy)]
-pub struct Reading {
-    pub answer: Result<(), Refusal>,
-    pub dfs: IbssDfs,
-}
-
 // A channel and what was measured on it.
 #[derive(Clone, Copy)]
 pub struct ChannelMap {
@@ -67,23 +53,14 @@ fn pairs_in(length: usize) -> usize
     (length - FIXED_LENGTH) / PAIR
 }
 
-fn refused(refusal: Refusal) -> Reading
-    ensures { result ≡ dfs_laid (Err refusal) }
-{
-    Reading {
-        answer: Err(refusal),
-        dfs: NONE,
-    }
-}
-
-pub fn read(contents: &[u8]) -> Reading
+pub fn read(contents: &[u8]) -> Result<IbssDfs, Refusal>
     ensures { result ≡ dfs_laid (dfs_means contents.now) }
 {
     if contents.len() < FIXED_LENGTH {
-        return refused(Refusal::WrongLength);
+        return Err(Refusal::WrongLength);
     }
     if (contents.len() - FIXED_LENGTH) % PAIR != 0 {
-        return refused(Refusal::WrongLength);
+        return Err(Refusal::WrongLength);
     }
     let owner = [
         contents[0],
@@ -95,17 +72,14 @@ pub fn read(contents: &[u8]) -> Reading
     ];
     let recovery = contents[6];
     if is_forbidden(owner, recovery) {
-        return refused(Refusal::ForbiddenValue);
+        return Err(Refusal::ForbiddenValue);
     }
     let pairs = pairs_in(contents.len());
-    Reading {
-        answer: Ok(()),
-        dfs: IbssDfs {
-            owner,
-            recovery,
-            pairs,
-        },
-    }
+    Ok(IbssDfs {
+        owner,
+        recovery,
+        pairs,
+    })
 }
 
 // The pair at an index, in the contents that hold it.
@@ -136,7 +110,13 @@ fn may_write(owner: [u8; 6], recovery: u8, length: usize) -> bool
 }
 
 // The pairs are handed in as their octets, channel and map in turn.
-pub fn write(owner: [u8; 6], recovery: u8, pairs: &[u8], buffer: &mut [u8], at: usize) -> Result<usize, Refusal>
+pub fn write(
+    owner: [u8; 6],
+    recovery: u8,
+    pairs: &[u8],
+    buffer: &mut [u8],
+    at: usize,
+) -> Result<usize, Refusal>
     ensures { Written (dfs_may (dfs_of owner recovery pairs.now)) (dfs_octets (dfs_of owner recovery pairs.now)) at buffer.old result buffer.new }
 {
     if !may_write(owner, recovery, pairs.len()) {

@@ -24,8 +24,3 @@ busy_of duration time = judged (not (possible duration time) ⇒ Refusal.Impossi
 unfoldable pub densities_of : ℕ → List ℕ → Outcome (List ℕ)
 densities_of duration times =
     judged (not (possible duration (sum_of times)) ⇒ Refusal.Impossible ∷ []) (map (fraction_of duration) times)
-
--- the answer with its eight numbers beside it, all 0 beside a refusal
-abbrev pub laid : Outcome (List ℕ) → Densities
-laid (Err r) = record { answer = Err r; values = replicate 8 0 }
-laid (Ok ds) = record { answer = Ok tt; values = ds }

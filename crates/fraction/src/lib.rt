@@ -1,18 +1,11 @@
 // The busy fraction and the eight RPI densities (document 01, "Replies"; 802.11h 7.3.2.22.2 and 7.3.2.22.3).
 #![tactic(auto)]
 
-ghost use Rattle.std.specs.Prelude.{◌≡◌, ◌*◌, ◌<◌, ◌≤◌};
+ghost use Rattle.std.specs.Prelude.{◌≡◌, ◌*◌, ◌<◌, ◌≤◌, IfOk};
 ghost use Rattle.octets.specs.Sums.{sum_of};
-ghost use Rattle.fraction.specs.Fractions.{possible, fraction_of, busy_of, laid, densities_of};
+ghost use Rattle.fraction.specs.Fractions.{possible, fraction_of, busy_of, densities_of};
 
 use answer::Refusal;
-
-// What asking for densities answers; a refusal leaves eight zeros.
-#[derive(Clone, Copy)]
-pub struct Densities {
-    pub answer: Result<(), Refusal>,
-    pub values: [u8; 8],
-}
 
 // Whether times of this sum can have been measured within a duration.
 fn is_possible(sum: u64, duration: u16) -> bool
@@ -57,24 +50,18 @@ fn total(times: [u32; 8]) -> u64
 }
 
 // The eight densities together, of eight times in µs within a duration in TU.
-pub fn rpi_densities(times: [u32; 8], duration: u16) -> Densities
-    ensures value { result ≡ laid (densities_of duration times) }
-    ensures values_bound { sum_of result.values ≤ 262 }
+pub fn rpi_densities(times: [u32; 8], duration: u16) -> Result<[u8; 8], Refusal>
+    ensures value { result ≡ densities_of duration times }
+    ensures values_bound { IfOk result (λ values. sum_of values ≤ 262) }
 {
-    let mut values = [0u8; 8];
     if !is_possible(total(times), duration) {
-        return Densities {
-            answer: Err(Refusal::Impossible),
-            values,
-        };
+        return Err(Refusal::Impossible);
     }
+    let mut values = [0u8; 8];
     let mut i = 0;
     while i < 8 {
         values[i] = share(times[i], duration);
         i += 1;
     }
-    Densities {
-        answer: Ok(()),
-        values,
-    }
+    Ok(values)
 }

@@ -14,7 +14,8 @@ use Rattle.beacon.specs.Beacons.{Told, beacon_means}
 use Rattle.beacon.specs.IbssBeacons.{MaybeDfs, ToldInIbss, besides, ibss_beacon_means}
 use Rattle.header.proofs.Heard.{is_subtype}
 use Rattle.header.proofs.SentBy.{heard_as_from_ap, same_body, individual}
-use Rattle.header.specs.Headers.{header_length, body_of, sa, Head, header_means, from_ap}
+use Rattle.header.specs.Headers.{header_length, body_of, sa, header_means, from_ap}
+use Rattle.header.specs.declared.Head.{Head}
 use Rattle.header.specs.declared.address.Cell.{Cell}
 use Rattle.header.specs.declared.management.Subtype.{Subtype}
 use Rattle.octets.specs.Numbers.{octet, bit}

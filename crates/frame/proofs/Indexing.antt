@@ -10,7 +10,8 @@ use Rattle.answer.specs.Checks.{Outcome, and_then}
 use Rattle.answer.specs.Faults.{Placed, nowhere, without_place, placed_past}
 use Rattle.answer.specs.declared.Fault.{Fault}
 use Rattle.beacon.specs.Beacons.{Told, beacon_means}
-use Rattle.header.specs.Headers.{header_length, body_of, Head, header_means}
+use Rattle.header.specs.Headers.{header_length, body_of, header_means}
+use Rattle.header.specs.declared.Head.{Head}
 use Rattle.header.specs.declared.address.Cell.{Cell}
 use Rattle.header.specs.declared.management.Subtype.{Subtype}
 use Rattle.measurement_body.proofs.PlacesRead.{Reads, place_reads}

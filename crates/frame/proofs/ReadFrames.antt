@@ -13,7 +13,8 @@ use Rattle.beacon.specs.Beacons.{Told, beacon_means}
 use Rattle.beacon.specs.IbssBeacons.{absent, besides, told_where}
 use Rattle.beacon.specs.Laid.{laid}
 use Rattle.beacon.specs.declared.Heard.{Heard}
-use Rattle.header.specs.Headers.{header_length, body_of, Head, header_means}
+use Rattle.header.specs.Headers.{header_length, body_of, header_means}
+use Rattle.header.specs.declared.Head.{Head}
 use Rattle.header.specs.declared.address.Cell.{Cell}
 use Rattle.header.specs.declared.management.Subtype.{Subtype}
 use Rattle.frame.specs.Actions.{Body}

@@ -12,7 +12,8 @@ use Rattle.beacon.specs.IbssBeacons.{absent, ToldInIbss, ibss_beacon_means, told
 use Rattle.beacon.specs.Laid.{dfs_heard, laid}
 use Rattle.beacon.specs.declared.Heard.{Heard}
 use Rattle.element.specs.declared.ibss_dfs.ChannelMap.{ChannelMap}
-use Rattle.header.specs.Headers.{header_length, body_of, sa, Head, header_means}
+use Rattle.header.specs.Headers.{header_length, body_of, sa, header_means}
+use Rattle.header.specs.declared.Head.{Head}
 use Rattle.header.specs.declared.address.Cell.{Cell}
 use Rattle.header.specs.declared.management.Subtype.{Subtype}
 use Rattle.frame.specs.CodeTerms.InIbss.{heard_laid, sent_by}

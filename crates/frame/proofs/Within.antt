@@ -17,7 +17,8 @@ use Rattle.beacon.specs.IbssBeacons.{ToldInIbss, ibss_beacon_means, told_where}
 use Rattle.beacon.specs.Laid.{laid}
 use Rattle.beacon.specs.declared.Heard.{Heard}
 use Rattle.header.proofs.Heard.{has_header, not_too_long}
-use Rattle.header.specs.Headers.{header_length, body_of, sa, Head, header_means}
+use Rattle.header.specs.Headers.{header_length, body_of, sa, header_means}
+use Rattle.header.specs.declared.Head.{Head}
 use Rattle.header.specs.declared.address.Cell.{Cell}
 use Rattle.header.specs.declared.management.Subtype.{Subtype}
 use Rattle.measurement_body.specs.Bodies.{longest_body}

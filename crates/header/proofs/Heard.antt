@@ -7,7 +7,8 @@ use Prim.Native.Nat.{ℕ, ◌≤◌}
 use borrow.Author.Tests.{ltb-false, le-ltb}
 use lib.ListN.{length}
 use Rattle.answer.proofs.Judged.{passed, kept, followed, past, done}
-use Rattle.header.specs.Headers.{Head, header_length, longest_frame, subtype, subtype_of, to_all, foreign_header, foreign_address, management_means, address_means, header_means}
+use Rattle.header.specs.Headers.{header_length, longest_frame, subtype, subtype_of, to_all, foreign_header, foreign_address, management_means, address_means, header_means}
+use Rattle.header.specs.declared.Head.{Head}
 use Rattle.header.specs.declared.address.Cell.{Cell}
 use Rattle.header.specs.declared.management.Subtype.{Subtype}
 

@@ -16,7 +16,8 @@ use Rattle.answer.specs.Checks.{Outcome, ◌⇒◌, judged, and_then}
 use Rattle.answer.specs.declared.Refusal.{Refusal}
 use Rattle.octets.proofs.JoinSplit.{all_from}
 use Rattle.octets.specs.Numbers.{octet, octets_from, bit}
-use Rattle.header.specs.Headers.{header_length, body_of, same, da, sa, bssid, foreign_header, to_all, foreign_address, management_means, address_means, Head, header_means, from_ap}
+use Rattle.header.specs.Headers.{header_length, body_of, same, da, sa, bssid, foreign_header, to_all, foreign_address, management_means, address_means, header_means, from_ap}
+use Rattle.header.specs.declared.Head.{Head}
 use Rattle.header.specs.declared.address.Cell.{Cell}
 use Rattle.header.specs.declared.management.Subtype.{Subtype}
 use Rattle.header.proofs.Addresses.{same_self}

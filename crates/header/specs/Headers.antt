@@ -4,7 +4,7 @@ use Rattle.std.specs.Prelude.{Bool, true, false, not, ◌&&◌, ◌||◌, List, 
 use Rattle.answer.specs.Checks.{Outcome, pick, ◌⇒◌, judged, and_then}
 use Rattle.answer.specs.declared.Refusal.{Refusal}
 use Rattle.octets.specs.Numbers.{octet, octets_from, bit}
-use Rattle.header.specs.declared.Header.{Header}
+use Rattle.header.specs.declared.Head.{Head}
 use Rattle.header.specs.declared.address.Cell.{Cell}
 use Rattle.header.specs.declared.management.Subtype.{Subtype}
 
@@ -96,10 +96,6 @@ unfoldable pub address_means : Cell → List ℕ → List ℕ → List ℕ → O
 address_means cell own bss f = judged (foreign_address cell own bss f ⇒ Refusal.ForeignAddress ∷ []) (to_all f)
 
 -- what the header of a frame that is taken says
-pub record Head : Type 0 where
-  pub subtype : Subtype
-  pub to_all : Bool
-
 unfoldable pub header_means : Cell → List ℕ → List ℕ → List ℕ → Outcome Head
 header_means cell own bss f =
     and_then (management_means f) (λ s. and_then (address_means cell own bss f) (λ a. Ok (record { subtype = s; to_all = a })))
@@ -107,9 +103,3 @@ header_means cell own bss f =
 -- the frame as an AP at this address would have sent it: SA replaced
 unfoldable pub from_ap : List ℕ → List ℕ → List ℕ
 from_ap a f = take 10 f ++ (a ++ drop 16 f)
-
--- ---- the outcome that each case of an answer stands for
-
-abbrev pub header_told : Header → Outcome Head
-header_told (Header.Refused r) = Err r
-header_told (Header.Is s a) = Ok (record { subtype = s; to_all = a })

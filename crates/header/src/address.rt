@@ -120,15 +120,12 @@ fn is_elsewhere(frame: &[u8], cell: Cell, own: [u8; 6], bssid: [u8; 6]) -> bool
     !is_to_all(frame)
 }
 
-// To whom a frame was sent that this station takes.
+// Whether a frame that this station takes was sent to all ones, and not to the station alone.
 pub fn read_address(frame: &[u8], cell: Cell, own: [u8; 6], bssid: [u8; 6]) -> Result<bool, Refusal>
     ensures { result ≡ address_means cell own bssid frame.now }
 {
     if is_elsewhere(frame, cell, own, bssid) {
         return Err(Refusal::ForeignAddress);
     }
-    if is_to_all(frame) {
-        return Ok(true);
-    }
-    Ok(false)
+    Ok(is_to_all(frame))
 }

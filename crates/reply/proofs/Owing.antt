@@ -21,7 +21,8 @@ use Rattle.frame.specs.declared.Frame.{Frame}
 use Rattle.measurement_body.specs.Bodies.{longest_body}
 use Rattle.measurement_body.specs.Lists.{nth}
 use Rattle.measurement_element.specs.declared.measurement_request.Request.{Request}
-use Rattle.header.specs.Headers.{body_of, header_length, Head, header_means}
+use Rattle.header.specs.Headers.{body_of, header_length, header_means}
+use Rattle.header.specs.declared.Head.{Head}
 use Rattle.header.proofs.Heard.{not_too_long}
 use Rattle.header.specs.declared.address.Cell.{Cell}
 use Rattle.header.specs.declared.management.Subtype.{Subtype}

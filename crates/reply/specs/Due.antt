@@ -7,7 +7,8 @@ use Rattle.answer.specs.Faults.{Placed}
 use Rattle.answer.specs.Numbers.{number_of}
 use Rattle.answer.specs.declared.Refusal.{Refusal}
 use Rattle.frame.specs.Actions.{Body, action_means}
-use Rattle.header.specs.Headers.{body_of, Head, header_means}
+use Rattle.header.specs.Headers.{body_of, header_means}
+use Rattle.header.specs.declared.Head.{Head}
 use Rattle.header.specs.declared.address.Cell.{Cell}
 use Rattle.header.specs.declared.management.Subtype.{Subtype}
 use Rattle.octets.specs.Numbers.{octet}

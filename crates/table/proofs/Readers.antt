@@ -15,7 +15,8 @@ use Rattle.answer.specs.Faults.{nowhere, placed_past}
 use Rattle.answer.specs.declared.Refusal.{Refusal}
 use Rattle.frame.specs.Frames.{Sent, kind_of, sent, frame_means}
 use Rattle.header.proofs.Addresses.{same_is}
-use Rattle.header.specs.Headers.{header_length, body_of, same, da, bssid, to_all, foreign_sender, foreign_address, management_means, address_means, Head, header_means}
+use Rattle.header.specs.Headers.{header_length, body_of, same, da, bssid, to_all, foreign_sender, foreign_address, management_means, address_means, header_means}
+use Rattle.header.specs.declared.Head.{Head}
 use Rattle.header.specs.declared.address.Cell.{Cell}
 use Rattle.octets.specs.Numbers.{bit, octet}
 use Rattle.row.specs.Places.{place_of}

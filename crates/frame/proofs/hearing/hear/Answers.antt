@@ -3,7 +3,8 @@ use Rattle.std.specs.Prelude.{Ok, Err}
 use Rattle.std.proofs.Common.{[], ap, false, length, sym, ◌∙◌, ◌≡◌, ◌≤◌}
 use Rattle.answer.specs.Faults.{placed_past, Placed}
 use Rattle.answer.specs.declared.Fault.{Fault}
-use Rattle.header.specs.Headers.{header_length, header_told, Head, header_means}
+use Rattle.header.specs.Headers.{header_length, header_means}
+use Rattle.header.specs.declared.Head.{Head}
 use Rattle.header.specs.declared.address.Cell.{Cell}
 use Rattle.header.specs.declared.management.Subtype.{Subtype}
 use Rattle.frame.specs.Actions.{action_means}

@@ -5,7 +5,8 @@ use Rattle.answer.specs.Faults.{placed_past}
 use Rattle.answer.specs.declared.Fault.{Fault}
 use Rattle.beacon.specs.IbssBeacons.{absent}
 use Rattle.beacon.specs.Laid.{dfs_heard}
-use Rattle.header.specs.Headers.{header_length, body_of, sa, header_told, Head, header_means}
+use Rattle.header.specs.Headers.{header_length, body_of, sa, header_means}
+use Rattle.header.specs.declared.Head.{Head}
 use Rattle.header.specs.declared.address.Cell.{Cell}
 use Rattle.header.specs.declared.management.Subtype.{Subtype}
 use Rattle.measurement_body.specs.Bodies.{longest_body}

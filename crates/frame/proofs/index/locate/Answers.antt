@@ -3,7 +3,7 @@ use Rattle.std.specs.Prelude.{Ok, Err}
 use Rattle.std.proofs.Common.{List, ap, false, length, sym, true, ℕ, ◌∙◌, ◌≡◌, ◌≤◌}
 use Rattle.answer.specs.Faults.{placed_past}
 use Rattle.answer.specs.declared.Fault.{Fault}
-use Rattle.header.specs.Headers.{header_length, body_of, header_told}
+use Rattle.header.specs.Headers.{header_length, body_of}
 use Rattle.header.specs.declared.address.Cell.{Cell}
 use Rattle.header.specs.declared.management.Subtype.{Subtype}
 use Rattle.measurement_body.specs.Bodies.{longest_body}

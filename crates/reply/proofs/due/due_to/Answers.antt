@@ -1,7 +1,7 @@
 -- `due_to` meets its contract: the header, then the body by its subtype.
 use Rattle.std.proofs.Common.{List, ap, sym, ℕ, ◌∙◌, ◌≡◌}
 use Rattle.frame.specs.Actions.{action_means}
-use Rattle.header.specs.Headers.{body_of, header_told}
+use Rattle.header.specs.Headers.{body_of}
 use Rattle.header.specs.declared.management.Subtype.{Subtype}
 use Rattle.reply.specs.CodeTerms.Asked.{due_of}
 use Rattle.reply.specs.Due.{or_return, by_subtype, due_in}
