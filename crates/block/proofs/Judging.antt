@@ -1,47 +1,35 @@
--- The ways through the tests of a block. Assumes nothing.
+-- What it says that a block is damaged, or that it is used. Assumes nothing.
 use mathlib.Core.Bool.{Bool, true, false, not}
-use mathlib.Core.List.{List}
-use mathlib.Core.Path.{◌≡◌, refl, ap, ◌∙◌}
-use Prim.Native.Nat.{ℕ, ◌<◌, ◌≤◌}
+use mathlib.Core.List.{List, [], ◌∷◌}
+use mathlib.Core.Path.{◌≡◌, refl, ap}
+use Prim.Native.Nat.{ℕ, ◌+◌, ◌%◌, ◌<◌, ◌≤◌}
 use native.Mathlib.Omega.{arith}
-use borrow.Author.Tests.{eq-eqb, ne_eqb, eqb-true, not-false, lt-ltb, le-ltb, ltb-false}
-use lib.Dec.{ltb, eqb}
+use borrow.Author.Tests.{ne_eqb, eqb-true, not-false, ltb-false}
+use lib.Dec.{eqb}
 use lib.ListN.{length}
-use Rattle.answer.proofs.Booleans.{neither, or_go, or_stop}
+use Rattle.std.specs.Prelude.{Some, None}
+use Rattle.std.specs.List.{fold}
+use Rattle.answer.proofs.Booleans.{neither, or_stop}
 use Rattle.answer.specs.Checks.{pick}
 use Rattle.octets.specs.Numbers.{number}
+use Rattle.octets.specs.Sums.{sum_of}
 use Rattle.block.specs.Blocks.{used_length, check_of, is_damaged, block_means}
-use Rattle.block.specs.declared.Block.{Block}
 
-module _ (b : List ℕ) where
-  damaged : is_damaged b ≡ true → Block.Damaged ≡ block_means b
-  unfolding block_means
-  damaged e = rw e
+-- what adds modulo 65,536 gives the sum modulo 65,536
+pub folded : (xs : List ℕ) (a : ℕ) → a < 65536 → fold (λ n x. (n + x) % 65536) a xs ≡ (a + sum_of xs) % 65536
+folded [] a h = omega arith
+folded (x ∷ xs) a h = omega (arith, folded xs ((a + x) % 65536) (omega arith))
 
-  pub other_size : (length b ≡ 512 → ⊥) → Block.Damaged ≡ block_means b
-  other_size h = damaged (or_stop (not (eqb (length b) 512)) _ (ap not (ne_eqb (length b) 512 h)))
-
-  module _ (size : length b ≡ 512) where
-    pub wrong_check : (number 2 510 b ≡ check_of b → ⊥) → Block.Damaged ≡ block_means b
-    wrong_check h = damaged (or_go _ (ap not (eq-eqb (length b) 512 size)) ∙ or_stop (not (eqb (number 2 510 b) (check_of b))) _ (ap not (ne_eqb (number 2 510 b) (check_of b) h)))
-
-    module _ (check : number 2 510 b ≡ check_of b) where
-      right_check : is_damaged b ≡ ltb 508 (used_length b)
-      right_check = or_go _ (ap not (eq-eqb (length b) 512 size)) ∙ or_go _ (ap not (eq-eqb (number 2 510 b) (check_of b) check))
-
-      pub too_long : 508 < used_length b → Block.Damaged ≡ block_means b
-      too_long h = damaged (right_check ∙ lt-ltb 508 (used_length b) h)
-
-      pub whole : used_length b ≤ 508 → Block.Used (used_length b) ≡ block_means b
-      unfolding block_means
-      whole h = rw (right_check ∙ le-ltb 508 (used_length b) h)
+pub other_size : (b : List ℕ) → (length b ≡ 512 → ⊥) → None ≡ block_means b
+unfolding block_means
+other_size b h = rw (or_stop (not (eqb (length b) 512)) _ (ap not (ne_eqb (length b) 512 h)))
 
 -- a block that is used has 512 octets, of which at most 508 are used
-pub used_within : (b : List ℕ) (n : ℕ) → block_means b ≡ Block.Used n → (length b ≡ 512) × (n ≡ used_length b) × (n ≤ 508)
+pub used_within : (b : List ℕ) (n : ℕ) → block_means b ≡ Some n → (length b ≡ 512) × (n ≡ used_length b) × (n ≤ 508)
 unfolding block_means
 used_within b n e = by_damage (is_damaged b) refl e
   where
-    by_damage : (d : Bool) → is_damaged b ≡ d → pick d Block.Damaged (Block.Used (used_length b)) ≡ Block.Used n → (length b ≡ 512) × (n ≡ used_length b) × (n ≤ 508)
+    by_damage : (d : Bool) → is_damaged b ≡ d → pick d None (Some (used_length b)) ≡ Some n → (length b ≡ 512) × (n ≡ used_length b) × (n ≤ 508)
     by_damage true f g = absurd (let z : ◌≡◌ {A = ℕ} 0 1 = cc in omega arith)
     by_damage false f g =
         let w = neither (not (eqb (length b) 512)) _ f in

@@ -1,10 +1,9 @@
 -- A block (01, "Capture blocks and the evening list"): octets 0-1 used length (0 to 508), 2-509 payload, 510-511 check, which is 1 plus the sum
 -- of octets 0 to 509, modulo 65,536. A wrong check, a used length over 508 or a short last block is damaged.
-use Rattle.std.specs.Prelude.{Bool, not, ◌||◌, List, ℕ, ◌+◌, ◌%◌, ◌-◌, ◌/◌, ltb, leb, eqb, length, take, drop}
+use Rattle.std.specs.Prelude.{Bool, not, ◌||◌, List, ℕ, ◌+◌, ◌%◌, ◌-◌, ◌/◌, Option, Some, None, ltb, leb, eqb, length, take, drop}
 use Rattle.answer.specs.Checks.{pick}
 use Rattle.octets.specs.Sums.{sum_of}
 use Rattle.octets.specs.Numbers.{number}
-use Rattle.block.specs.declared.Block.{Block}
 
 -- octets of a block, those before its check, and those that records may use
 abbrev pub block_size : ℕ
@@ -25,8 +24,9 @@ check_of b = (1 + sum_of (take checked_length b)) % 65536
 abbrev pub is_damaged : List ℕ → Bool
 is_damaged b = not (eqb (length b) block_size) || (not (eqb (number 2 checked_length b) (check_of b)) || ltb payload (used_length b))
 
-unfoldable pub block_means : List ℕ → Block
-block_means b = pick (is_damaged b) Block.Damaged (Block.Used (used_length b))
+-- how much of a block is used, if it is whole
+unfoldable pub block_means : List ℕ → Option ℕ
+block_means b = pick (is_damaged b) None (Some (used_length b))
 
 -- the part of the payload that is used
 abbrev pub used_part : List ℕ → List ℕ
