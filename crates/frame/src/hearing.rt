@@ -46,7 +46,7 @@ impl Change {
     }
 
     // By an accepted frame. Measurement frames and those of transmit power control change nothing.
-    fn by_frame(frame: Frame) -> Change
+    pub fn by_frame(frame: Frame) -> Change
         ensures { result ≡ by_frame frame }
     {
         match frame {
