@@ -1,9 +1,8 @@
 -- A station of an IBSS (02, Five): document 01's station, whose AP is the BSSID, and the DFS owner that it follows.
-use Rattle.std.specs.Prelude.{Bool, not, ◌&&◌, List, [], ◌∷◌, ℕ, Ok, Err}
+use Rattle.std.specs.Prelude.{Bool, not, ◌&&◌, List, [], ◌∷◌, ℕ, Ok, Err, Some, None, Option}
 use Rattle.answer.specs.Checks.{Outcome, ◌⇒◌, checked, and_then}
 use Rattle.answer.specs.Faults.{Placed, fault_nowhere}
 use Rattle.answer.specs.declared.Refusal.{Refusal}
-use Rattle.beacon.specs.IbssBeacons.{MaybeDfs, absent, is}
 use Rattle.beacon.specs.Notices.{has_switch}
 use Rattle.frame.specs.Announcements.{announcement_in}
 use Rattle.frame.specs.Frames.{Kind, beacon, probe_response, action}
@@ -19,6 +18,7 @@ use Rattle.member.specs.declared.Member.{Member}
 use Rattle.member.specs.declared.starting.Started.{Started}
 use Rattle.member.specs.declared.clock.Stepped.{Stepped}
 use Rattle.member.specs.declared.taking.Taken.{Taken}
+use Rattle.element.specs.IbssDfs.{Dfs}
 
 abbrev pub member_of : Station → Owner → Member
 member_of s o = record { station = s; owner = o }
@@ -35,9 +35,9 @@ start_of own bssid b channel = member_started (start_means own bssid b channel)
 -- ---- frames
 
 -- "The latest accepted beacon with element 41 decides owner and interval"
-abbrev pub named_by : Owner → MaybeDfs → Owner
-named_by o absent = o
-named_by o (is d) = named o d.owner d.recovery
+abbrev pub named_by : Owner → Option Dfs → Owner
+named_by o None = o
+named_by o (Some d) = named o d.owner d.recovery
 
 -- a beacon is heard from its sender
 abbrev pub heard_by : Owner → List ℕ → Kind → Owner
