@@ -11,11 +11,10 @@ use Rattle.owner.specs.Owners.{unknown, is_owner, named, heard_from, past_tbtts}
 use Rattle.owner.specs.Tbtts.{tbtts_in}
 use Rattle.owner.specs.declared.Owner.{Owner}
 use Rattle.station.specs.Clock.{advance_means}
-use Rattle.station.specs.Starting.{blank, start_means}
+use Rattle.station.specs.Starting.{start_means}
 use Rattle.station.specs.Taking.{heard}
 use Rattle.station.specs.declared.Station.{Station}
 use Rattle.member.specs.declared.Member.{Member}
-use Rattle.member.specs.declared.starting.Started.{Started}
 use Rattle.member.specs.declared.clock.Stepped.{Stepped}
 use Rattle.member.specs.declared.taking.Taken.{Taken}
 use Rattle.element.specs.IbssDfs.{Dfs}
@@ -25,12 +24,8 @@ member_of s o = record { station = s; owner = o }
 
 -- ---- start: 15 as in 01; "at start the owner is unknown"
 
-abbrev pub member_started : Outcome Station → Started
-member_started (Err r) = record { answer = Err r; member = member_of blank unknown }
-member_started (Ok s) = record { answer = Ok tt; member = member_of s unknown }
-
-abbrev pub start_of : List ℕ → List ℕ → ℕ → ℕ → Started
-start_of own bssid b channel = member_started (start_means own bssid b channel)
+abbrev pub start_of : List ℕ → List ℕ → ℕ → ℕ → Outcome Member
+start_of own bssid b channel = and_then (start_means own bssid b channel) (λ s. Ok (member_of s unknown))
 
 -- ---- frames
 
