@@ -66,14 +66,14 @@ impl Station {
                 verdict: Err(fault),
                 station: self,
             },
-            Ok(received) => Taken {
-                verdict: Ok(()),
-                station: self.changed(
-                    Change::by_frame(received.frame),
-                    received.quiets,
-                    received.count,
-                ),
-            },
+            Ok(received) => {
+                let change = Change::by_frame(received.frame);
+                let station = self.changed(change, received.quiets, received.count);
+                Taken {
+                    verdict: Ok(()),
+                    station,
+                }
+            }
         }
     }
 
