@@ -1,19 +1,19 @@
 // What the two readers of frames, document 01's and that of an IBSS, hand out alike, as their callers get it.
-ghost use Rattle.std.specs.Prelude.{◌≡◌, ◌≤◌, Ok};
+ghost use Rattle.std.specs.Prelude.{true, ◌≡◌, ◌≤◌, Ok};
 ghost use Rattle.answer.specs.Checks.{and_then};
 ghost use Rattle.beacon.specs.Beacons.{quiet_limit};
 ghost use Rattle.element.specs.Quiet.{quiet_contents};
+ghost use Rattle.octets.specs.Writing.{Written};
 ghost use Rattle.reply.specs.Replies.{Replied};
 ghost use Rattle.boundary.specs.CodeTerms.HeldQuiets.{held_quiet};
 ghost use Rattle.boundary.specs.Codes.{code_of};
 ghost use Rattle.boundary.specs.FaultOffsets.{fault_offset};
-ghost use Rattle.boundary.specs.FrameFields.{frame_fields};
+ghost use Rattle.boundary.specs.FrameFields.{received_octets};
 
 use crate::{codes, element_fields, frame_fields};
 use answer::Refusal;
 use frame::Received;
 use answer::Fault;
-use frame::Frame;
 
 // A frame's fields from the front of the buffer on.
 pub fn put_frame(received: Received, out: &mut [u8]) -> Result<usize, Refusal>
