@@ -1,6 +1,6 @@
 -- How an action body begins (01, "Order": category present (1), category (5), action present (1), action (5), token present (1),
 -- token value (9)). Action 4 has no token; token 0 is forbidden in actions 0 and 2. The place of a fault is that field's (02, One).
-use Rattle.std.specs.Prelude.{Bool, not, ◌&&◌, ◌||◌, List, [], ◌∷◌, ℕ, ltb, eqb, length, Ok, Err}
+use Rattle.std.specs.Prelude.{Bool, not, ◌&&◌, ◌||◌, List, [], ◌∷◌, ℕ, ltb, eqb, length, Ok}
 use Rattle.answer.specs.Checks.{pick, ◌⇒◌, checked, judged}
 use Rattle.answer.specs.Faults.{fault_at, fault_nowhere, Placed}
 use Rattle.answer.specs.declared.Refusal.{Refusal}
@@ -24,23 +24,12 @@ fixed_fields = 3
 abbrev pub switch_fixed_fields : ℕ
 switch_fixed_fields = 2
 
-pub data Opens : Type 0 where
-  -- action 4
-  switching : Opens
-  -- another action, and its token
-  with : ℕ → ℕ → Opens
-
--- the outcome that each case of the answer stands for
-abbrev pub opening_told : Opening → Placed Opens
-opening_told (Opening.Refused r) = Err r
-opening_told Opening.Switch = Ok switching
-opening_told (Opening.Token a t) = Ok (with a t)
-
 -- token 0 is forbidden in actions 0 and 2
 abbrev pub forbids_token : ℕ → ℕ → Bool
 forbids_token action token = (eqb action 0 || eqb action 2) && eqb token 0
 
-unfoldable pub opens_with : List ℕ → Placed Opens
+-- the checks in their order, and how a body begins that passes them
+unfoldable pub opens_with : List ℕ → Placed Opening
 opens_with body =
     checked
     (ltb (length body) 1 ⇒ fault_nowhere Refusal.TooShort
@@ -48,9 +37,9 @@ opens_with body =
     ∷ ltb (length body) switch_fixed_fields ⇒ fault_nowhere Refusal.TooShort
     ∷ ltb 4 (octet action_field body) ⇒ fault_at action_field Refusal.ForeignAction
     ∷ [])
-    (pick (eqb (octet action_field body) 4) (Ok switching)
+    (pick (eqb (octet action_field body) 4) (Ok Opening.Switch)
     (judged
     (ltb (length body) fixed_fields ⇒ fault_nowhere Refusal.TooShort
     ∷ forbids_token (octet action_field body) (octet token_field body) ⇒ fault_at token_field Refusal.ForbiddenValue
     ∷ [])
-    (with (octet action_field body) (octet token_field body))))
+    (Opening.Token (octet action_field body) (octet token_field body))))

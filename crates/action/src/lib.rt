@@ -2,10 +2,9 @@
 #![tactic(auto)]
 
 ghost use Rattle.std.specs.Prelude.{◌≡◌};
-ghost use Rattle.action.specs.Openings.{forbids_token, opening_told, opens_with};
+ghost use Rattle.action.specs.Openings.{forbids_token, opens_with};
 
 use answer::{Fault, Refusal};
-use pending::Switch;
 
 // Where the fields stand in a body.
 pub const CATEGORY: usize = 0;
@@ -22,7 +21,6 @@ pub const SWITCH_FIXED_FIELDS: usize = 2;
 // How a body begins: with no token (action 4), or with an action below 4 and its token.
 #[derive(Clone, Copy)]
 pub enum Opening {
-    Refused(Fault),
     Switch,
     Token { action: u8, token: u8 },
 }
@@ -31,40 +29,36 @@ pub enum Opening {
 pub fn forbids_token(action: u8, token: u8) -> bool
     ensures { result ≡ forbids_token action token }
 {
-    if action == 0 {
-        return token == 0;
-    }
-    if action == 2 {
-        return token == 0;
-    }
-    false
+    (action == 0 || action == 2) && token == 0
 }
 
-pub fn open(body: &[u8]) -> Opening
-    ensures { opening_told result ≡ opens_with body.now }
+// The fields in front of a body's elements, each checked before the next is looked for.
+#[tactic(auto, unfolding(crate::specs::Openings::opens_with, answer::specs::Checks::checked))]
+pub fn open(body: &[u8]) -> Result<Opening, Fault>
+    ensures { result ≡ opens_with body.now }
 {
-    if body.len() < 1 {
-        return Opening::Refused(Fault::nowhere(Refusal::TooShort));
+    if body.len() <= CATEGORY {
+        return Err(Fault::nowhere(Refusal::TooShort));
     }
     if body[CATEGORY] != 0 {
-        return Opening::Refused(Fault::at(Refusal::ForeignAction, CATEGORY));
+        return Err(Fault::at(Refusal::ForeignAction, CATEGORY));
     }
-    if body.len() < SWITCH_FIXED_FIELDS {
-        return Opening::Refused(Fault::nowhere(Refusal::TooShort));
+    if body.len() <= ACTION {
+        return Err(Fault::nowhere(Refusal::TooShort));
     }
     let action = body[ACTION];
     if 4 < action {
-        return Opening::Refused(Fault::at(Refusal::ForeignAction, ACTION));
+        return Err(Fault::at(Refusal::ForeignAction, ACTION));
     }
     if action == 4 {
-        return Opening::Switch;
+        return Ok(Opening::Switch);
     }
-    if body.len() < FIXED_FIELDS {
-        return Opening::Refused(Fault::nowhere(Refusal::TooShort));
+    if body.len() <= TOKEN {
+        return Err(Fault::nowhere(Refusal::TooShort));
     }
     let token = body[TOKEN];
     if forbids_token(action, token) {
-        return Opening::Refused(Fault::at(Refusal::ForbiddenValue, TOKEN));
+        return Err(Fault::at(Refusal::ForbiddenValue, TOKEN));
     }
-    Opening::Token { action, token }
+    Ok(Opening::Token { action, token })
 }

@@ -1,6 +1,7 @@
 -- A station taken apart (01, "The station"): its schedules in columns, and the rest beside them.
-use Rattle.std.specs.Prelude.{List, ◌≡◌, ℕ, ◌/◌, ◌≤◌, take}
+use Rattle.std.specs.Prelude.{List, ◌≡◌, ℕ, ◌/◌, ◌≤◌, take, Ok, Err}
 use Rattle.answer.specs.Checks.{pick}
+use Rattle.answer.specs.Faults.{Placed}
 use Rattle.beacon.specs.Beacons.{quiet_limit}
 use Rattle.frame.specs.Frames.{frame_means}
 use Rattle.frame.specs.Hearing.{hearing_of}
@@ -50,8 +51,9 @@ pub record Held (a : Apart) (c : Columns) : Type 0 where
   pub valid : Valid (whole_of a c)
 
 -- the schedules of the Quiet elements that are heard, where they replace those there are
-abbrev pub rows_by : Apart → Hearing → Columns → Columns
-rows_by a h c = pick h.change.replaces (rows_over (schedules_of (a.rest.clock / a.rest.interval) a.rest.interval (take h.count h.quiets)) c) c
+abbrev pub rows_by : Apart → Placed Hearing → Columns → Columns
+rows_by a (Err x) c = c
+rows_by a (Ok h) c = pick h.change.replaces (rows_over (schedules_of (a.rest.clock / a.rest.interval) a.rest.interval (take h.count h.quiets)) c) c
 
 -- the parts after a frame, and the verdict on it, are those of the station that takes it; only the rows of the frame's own schedules change
 pub record HeardAs (frame : List ℕ) (a : Apart) (c : Columns) (r : Told) (after : Columns) : Type 0 where

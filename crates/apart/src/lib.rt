@@ -176,28 +176,21 @@ impl Apart {
         requires { Held self (columns starts.old periods.old durations.old) }
         ensures { HeardAs frame.now self (columns starts.old periods.old durations.old) result (columns starts.new periods.new durations.new) }
     {
-        let own = self.own;
-        let ap = self.ap;
-        let hearing = frame::hear(frame, own, ap, self.rest.interval);
-        let verdict = hearing.verdict;
-        match verdict {
-            Err(_) => Told {
-                verdict,
+        match frame::hear(frame, self.own, self.ap, self.rest.interval) {
+            Err(fault) => Told {
+                verdict: Err(fault),
                 apart: self,
             },
-            Ok(()) => {
+            Ok(hearing) => {
                 let change = hearing.change;
-                let power = change.power;
-                let switch = change.switch;
-                let quiets = hearing.quiets;
                 let next = if change.replaces {
-                    self.replaced(quiets, hearing.count, starts, periods, durations)
+                    self.replaced(hearing.quiets, hearing.count, starts, periods, durations)
                 } else {
                     self
                 };
                 Told {
-                    verdict,
-                    apart: next.told(power, switch),
+                    verdict: Ok(()),
+                    apart: next.told(change.power, change.switch),
                 }
             }
         }

@@ -1,6 +1,6 @@
 -- A frame as its fields, one after the other at fixed places (docs/BOUNDARY.md). What a kind has not got is 0.
 use Rattle.std.specs.Prelude.{Bool, List, [], ◌∷◌, ◌++◌, ℕ, Ok, Err, Some, None, Option}
-use Rattle.answer.specs.Checks.{Outcome, pick}
+use Rattle.answer.specs.Checks.{Outcome, pick, and_then}
 use Rattle.beacon.specs.Notices.{elementless, with_report, with_switch, held_power}
 use Rattle.beacon.specs.declared.Notice.{Notice}
 use Rattle.element.specs.ChannelSwitch.{switch_contents}
@@ -11,7 +11,7 @@ use Rattle.octets.specs.Numbers.{split}
 use Rattle.boundary.specs.declared.frame_fields.Fields.{Fields}
 use Rattle.element.specs.declared.tpc_report.TpcReport.{TpcReport}
 use Rattle.element.specs.declared.channel_switch.ChannelSwitch.{ChannelSwitch}
-use Rattle.answer.specs.Faults.{Placed}
+use Rattle.answer.specs.Faults.{Placed, without_place}
 
 -- 1 for yes
 abbrev pub flag : Bool → ℕ
@@ -51,10 +51,10 @@ field_octets f to_all quiets =
     ++ split 8 f.elements ++ split 8 quiets ++ split 8 f.notice.timestamp ++ split 2 f.notice.capability
     ++ held_power f.notice.power ++ held_report f.notice.report ++ held_switch f.notice.switch
 
--- of what was received, or its refusal
-abbrev pub reading_fields : Placed Frame → Bool → ℕ → Outcome (List ℕ)
-reading_fields (Err x) to_all quiets = Err x.refusal
-reading_fields (Ok f) to_all quiets = Ok (field_octets (fields_of f) to_all quiets)
+-- of what was received
+abbrev pub received_octets : Received → List ℕ
+received_octets v = field_octets (fields_of v.frame) v.broadcast v.count
 
-unfoldable pub frame_fields : Received → Outcome (List ℕ)
-frame_fields r = reading_fields r.reading r.broadcast r.count
+-- of what was received, or its refusal
+unfoldable pub frame_fields : Placed Received → Outcome (List ℕ)
+frame_fields o = and_then (without_place o) (λ v. Ok (received_octets v))

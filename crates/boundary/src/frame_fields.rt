@@ -62,17 +62,15 @@ pub fn of_frame(frame: Frame) -> Fields
         }
         Frame::TpcRequest { token } => common(4, token, 0, Notice::NOTHING),
         Frame::TpcReport { token, report } => {
-            let report = Some(report);
             let notice = Notice {
-                report,
+                report: Some(report),
                 ..Notice::NOTHING
             };
             common(5, token, 0, notice)
         }
         Frame::ChannelSwitch(switch) => {
-            let switch = Some(switch);
             let notice = Notice {
-                switch,
+                switch: Some(switch),
                 ..Notice::NOTHING
             };
             common(6, 0, 0, notice)
@@ -80,16 +78,14 @@ pub fn of_frame(frame: Frame) -> Fields
     }
 }
 
-// What may be absent: 1 and its contents where it is there, and zeros where it is not, as a Power Constraint (`MaybePower::to_octets`).
+// What may be absent: 1 and its contents where it is there, and zeros where it is not, as a Power Constraint (`beacon::held_power`).
 fn held_report(report: Option<TpcReport>) -> [u8; 3]
     ensures { result ≡ held_report report }
 {
     match report {
         None => [0, 0, 0],
         Some(told) => {
-            let power = told.power;
-            let margin = told.margin;
-            [1, octets::from_signed(power), octets::from_signed(margin)]
+            [1, octets::from_signed(told.power), octets::from_signed(told.margin)]
         }
     }
 }
@@ -112,7 +108,7 @@ fn held_switch(switch: Option<ChannelSwitch>) -> [u8; 4]
 pub fn flag(answer: bool) -> u8
     ensures { result ≡ flag answer }
 {
-    if answer { 1 } else { 0 }
+    u8::from(answer)
 }
 
 // Refuses a buffer that is too short before anything is put.
@@ -123,24 +119,13 @@ pub fn put(fields: Fields, broadcast: bool, quiets: u64, out: &mut [u8]) -> Resu
         return Err(Refusal::BufferShort);
     }
     let notice = fields.notice;
-    let power = notice.power;
-    let report = notice.report;
-    let switch = notice.switch;
-    let front = [fields.kind, flag(broadcast), fields.token];
-    octets::put(true, &front, out, KIND);
-    let elements = octets::octets64(fields.elements);
-    octets::put(true, &elements, out, ELEMENTS);
-    let quiets = octets::octets64(quiets);
-    octets::put(true, &quiets, out, QUIETS);
-    let timestamp = octets::octets64(notice.timestamp);
-    octets::put(true, &timestamp, out, TIMESTAMP);
-    let capability = octets::octets16(notice.capability);
-    octets::put(true, &capability, out, CAPABILITY);
-    let power = power.to_octets();
-    octets::put(true, &power, out, POWER);
-    let report = held_report(report);
-    octets::put(true, &report, out, REPORT);
-    let switch = held_switch(switch);
-    octets::put(true, &switch, out, SWITCH);
+    out[KIND..ELEMENTS].copy_from_slice(&[fields.kind, flag(broadcast), fields.token]);
+    out[ELEMENTS..QUIETS].copy_from_slice(&octets::octets64(fields.elements));
+    out[QUIETS..TIMESTAMP].copy_from_slice(&octets::octets64(quiets));
+    out[TIMESTAMP..CAPABILITY].copy_from_slice(&octets::octets64(notice.timestamp));
+    out[CAPABILITY..POWER].copy_from_slice(&octets::octets16(notice.capability));
+    out[POWER..REPORT].copy_from_slice(&beacon::held_power(notice.power));
+    out[REPORT..SWITCH].copy_from_slice(&held_report(notice.report));
+    out[SWITCH..LENGTH].copy_from_slice(&held_switch(notice.switch));
     Ok(LENGTH)
 }

@@ -39,10 +39,7 @@ pub extern "C" fn oneiralth_ibss_fault_offset(
 {
     let own = codes::address(own);
     let bssid = codes::address(bssid);
-    let heard = frame::read_in_ibss(frame, own, bssid, interval);
-    let known = heard.received;
-    let reading = known.reading;
-    received::fault_offset(reading)
+    received::fault_offset(frame::read_in_ibss(frame, own, bssid, interval).received)
 }
 
 // A Quiet element by its index, as `oneiralth_read_quiet`.
@@ -59,9 +56,10 @@ pub extern "C" fn oneiralth_read_ibss_quiet(
 {
     let own = codes::address(own);
     let bssid = codes::address(bssid);
-    let heard = frame::read_in_ibss(frame, own, bssid, interval);
-    let known = heard.received;
-    codes::wrote(received::put_quiet(known, index, out))
+    match frame::read_in_ibss(frame, own, bssid, interval).received {
+        Err(fault) => codes::refused(fault.refusal),
+        Ok(received) => codes::wrote(received::put_quiet(received, index, out)),
+    }
 }
 
 // A pair of element 41 by its index.

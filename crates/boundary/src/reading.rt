@@ -10,7 +10,6 @@ ghost use Rattle.boundary.specs.FaultOffsets.{fault_offset};
 ghost use Rattle.boundary.specs.FrameFields.{frame_fields};
 
 use crate::{codes, element_fields, received};
-use measurement_element::measurement_request;
 
 #[unsafe(no_mangle)]
 pub extern "C" fn oneiralth_read_frame(
@@ -22,10 +21,10 @@ pub extern "C" fn oneiralth_read_frame(
 ) -> u64
     ensures { Given (frame_fields (frame_laid (frame_means (address_of own) (address_of ap) interval frame.now))) out.old result out.new }
 {
-    let own = codes::address(own);
-    let ap = codes::address(ap);
-    let heard = frame::read(frame, own, ap, interval);
-    codes::wrote(received::put_frame(heard, out))
+    match frame::read(frame, codes::address(own), codes::address(ap), interval) {
+        Err(fault) => codes::refused(fault.refusal),
+        Ok(received) => codes::wrote(received::put_frame(received, out)),
+    }
 }
 
 // Where a frame that is refused broke: the offset of the octet at fault. A refusal that has none is answered again, and an accepted frame is 16.
@@ -33,11 +32,12 @@ pub extern "C" fn oneiralth_read_frame(
 pub extern "C" fn oneiralth_fault_offset(frame: &[u8], own: u64, ap: u64, interval: u16) -> u64
     ensures { result ≡ code_of (fault_offset (frame_means (address_of own) (address_of ap) interval frame.now)) }
 {
-    let own = codes::address(own);
-    let ap = codes::address(ap);
-    let heard = frame::read(frame, own, ap, interval);
-    let reading = heard.reading;
-    received::fault_offset(reading)
+    received::fault_offset(frame::read(
+        frame,
+        codes::address(own),
+        codes::address(ap),
+        interval,
+    ))
 }
 
 // A Quiet element by its index, as the measurement elements are.
@@ -52,10 +52,10 @@ pub extern "C" fn oneiralth_read_quiet(
 ) -> u64
     ensures { Given (and_then (quiet_of index (frame_means (address_of own) (address_of ap) interval frame.now)) (λ q. Ok (quiet_contents q))) out.old result out.new }
 {
-    let own = codes::address(own);
-    let ap = codes::address(ap);
-    let heard = frame::read(frame, own, ap, interval);
-    codes::wrote(received::put_quiet(heard, index, out))
+    match frame::read(frame, codes::address(own), codes::address(ap), interval) {
+        Err(fault) => codes::refused(fault.refusal),
+        Ok(received) => codes::wrote(received::put_quiet(received, index, out)),
+    }
 }
 
 #[unsafe(no_mangle)]
@@ -73,9 +73,7 @@ pub extern "C" fn oneiralth_read_request(
     let ap = codes::address(ap);
     match frame::request_at(frame, own, ap, interval, index) {
         Err(refusal) => codes::refused(refusal),
-        Ok(request) => {
-            codes::wrote(element_fields::put_request(request, out))
-        }
+        Ok(request) => codes::wrote(element_fields::put_request(request, out)),
     }
 }
 
@@ -92,11 +90,8 @@ pub extern "C" fn oneiralth_read_report(
 {
     let own = codes::address(own);
     let ap = codes::address(ap);
-    let reading = frame::report_at(frame, own, ap, interval, index);
-    let answer = reading.answer;
-    let report = reading.report;
-    match answer {
+    match frame::report_at(frame, own, ap, interval, index) {
         Err(refusal) => codes::refused(refusal),
-        Ok(()) => { codes::wrote(element_fields::put_report(report, out)) }
+        Ok(report) => codes::wrote(element_fields::put_report(report, out)),
     }
 }

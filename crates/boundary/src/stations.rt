@@ -14,7 +14,6 @@ ghost use Rattle.boundary.specs.Stations.{OnStation};
 
 use crate::{codes, given, replies};
 use measured_report::Readings;
-use station_record::Asked;
 
 // The octets that a caller sets aside for a station.
 #[unsafe(no_mangle)]
@@ -75,16 +74,11 @@ pub extern "C" fn oneiralth_station_reply_to_tpc_request(
 ) -> u64
     ensures { Given (and_then (held_in station.now) (λ s. tpc_reply s.own s.ap (tpc_given power margin) frame.now)) out.old result out.new }
 {
-    let held = station_record::read(station);
-    let answer = held.answer;
-    let keeps = held.station;
-    match answer {
+    match station_record::read(station) {
         Err(refusal) => codes::refused(refusal),
-        Ok(()) => {
+        Ok(held) => {
             let report = given::tpc(power, margin);
-            let own = keeps.own;
-            let ap = keeps.ap;
-            codes::wrote(reply::to_tpc_request(frame, own, ap, report, out))
+            codes::wrote(reply::to_tpc_request(frame, held.own, held.ap, report, out))
         }
     }
 }
@@ -108,24 +102,19 @@ pub extern "C" fn oneiralth_station_reply_to_measurement_request(
 ) -> u64
     ensures { Given (and_then (held_in station.now) (λ s. measurement_reply s.own s.ap s.clock index (record { finding = finding_given found value; times = t0 ∷ t1 ∷ t2 ∷ t3 ∷ t4 ∷ t5 ∷ t6 ∷ t7 ∷ [] }) frame.now)) out.old result out.new }
 {
-    let held = station_record::read(station);
-    let answer = held.answer;
-    let keeps = held.station;
-    match answer {
+    match station_record::read(station) {
         Err(refusal) => codes::refused(refusal),
-        Ok(()) => {
+        Ok(held) => {
             let finding = replies::finding(found, value);
             let readings = Readings {
                 finding,
                 times: [t0, t1, t2, t3, t4, t5, t6, t7],
             };
-            let own = keeps.own;
-            let ap = keeps.ap;
             codes::wrote(reply::to_measurement_request(
                 frame,
-                own,
-                ap,
-                keeps.clock,
+                held.own,
+                held.ap,
+                held.clock,
                 index,
                 readings,
                 out,

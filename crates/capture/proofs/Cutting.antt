@@ -1,5 +1,5 @@
 -- A file's blocks one after the other, and how many there were. Assumes nothing.
-use Rattle.std.specs.Prelude.{Ok, Err}
+use Rattle.std.specs.Prelude.{Ok, Err, Some, None, Option}
 use mathlib.Core.Bool.{Bool, true, false}
 use mathlib.Core.List.{List, [], ◌∷◌, ◌++◌}
 use mathlib.Core.Path.{◌≡◌, refl, sym, ap, ap₂, ◌∙◌}
@@ -11,7 +11,6 @@ use lib.ListN.{length, take, drop, length-drop, drop_of_length-le}
 use lib.Seq.{take_all, drop-drop, take-append-le, drop-append-le}
 use Rattle.answer.specs.Checks.{Outcome, pick}
 use Rattle.block.specs.Blocks.{block_size, end_after, used_part, block_means}
-use Rattle.block.specs.declared.Block.{Block}
 use Rattle.capture_record.specs.Entries.{Noted, malformed, starting, advancing, hearing, asking, entry_means}
 use Rattle.capture_record.specs.Records.{Records, end, cut, more, records_in}
 use Rattle.station.specs.Starting.{start_means}
@@ -99,6 +98,6 @@ pub one_more : (b : List ℕ) (l : Lister) → (block_told b l).lister.blocks �
 unfolding block_told
 one_more b l = by_block (block_means b)
   where
-    by_block : (j : Block) → (judged j b l).lister.blocks ≡ l.blocks + 1
-    by_block Block.Damaged = refl
-    by_block (Block.Used n) = recorded_blocks (records_in (used_part b)) (one_block_more l 0)
+    by_block : (j : Option ℕ) → (judged j b l).lister.blocks ≡ l.blocks + 1
+    by_block None = refl
+    by_block (Some n) = recorded_blocks (records_in (used_part b)) (one_block_more l 0)

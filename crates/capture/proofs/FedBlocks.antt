@@ -1,4 +1,5 @@
 -- How many blocks some octets are, blocks after others, and one block alone. Assumes nothing.
+use Rattle.std.specs.Prelude.{None}
 use mathlib.Core.List.{List, [], ◌∷◌, ◌++◌, append-nil}
 use mathlib.Core.Path.{◌≡◌, refl, sym, ap, ap₂, ◌∙◌}
 use Prim.Native.Nat.{ℕ, zero, suc, ◌≤◌}
@@ -7,7 +8,6 @@ use lib.ListN.{length, drop, length-drop, drop_of_length-le}
 use lib.Seq.{take_all}
 use Rattle.block.proofs.Judging.{other_size}
 use Rattle.block.specs.Blocks.{blocks_of}
-use Rattle.block.specs.declared.Block.{Block}
 use Rattle.capture.specs.Lists.{before, block_told, blocks_after, blocks_in, blocks_told}
 use Rattle.capture.specs.declared.lister.Lister.{Lister}
 use Rattle.capture.proofs.Cutting.{first_block}
@@ -47,4 +47,4 @@ module _ (b : List ℕ) (some : 1 ≤ length b) (one : length b ≤ 512) where
 
 -- blocks of another length tell the same: they are damaged
 pub other_told : (b c : List ℕ) (l : Lister) → (length b ≡ 512 → ⊥) → (length c ≡ 512 → ⊥) → block_told b l ≡ block_told c l
-other_told b c l h k = sym (told_as l b Block.Damaged (sym (other_size b h))) ∙ told_as l c Block.Damaged (sym (other_size c k))
+other_told b c l h k = sym (told_as l b None (sym (other_size b h))) ∙ told_as l c None (sym (other_size c k))

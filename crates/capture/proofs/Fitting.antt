@@ -1,5 +1,5 @@
 -- What a block tells by how it was judged, and what feeding answers. Assumes nothing.
-use Rattle.std.specs.Prelude.{Ok, Err}
+use Rattle.std.specs.Prelude.{Ok, Err, Option}
 use mathlib.Core.Bool.{Bool, true, false}
 use mathlib.Core.List.{List, [], ◌∷◌}
 use mathlib.Core.Path.{◌≡◌, refl, sym, ap, ap₂, ◌∙◌}
@@ -11,7 +11,6 @@ use Rattle.answer.proofs.Judged.{past, done, passed, kept}
 use Rattle.answer.specs.Checks.{Outcome, ◌⇒◌, checked, judged, and_then}
 use Rattle.answer.specs.declared.Refusal.{Refusal}
 use Rattle.block.specs.Blocks.{block_means}
-use Rattle.block.specs.declared.Block.{Block}
 use Rattle.octets.specs.Writing.{filled}
 use Rattle.capture.specs.CodeTerms.Following.{Fed}
 use Rattle.capture.specs.CodeTerms.Rooms.{room_for, listed_as}
@@ -24,9 +23,9 @@ use Rattle.capture.specs.declared.lister.Lister.{Lister}
 use Rattle.capture.specs.declared.listing.Put.{Put}
 
 -- what a block tells, by how it was judged
-pub told_as : (l : Lister) (b : List ℕ) (j : Block) → block_means b ≡ j → Lists.judged j b l ≡ block_told b l
+pub told_as : (l : Lister) (b : List ℕ) (j : Option ℕ) → block_means b ≡ j → Lists.judged j b l ≡ block_told b l
 unfolding block_told
-told_as l b j e = ap (λ (k : Block). Lists.judged k b l) (sym e)
+told_as l b j e = ap (λ (k : Option ℕ). Lists.judged k b l) (sym e)
 
 -- ---- feeding
 

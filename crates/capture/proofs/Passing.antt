@@ -1,4 +1,5 @@
 -- The blocks of some octets in one pass: what is told so far, and what is left from a place on. Assumes nothing.
+use Rattle.std.specs.Prelude.{Some, None, Option}
 use mathlib.Core.Bool.{Bool, true, false}
 use mathlib.Core.List.{List, [], ◌∷◌, ◌++◌, append-nil}
 use mathlib.Core.Path.{◌≡◌, refl, sym, ap, ap₂, ◌∙◌, subst}
@@ -12,7 +13,6 @@ use Rattle.answer.specs.declared.Refusal.{Refusal}
 use Rattle.block.proofs.Ending.{end_inside}
 use Rattle.block.proofs.Judging.{used_within}
 use Rattle.block.specs.Blocks.{used_part, end_after}
-use Rattle.block.specs.declared.Block.{Block}
 use Rattle.capture_record.proofs.Walking as Walking
 use Rattle.capture_record.specs.Entries.{Noted, entry_told}
 use Rattle.capture_record.specs.Records.{Records, end, cut, records_in}
@@ -95,7 +95,7 @@ module _ (file : List ℕ) (at stop after : ℕ) (l : Lister) where
 
 -- ---- a block
 
-module _ (file : List ℕ) (at end : ℕ) (j : Block) (b : Begins file at end j) where
+module _ (file : List ℕ) (at end : ℕ) (j : Option ℕ) (b : Begins file at end j) where
   pub begun_inside : (at < end) × (end ≤ length file)
   begun_inside = let e = end_inside (at) (length file) b.some in (omega (arith, e, b.ends), omega (arith, e, b.ends))
 
@@ -113,12 +113,12 @@ module _ (file : List ℕ) (at end : ℕ) (j : Block) (b : Begins file at end j)
       ∙ ap (λ (t : Told). then t (blocks_in (drop end file))) (sym (told_as l (block_from file at) j b.judged))
 
 -- the used part of a whole block
-module _ (file : List ℕ) (at end n : ℕ) (b : Begins file at end (Block.Used n)) where
+module _ (file : List ℕ) (at end n : ℕ) (b : Begins file at end (Some n)) where
   pub used_inside : (n ≤ 508) × (end ≡ at + 512)
   used_inside =
       let w = used_within (block_from file at) n b.judged in
       let size = length-take (end_after at (length file) - at) (drop at file) in
-      (w.2, omega (arith, w, size, b.ends, length-drop at file, begun_inside file at end (Block.Used n) b))
+      (w.2, omega (arith, w, size, b.ends, length-drop at file, begun_inside file at end (Some n) b))
 
   used_there : used_part (block_from file at) ≡ drop (at + 2) (take (at + 2 + n) file)
   used_there =
@@ -127,13 +127,13 @@ module _ (file : List ℕ) (at end n : ℕ) (b : Begins file at end (Block.Used 
       let long : m ≡ 2 + (m - 2) = omega (arith, used_inside, b.ends) in
       ap (λ (k : ℕ). take k (drop 2 (block_from file at))) (sym w.1)
       ∙ ap (λ (k : ℕ). take n (drop 2 (take k (drop at file)))) long
-      ∙ ap (take n) (after_cut 2 (m - 2) (drop at file) (omega (arith, used_inside, b.ends, begun_inside file at end (Block.Used n) b, length-drop at file)) ∙ ap (take (m - 2)) (drop-drop 2 at file))
+      ∙ ap (take n) (after_cut 2 (m - 2) (drop at file) (omega (arith, used_inside, b.ends, begun_inside file at end (Some n) b, length-drop at file)) ∙ ap (take (m - 2)) (drop-drop 2 at file))
       ∙ take-take n (m - 2) (drop (at + 2) file) (omega (arith, used_inside, b.ends))
-      ∙ sym (after_cut (at + 2) n file (omega (arith, used_inside, begun_inside file at end (Block.Used n) b)))
+      ∙ sym (after_cut (at + 2) n file (omega (arith, used_inside, begun_inside file at end (Some n) b)))
 
   pub opened_told : (l : Lister) → blocks_told (blocks_in (drop at file)) l ≡ rest file (at + 2) (at + 2 + n) end (one_block_more l 0)
   opened_told l =
-      first_told file at end (Block.Used n) b l
+      first_told file at end (Some n) b l
       ∙ ap (λ (used : List ℕ). then (recorded (records_in used) (one_block_more l 0)) (blocks_in (drop end file))) used_there
 
 -- ---- the lines so far
@@ -355,12 +355,12 @@ module _ {file : List ℕ} {l₀ : Lister} {out₀ out : List ℕ} {l : Lister} 
   -- ---- a block
 
   -- a whole one is opened
-  pub opened : records_in (drop at (take stop file)) ≡ end → (n stop' end' : ℕ) → stop' ≡ after + 2 + n → Begins file after end' (Block.Used n)
+  pub opened : records_in (drop at (take stop file)) ≡ end → (n stop' end' : ℕ) → stop' ≡ after + 2 + n → Begins file after end' (Some n)
       → Standing file l₀ out₀ out (with_blocks l (l.blocks + 1) l.damaged) digits pen clear (after + 2) stop' end'
   opened e n stop' end' s b =
       let u = used_inside file after end' n b in
-      let f = begun_inside file after end' (Block.Used n) b in
-      let one = one_fewer file after end' (Block.Used n) b in
+      let f = begun_inside file after end' (Some n) b in
+      let one = one_fewer file after end' (Some n) b in
       record {
         lines = i.lines;
         told =
@@ -384,22 +384,22 @@ module _ {file : List ℕ} {l₀ : Lister} {out₀ out : List ℕ} {l : Lister} 
       }
 
   -- a damaged one makes a line, and leaves no station
-  module _ (e : records_in (drop at (take stop file)) ≡ end) (end' : ℕ) (b : Begins file after end' Block.Damaged) where
+  module _ (e : records_in (drop at (take stop file)) ≡ end) (end' : ℕ) (b : Begins file after end' None) where
     pub damaged_room : (pen.lines < line_limit) × (pen.count + line_room ≤ length out)
-    damaged_room = line_room_lem (l.blocks + 1) (omega (arith, i.counted, one_fewer file after end' Block.Damaged b)) (omega (arith, i.few))
+    damaged_room = line_room_lem (l.blocks + 1) (omega (arith, i.counted, one_fewer file after end' None b)) (omega (arith, i.few))
 
     pub damaged_standing : (pen' : Pen) (digits' exit : List ℕ) → Penned (answer_line (pen.lines + 1) Word.Block (refusal Refusal.BlockDamaged)) pen out pen' digits' exit
         → Standing file l₀ out₀ exit (with_lines (without (one_block_more l 1)) pen'.lines) digits' pen' clear end' end' end'
     damaged_standing pen' digits' exit w =
-        let f = begun_inside file after end' Block.Damaged b in
+        let f = begun_inside file after end' None b in
         line_standing (answer_line (pen.lines + 1) Word.Block (refusal Refusal.BlockDamaged)) pen' digits' exit w
         (with_lines (without (one_block_more l 1)) pen'.lines) clear end' end' end'
-        (none_left file at stop after l e ∙ first_told file after end' Block.Damaged b l
+        (none_left file at stop after l e ∙ first_told file after end' None b l
         ∙ ap₂ (λ (n m : ℕ). before (answer_line (n + 1) Word.Block (refusal Refusal.BlockDamaged)) (blocks_told (blocks_in (drop end' file)) (with_lines (without (one_block_more l 1)) m)))
         i.numbered (ap (λ (n : ℕ). n + 1) i.numbered ∙ sym w.numbered)
         ∙ ap (before (answer_line (pen.lines + 1) Word.Block (refusal Refusal.BlockDamaged))) (sym (all_passed file at end' end' (with_lines (without (one_block_more l 1)) pen'.lines))))
         (none_sound refl refl) refl (λ a. clash (sym a))
-        (omega arith) (omega arith) f.1 (omega (arith, i.counted, one_fewer file after end' Block.Damaged b)) (omega (arith, i.few)) (omega (arith, i.few_damaged))
+        (omega arith) (omega arith) f.1 (omega (arith, i.counted, one_fewer file after end' None b)) (omega (arith, i.few)) (omega (arith, i.few_damaged))
 
   -- ---- a record that is cut
 

@@ -1,11 +1,10 @@
 -- The evening list of a file (01, "Capture blocks and the evening list").
-use Rattle.std.specs.Prelude.{Bool, true, false, List, [], ◌∷◌, ◌++◌, ℕ, zero, suc, ◌+◌, ◌-◌, take, Ok, Err, None, Option}
+use Rattle.std.specs.Prelude.{Bool, true, false, List, [], ◌∷◌, ◌++◌, ℕ, zero, suc, ◌+◌, ◌-◌, take, Ok, Err, None, Option, Some}
 use Rattle.answer.specs.Checks.{Outcome, pick}
 use Rattle.answer.specs.Faults.{verdict_offset}
 use Rattle.answer.specs.Numbers.{answer_number, verdict_number}
 use Rattle.answer.specs.declared.Refusal.{Refusal}
 use Rattle.block.specs.Blocks.{block_size, used_part, block_means}
-use Rattle.block.specs.declared.Block.{Block}
 use Rattle.capture_record.specs.Entries.{Noted, malformed, starting, advancing, hearing, asking, entry_means}
 use Rattle.capture_record.specs.Records.{Records, end, cut, more, records_in}
 use Rattle.pen.specs.Lines.{line_of, closing_of}
@@ -101,9 +100,9 @@ recorded (more kind c rs) l =
 abbrev pub damaged_told : Lister → Told
 damaged_told l = line (without (one_block_more l 1)) Word.Block (refusal Refusal.BlockDamaged)
 
-abbrev pub judged : Block → List ℕ → Lister → Told
-judged Block.Damaged b l = damaged_told l
-judged (Block.Used n) b l = recorded (records_in (used_part b)) (one_block_more l 0)
+abbrev pub judged : Option ℕ → List ℕ → Lister → Told
+judged None b l = damaged_told l
+judged (Some n) b l = recorded (records_in (used_part b)) (one_block_more l 0)
 
 unfoldable pub block_told : List ℕ → Lister → Told
 block_told b l = judged (block_means b) b l

@@ -1,6 +1,6 @@
 -- An announcement that a station of an IBSS obeys comes from the address that the latest accepted beacon with element 41 names, that of its own frame first (02, Five). Assumes
 -- nothing.
-use Rattle.std.specs.Prelude.{Ok, Some}
+use Rattle.std.specs.Prelude.{Ok, Some, Option}
 use mathlib.Core.Bool.{Bool, true, false, not, ◌&&◌}
 use mathlib.Core.List.{List, ◌∷◌}
 use mathlib.Core.Path.{◌≡◌, refl, sym, ap, ◌∙◌, subst}
@@ -9,7 +9,6 @@ use native.Mathlib.Omega.{arith}
 use borrow.Author.Tests.{not-false}
 use Rattle.answer.specs.Checks.{pick}
 use Rattle.beacon.specs.Beacons.{Told}
-use Rattle.beacon.specs.IbssBeacons.{MaybeDfs}
 use Rattle.beacon.specs.Notices.{has_switch}
 use Rattle.capture_record.specs.declared.entry.Settings.{Settings}
 use Rattle.element.specs.declared.channel_switch.ChannelSwitch.{ChannelSwitch}
@@ -24,6 +23,7 @@ use Rattle.claims.specs.Reigns.{OwnerOf, Reigning, nobody, reigns, reign_of, own
 use Rattle.claims.proofs.IbssReadings.{beacons_only}
 use Rattle.claims.proofs.OwnersExactly.{accepted_leaves}
 use Rattle.claims.proofs.OwnersNamed.{last_named}
+use Rattle.element.specs.IbssDfs.{Dfs}
 
 -- whoever owns is the owner, with some interval, and is so after a beacon from it
 owner_is : (v : Reigning) (a : List ℕ) → owns v a ≡ true → (n : ℕ) × OwnerOf v (a, n)
@@ -53,7 +53,7 @@ module _ (s : Settings) (f : List ℕ) (h : History) (x : SentInIbss) (e : read_
 
   -- any other frame than a beacon names nobody
   unnamed : (k : Kind) → x.sent.kind ≡ k → ((told : Told) → k ≡ beacon told → ⊥) → owns v x.sender ≡ true
-  unnamed k y none = sym (ap (λ (d : MaybeDfs). owns (naming_at t d v) x.sender) (beacons_only s f x e k y none)) ∙ sender_owns
+  unnamed k y none = sym (ap (λ (d : Option Dfs). owns (naming_at t d v) x.sender) (beacons_only s f x e k y none)) ∙ sender_owns
 
   by_kind : (k : Kind) → x.sent.kind ≡ k → (n : ℕ) × OwnerOf (after_kind t x k v) (x.sender, n)
   by_kind (beacon told) y = still_owner t (naming_at t x.dfs v) x.sender sender_owns

@@ -9,7 +9,7 @@ use Prim.Native.Nat.{ℕ}
 use native.Mathlib.Omega.{arith}
 use lib.Dec.{ltb, eqb}
 use lib.ListN.{length, drop}
-use Rattle.action.specs.Openings.{fixed_fields, switch_fixed_fields, forbids_token, Opens, switching, with, opens_with}
+use Rattle.action.specs.Openings.{fixed_fields, switch_fixed_fields, forbids_token, opens_with}
 use borrow.Author.Tests.{not-true}
 use Rattle.answer.proofs.Booleans.{both}
 use Rattle.answer.proofs.Judged.{never}
@@ -41,6 +41,7 @@ use Rattle.walk.specs.Handed.{Handed, end, cut_header, cut_contents, more, passe
 use Rattle.walk.specs.Required.{required, nothing_left}
 use Rattle.claims.specs.BeforeOne.{old_required, old_nothing_left, old_single, old_next, old_listed, old_opens, old_after_opening, old_says, old_beacon_means, old_kind_of, old_frame_by, old_frame_means, each, each_in, no_vendor_in, no_vendor_after, NoVendor, NothingPassed, old_numbered, old_told, as_before}
 use Rattle.claims.proofs.Same.{accepted_once}
+use Rattle.action.specs.declared.Opening.{Opening}
 
 -- ---- what is new is taken away part by part
 
@@ -185,11 +186,11 @@ opens_before body =
     (before_either (ltb (length body) fixed_fields) _ _ refl
     (before_either (forbids_token (octet 1 body) (octet 2 body)) _ _ refl refl))))))
 
-after_before : (body : List ℕ) (o : Opens) → as_before (after_opening body o) ≡ old_after_opening handed_in body o
-after_before body switching =
+after_before : (body : List ℕ) (o : Opening) → as_before (after_opening body o) ≡ old_after_opening handed_in body o
+after_before body Opening.Switch =
     let run = handed_in (drop switch_fixed_fields body) in
     before_then (single switch_fixed_fields 37 switch_means run) _ (single_before switch_fixed_fields 37 switch_means switch_misread run) (λ s. refl)
-after_before body (with k token) =
+after_before body (Opening.Token k token) =
     let run = drop fixed_fields body in
     before_either (eqb k 0) _ _ (before_then (measurements_in request_sort run) _ (measurements_before request_sort request_misread run) (λ rs. refl))
     (before_either (eqb k 1) _ _ (before_then (measurements_in report_sort run) _ (measurements_before report_sort report_misread run) (λ rs. refl))
@@ -254,8 +255,8 @@ each_handing (Raw.cut_contents id) h = refl
 each_handing (Raw.more id c es) h = ap (more id c) (each_passing es h)
 
 -- after an opening, by its action
-module _ (body : List ℕ) {A : Type 0} (f g : Opens → Outcome A) where
-  opened_alike : (eqb (octet 1 body) 4 ≡ true → f switching ≡ g switching) → (eqb (octet 1 body) 4 ≡ false → (k token : ℕ) → f (with k token) ≡ g (with k token))
+module _ (body : List ℕ) {A : Type 0} (f g : Opening → Outcome A) where
+  opened_alike : (eqb (octet 1 body) 4 ≡ true → f Opening.Switch ≡ g Opening.Switch) → (eqb (octet 1 body) 4 ≡ false → (k token : ℕ) → f (Opening.Token k token) ≡ g (Opening.Token k token))
       → and_then (old_opens body) f ≡ and_then (old_opens body) g
   unfolding old_opens checked
   opened_alike four others =
@@ -265,17 +266,17 @@ module _ (body : List ℕ) {A : Type 0} (f g : Opens → Outcome A) where
       (past_test (ltb 4 (octet 1 body)) _ _
       (by (eqb (octet 1 body) 4) refl))))
     where
-      Alike : Outcome Opens → Type 0
+      Alike : Outcome Opening → Type 0
       Alike o = and_then o f ≡ and_then o g
 
-      past_test : (t : Bool) (r : Refusal) (o : Outcome Opens) → Alike o → Alike (pick t (Err r) o)
+      past_test : (t : Bool) (r : Refusal) (o : Outcome Opening) → Alike o → Alike (pick t (Err r) o)
       past_test true r o e = refl
       past_test false r o e = e
 
       by : (t : Bool) → eqb (octet 1 body) 4 ≡ t
-          → Alike (pick t (Ok switching)
+          → Alike (pick t (Ok Opening.Switch)
           (pick (ltb (length body) fixed_fields) (Err Refusal.TooShort)
-          (pick (forbids_token (octet 1 body) (octet 2 body)) (Err Refusal.ForbiddenValue) (Ok (with (octet 1 body) (octet 2 body))))))
+          (pick (forbids_token (octet 1 body) (octet 2 body)) (Err Refusal.ForbiddenValue) (Ok (Opening.Token (octet 1 body) (octet 2 body))))))
       by true e = four e
       by false e =
           past_test (ltb (length body) fixed_fields) _ _ (past_test (forbids_token (octet 1 body) (octet 2 body)) _ _ (others e (octet 1 body) (octet 2 body)))

@@ -9,7 +9,7 @@ use borrow.Author.Tests.{le-ltb, ltb-false}
 use lib.Dec.{ltb, eqb}
 use lib.ListN.{length, take, drop}
 use lib.Seq.{take-append-add}
-use Rattle.action.specs.Openings.{category_field, action_field, token_field, fixed_fields, switch_fixed_fields, forbids_token, Opens, switching, with, opens_with}
+use Rattle.action.specs.Openings.{category_field, action_field, token_field, fixed_fields, switch_fixed_fields, forbids_token, opens_with}
 use Rattle.answer.proofs.Judged.{never, past, through}
 use Rattle.answer.specs.Checks.{pick, ◌⇒◌, judged, and_then}
 use Rattle.answer.specs.Faults.{fault_at, fault_nowhere, Placed}
@@ -32,6 +32,7 @@ use Rattle.octets.proofs.Parts.{after_cut}
 use Rattle.claims.proofs.Cut.{from_kept, long_kept}
 use Rattle.claims.proofs.ElementsBefore.{Accepts, Reached, says_before, measurements_before, none_measured, single_before, none_single}
 use Rattle.claims.proofs.RefusedAt.{unfailed, unchecked, refused_by, made_refused, same_place, some_place}
+use Rattle.action.specs.declared.Opening.{Opening}
 
 -- ---- a beacon or a probe response
 
@@ -125,12 +126,12 @@ module _ (body : List ℕ) (q : ℕ) (r : Refusal) where
       by (eqb (octet action_field body) 4) late (unchecked _ action.1)
     where
       by : (t : Bool) → pick t switch_fixed_fields fixed_fields ≤ q
-          → pick t (Ok switching)
+          → pick t (Ok Opening.Switch)
           (judged
           (ltb (length body) fixed_fields ⇒ fault_nowhere Refusal.TooShort
           ∷ forbids_token (octet action_field body) (octet token_field body) ⇒ fault_at token_field Refusal.ForbiddenValue
           ∷ [])
-          (with (octet action_field body) (octet token_field body)))
+          (Opening.Token (octet action_field body) (octet token_field body)))
           ≡ Err (fault_at q r)
           → ⊥
       by true h g = never (sym g)
@@ -140,28 +141,28 @@ module _ (body : List ℕ) (q : ℕ) (r : Refusal) where
           never (sym (unchecked _ token.1))
 
   -- after them, by the action
-  by_opening : (o : Opens) → Begins body o → action_means body ≡ Err (fault_at q r) → ActionBefore body q
-  by_opening switching b e =
+  by_opening : (o : Opening) → Begins body o → action_means body ≡ Err (fault_at q r) → ActionBefore body q
+  by_opening Opening.Switch b e =
       led_before (0 ∷ 4 ∷ []) (λ run. single switch_fixed_fields 37 switch_means (handed_in run)) switch
       (λ run. by_lead run _ _ (opens_switch run)) (λ run. refl) (none_single switch_fixed_fields 37 switch_means) (single_before switch_fixed_fields 37 switch_means)
       body (drop switch_fixed_fields body) q r b e
-  by_opening (with zero token) b e =
+  by_opening (Opening.Token zero token) b e =
       led_before (0 ∷ 0 ∷ token ∷ []) (measurements_in request_sort) (requests token)
       (λ run. by_lead run _ _ (opens run 0 token (omega arith) b.2)) (λ run. refl) (none_measured request_sort) (measurements_before request_sort)
       body (drop fixed_fields body) q r b.0 e
-  by_opening (with (suc zero) token) b e =
+  by_opening (Opening.Token (suc zero) token) b e =
       led_before (0 ∷ 1 ∷ token ∷ []) (measurements_in report_sort) (reports token)
       (λ run. by_lead run _ _ (opens run 1 token (omega arith) b.2)) (λ run. refl) (none_measured report_sort) (measurements_before report_sort)
       body (drop fixed_fields body) q r b.0 e
-  by_opening (with (suc (suc zero)) token) b e =
+  by_opening (Opening.Token (suc (suc zero)) token) b e =
       led_before (0 ∷ 2 ∷ token ∷ []) (λ run. single fixed_fields 34 tpc_request_means (handed_in run)) (λ u. tpc_request token)
       (λ run. by_lead run _ _ (opens run 2 token (omega arith) b.2)) (λ run. refl) (none_single fixed_fields 34 tpc_request_means) (single_before fixed_fields 34 tpc_request_means)
       body (drop fixed_fields body) q r b.0 e
-  by_opening (with (suc (suc (suc zero))) token) b e =
+  by_opening (Opening.Token (suc (suc (suc zero))) token) b e =
       led_before (0 ∷ 3 ∷ token ∷ []) (λ run. single fixed_fields 35 tpc_report_means (handed_in run)) (tpc_report token)
       (λ run. by_lead run _ _ (opens run 3 token (omega arith) b.2)) (λ run. refl) (none_single fixed_fields 35 tpc_report_means) (single_before fixed_fields 35 tpc_report_means)
       body (drop fixed_fields body) q r b.0 e
-  by_opening (with (suc (suc (suc (suc n)))) token) b e = absurd (omega arith)
+  by_opening (Opening.Token (suc (suc (suc (suc n)))) token) b e = absurd (omega arith)
 
   pub action_before : fields_of body ≤ q → action_means body ≡ Err (fault_at q r) → ActionBefore body q
   unfolding action_means

@@ -1,5 +1,5 @@
 -- Misses are counted from the latest beacon that came from the owner or named another (02, Five). Assumes nothing.
-use Rattle.std.specs.Prelude.{Ok, Err}
+use Rattle.std.specs.Prelude.{Ok, Err, Some, None, Option}
 use mathlib.Core.Bool.{Bool, true, false, ◌&&◌}
 use mathlib.Core.List.{List, [], ◌∷◌}
 use mathlib.Core.Logic.{◌⊎◌, inl, inr}
@@ -13,7 +13,6 @@ use Rattle.answer.specs.Checks.{pick}
 use Rattle.answer.specs.Faults.{Placed}
 use Rattle.answer.specs.declared.Fault.{Fault}
 use Rattle.beacon.specs.Beacons.{Told}
-use Rattle.beacon.specs.IbssBeacons.{MaybeDfs, absent, is}
 use Rattle.capture_record.specs.declared.entry.Settings.{Settings}
 use Rattle.element.specs.IbssDfs.{Dfs}
 use Rattle.frame.specs.Frames.{Kind, beacon, probe_response, action}
@@ -30,7 +29,7 @@ use Rattle.claims.proofs.Same.{accepted_once}
 abbrev Mark : Type 0
 Mark = List ℕ × ℕ × Bool
 
-one_dfs : (d d' : Dfs) → is d ≡ is d' → d.owner ≡ d'.owner
+one_dfs : (d d' : Dfs) → Some d ≡ Some d' → d.owner ≡ d'.owner
 one_dfs d d' e = cc
 
 -- ---- the clock sets no count to 0
@@ -70,7 +69,7 @@ module _ (s : Settings) where
           none z.told (sym g ∙ ap (λ (v : SentInIbss). v.sent.kind) (accepted_once (sym e ∙ z.accepts.0)) ∙ z.in_beacon)
 
       -- a beacon neither from the owner nor naming another
-      beacon_calm : owns (naming_at t x.dfs w) x.sender ≡ false → ((d : Dfs) → x.dfs ≡ is d → owns w d.owner ≡ true)
+      beacon_calm : owns (naming_at t x.dfs w) x.sender ≡ false → ((d : Dfs) → x.dfs ≡ Some d → owns w d.owner ≡ true)
           → (a : List ℕ) (y : Bool) → Restarts s (frame f) h a y → ⊥
       beacon_calm elsewhere as_before_lem a y z = by z.how
         where
@@ -113,23 +112,23 @@ module _ (s : Settings) where
             m.1
 
         -- one from elsewhere, by what its element 41 says
-        from_elsewhere : (d : MaybeDfs) → x.dfs ≡ d → (v : Reigning) → w ≡ v → owns (naming_at t d v) x.sender ≡ false → MarkOf (naming_at t d v) p → Goal
-        from_elsewhere absent g v u y o =
+        from_elsewhere : (d : Option Dfs) → x.dfs ≡ d → (v : Reigning) → w ≡ v → owns (naming_at t d v) x.sender ≡ false → MarkOf (naming_at t d v) p → Goal
+        from_elsewhere None g v u y o =
             passes
-            (beacon_calm x e (ap₂ (λ (d : MaybeDfs) (z : Reigning). owns (naming_at t d z) x.sender) g u ∙ y)
-            (λ d has. absurd (let c : absent ≡ is d = sym g ∙ has in let q : ◌≡◌ {A = ℕ} 0 1 = cc in omega arith)))
+            (beacon_calm x e (ap₂ (λ (d : Option Dfs) (z : Reigning). owns (naming_at t d z) x.sender) g u ∙ y)
+            (λ d has. absurd (let c : None ≡ Some d = sym g ∙ has in let q : ◌≡◌ {A = ℕ} 0 1 = cc in omega arith)))
             (subst (λ (z : Reigning). MarkOf z p) (sym u) o)
-        from_elsewhere (is d) g nobody u y o =
+        from_elsewhere (Some d) g nobody u y o =
             restarting
             (inr (sym o.2, (d, g, o.0), ap (λ (z : Reigning). owns z p.0) u, ap (same x.sender) (sym o.0) ∙ y))
             o.1
-        from_elsewhere (is d) g (reigns r) u y o = by (same d.owner r.owner) refl o
+        from_elsewhere (Some d) g (reigns r) u y o = by (same d.owner r.owner) refl o
           where
             by : (b : Bool) → same d.owner r.owner ≡ b
                 → MarkOf (reigns (pick b (reign_of r.owner d.recovery r.since r.by_owner) (reign_of d.owner d.recovery t false))) p → Goal
             by true k m =
                 passes
-                (beacon_calm x e (ap₂ (λ (z : MaybeDfs) (q : Reigning). owns (naming_at t z q) x.sender) g u ∙ y)
+                (beacon_calm x e (ap₂ (λ (z : Option Dfs) (q : Reigning). owns (naming_at t z q) x.sender) g u ∙ y)
                 (λ d' has. ap (λ (q : Reigning). owns q d'.owner) u ∙ ap (λ (a : List ℕ). same a r.owner) (sym (one_dfs d d' (sym g ∙ has))) ∙ k))
                 (subst (λ (z : Reigning). MarkOf z p) (sym u) m)
             by false k m =

@@ -10,7 +10,7 @@ use borrow.Author.Tests.{eq-eqb}
 use lib.Dec.{eqb}
 use lib.ListN.{take, drop}
 use lib.Seq.{drop-drop, take-append_seam}
-use Rattle.action.specs.Openings.{fixed_fields, switch_fixed_fields, Opens, switching, with, opens_with}
+use Rattle.action.specs.Openings.{fixed_fields, switch_fixed_fields, opens_with}
 use Rattle.answer.proofs.Judged.{never, followed}
 use Rattle.answer.proofs.Yielding.{Yields, of_value, either_way_lem, after_value}
 use Rattle.answer.specs.Checks.{Outcome, pick}
@@ -44,6 +44,7 @@ use Rattle.claims.specs.Histories.{Says}
 use Rattle.claims.proofs.BeaconItems.{beacon_filtered}
 use Rattle.claims.proofs.MeasurementItems.{all_of_id, list_filtered}
 use Rattle.claims.proofs.RunItems.{walk_whole}
+use Rattle.action.specs.declared.Opening.{Opening}
 
 -- ---- bodies of one element
 
@@ -105,9 +106,9 @@ module _ {A : Type 0} (n id : ℕ) (means : List ℕ → Outcome A) (run : List 
 -- ---- frames of all seven kinds
 
 module _ (body : List ℕ) where
-  by_opening : (o : Opens) → Yields (ActionOf body) (after_opening body o)
-  by_opening switching = after_value _ (single switch_fixed_fields 37 switch_means _) _ (λ s e. of_value _ (accepted_alone switch_fixed_fields 37 switch_means _ s e))
-  by_opening (with number token) =
+  by_opening : (o : Opening) → Yields (ActionOf body) (after_opening body o)
+  by_opening Opening.Switch = after_value _ (single switch_fixed_fields 37 switch_means _) _ (λ s e. of_value _ (accepted_alone switch_fixed_fields 37 switch_means _ s e))
+  by_opening (Opening.Token number token) =
       either_way_lem _ (eqb number 0) _ _ (after_value _ (measurements_in request_sort _) _ (λ l e. of_value _ ((list_filtered request_sort refl _ l).0 e)))
       (either_way_lem _ (eqb number 1) _ _ (after_value _ (measurements_in report_sort _) _ (λ l e. of_value _ ((list_filtered report_sort refl _ l).0 e)))
       (either_way_lem _ (eqb number 2) _ _ (after_value _ (single fixed_fields 34 tpc_request_means _) _ (λ u e. of_value _ (accepted_alone fixed_fields 34 tpc_request_means _ u e)))

@@ -1,5 +1,5 @@
 -- A beacon of an IBSS over the plain list of its elements: it is accepted as what they say, and only so. Assumes nothing.
-use Rattle.std.specs.Prelude.{Ok}
+use Rattle.std.specs.Prelude.{Ok, Some, None, Option}
 use mathlib.Core.Bool.{Bool, true, false}
 use mathlib.Core.List.{List, [], ◌∷◌, map}
 use mathlib.Core.Logic.{◌↔◌, inl, inr}
@@ -12,7 +12,7 @@ use lib.ListN.{drop}
 use Rattle.answer.specs.Checks.{Outcome}
 use Rattle.beacon.proofs.InIbss.{sound_read, accepted_sound, accepted_in_01}
 use Rattle.beacon.specs.Beacons.{fixed_length}
-use Rattle.beacon.specs.IbssBeacons.{MaybeDfs, absent, is, ToldInIbss, ibss_beacon_means, besides, NoDfs, OneDfs, DfsSound}
+use Rattle.beacon.specs.IbssBeacons.{ToldInIbss, ibss_beacon_means, besides, NoDfs, OneDfs, DfsSound}
 use Rattle.element.specs.IbssDfs.{Dfs, dfs_means}
 use Rattle.walk.specs.Elements.{end}
 use Rattle.claims.specs.FilteredIbss.{any_dfs, IbssNoticeOf}
@@ -58,13 +58,13 @@ one_in d (x ∷ xs) h = by (eqb x.id 41) refl h (one_in d xs)
         inl (eqb-true x.id 41 k, first, none_in xs (cc))
     by false k h on = inr (eqb-false x.id 41 k, on (simp k at h))
 
-sound_of : (m : MaybeDfs) (xs : List Item) → DfsSound m (walked_as xs end) → ReadAs dfs_means (of_id 41 xs) (any_dfs m)
-sound_of absent xs h = ap (map (λ (x : Item). dfs_means x.contents)) (none_of xs h)
-sound_of (is d) xs h = one_of d xs h
+sound_of : (m : Option Dfs) (xs : List Item) → DfsSound m (walked_as xs end) → ReadAs dfs_means (of_id 41 xs) (any_dfs m)
+sound_of None xs h = ap (map (λ (x : Item). dfs_means x.contents)) (none_of xs h)
+sound_of (Some d) xs h = one_of d xs h
 
-sound_in : (m : MaybeDfs) (xs : List Item) → ReadAs dfs_means (of_id 41 xs) (any_dfs m) → DfsSound m (walked_as xs end)
-sound_in absent xs h = none_in xs h
-sound_in (is d) xs h = one_in d xs h
+sound_in : (m : Option Dfs) (xs : List Item) → ReadAs dfs_means (of_id 41 xs) (any_dfs m) → DfsSound m (walked_as xs end)
+sound_in None xs h = none_in xs h
+sound_in (Some d) xs h = one_in d xs h
 
 -- ---- a body
 

@@ -5,7 +5,7 @@ use mathlib.Core.Path.{◌≡◌, subst}
 use Prim.Native.Nat.{ℕ, ◌<◌, ◌^◌}
 use lib.Dec.{eqb}
 use lib.ListN.{drop}
-use Rattle.action.specs.Openings.{fixed_fields, switch_fixed_fields, Opens, switching, with, opens_with}
+use Rattle.action.specs.Openings.{fixed_fields, switch_fixed_fields, opens_with}
 use Rattle.answer.proofs.Placing.{placed_value, past_value}
 use Rattle.answer.proofs.Yielding.{Yields, of_refusal, of_value, either_way_lem, after_check, after_all, after_value}
 use Rattle.answer.specs.Faults.{placed_at, nowhere, placed_past}
@@ -40,6 +40,7 @@ use Rattle.walk.specs.Handed.{Handed, handing, handed_in}
 use Rattle.walk.specs.Required.{required, nothing_left}
 use Rattle.claims.proofs.OctetsWithin.{octets_drop, AllOctets, run_octets, required_octets}
 use Rattle.station_record.specs.Fits.{PowerFits}
+use Rattle.action.specs.declared.Opening.{Opening}
 
 -- ---- what fits
 
@@ -202,14 +203,14 @@ BodyFits : Body → Type 0
 BodyFits body = KindFits (action body)
 
 -- what follows the fixed fields
-after_fits : (body : List ℕ) → Octets body → (o : Opens) → Yields BodyFits (after_opening body o)
+after_fits : (body : List ℕ) → Octets body → (o : Opening) → Yields BodyFits (after_opening body o)
 unfolding BodyFits
-after_fits body octets switching =
+after_fits body octets Opening.Switch =
     let rest = drop switch_fixed_fields body in
     after_value BodyFits (single switch_fixed_fields 37 switch_means (handed_in rest)) _
     (λ w e. of_value BodyFits
     (single_fits switch_fixed_fields (elements_in rest) (run_octets rest (octets_drop switch_fixed_fields body octets)) w e))
-after_fits body octets (with k token) =
+after_fits body octets (Opening.Token k token) =
     let rest = drop fixed_fields body in
     either_way_lem BodyFits (eqb k 0) _ _ (after_value BodyFits (measurements_in request_sort rest) _ (λ rs e. of_value BodyFits tt))
     (either_way_lem BodyFits (eqb k 1) _ _ (after_value BodyFits (measurements_in report_sort rest) _ (λ rs e. of_value BodyFits tt))

@@ -17,7 +17,6 @@ use Rattle.answer.specs.Numbers.{answer_number, verdict_number}
 use Rattle.answer.specs.declared.Refusal.{Refusal}
 use Rattle.capture.specs.Lists as Lists
 use Rattle.block.specs.Blocks.{used_length, is_damaged, used_part, block_means}
-use Rattle.block.specs.declared.Block.{Block}
 use Rattle.capture.specs.Listers.{fresh, one_block_more}
 use Rattle.capture.specs.Lists.{Told, line, before, started, stepped, no_station, bad_record, noted, is_malformed, recorded, damaged_told, judged, block_told, blocks_in, blocks_told, list_of}
 use Rattle.capture.specs.declared.lister.Lister.{Lister}
@@ -257,13 +256,13 @@ block_told_lem : (b : List ℕ) (l : Lister) (x : Followed) → Matches l x → 
 unfolding block_told block_means
 block_told_lem b l x m = by_damage (is_damaged b) refl
   where
-    by_damage : (d : Bool) → is_damaged b ≡ d → Lines l (judged (pick (is_damaged b) Block.Damaged (Block.Used (used_length b))) b l) (TellsBlock b x)
+    by_damage : (d : Bool) → is_damaged b ≡ d → Lines l (judged (pick (is_damaged b) None (Some (used_length b))) b l) (TellsBlock b x)
     by_damage true e =
-        subst (λ (d : Bool). Lines l (judged (pick d Block.Damaged (Block.Used (used_length b))) b l) (TellsBlock b x)) (sym e)
+        subst (λ (d : Bool). Lines l (judged (pick d None (Some (used_length b))) b l) (TellsBlock b x)) (sym e)
         (alone l (damaged_told l) (says Word.Block 17) (TellsBlock b x) (inl (e, refl, refl)) refl refl refl)
     by_damage false e =
         let w = records_told (records_in (used_part b)) (one_block_more l 0) x (counted l x m) in
-        subst (λ (d : Bool). Lines l (judged (pick d Block.Damaged (Block.Used (used_length b))) b l) (TellsBlock b x)) (sym e)
+        subst (λ (d : Bool). Lines l (judged (pick d None (Some (used_length b))) b l) (TellsBlock b x)) (sym e)
         (record { said = w.said; next = w.next; told = inr (e, w.told); text = w.text; line_count = w.line_count; keeps = w.keeps })
 
 blocks_told_lem : (bs : List (List ℕ)) (l : Lister) (x : Followed) → Matches l x → Lines l (blocks_told bs l) (TellsBlocks bs x)

@@ -1,6 +1,6 @@
 -- The list of a file has one line for each record and each damaged block, numbered from 1 without a gap, and the closing line's numbers are those of
 -- the blocks and of the damaged ones (01, "Capture blocks and the evening list"). Assumes nothing.
-use Rattle.std.specs.Prelude.{Ok, Err}
+use Rattle.std.specs.Prelude.{Ok, Err, Some, None}
 use mathlib.Core.Bool.{Bool, true, false}
 use mathlib.Core.List.{List, [], ◌∷◌, ◌++◌, append_assoc, append-nil}
 use mathlib.Core.Path.{◌≡◌, refl, sym, ap, ap₂, ◌∙◌, subst}
@@ -10,7 +10,6 @@ use lib.ListN.{length, length-append}
 use Rattle.answer.specs.Checks.{Outcome, pick}
 use Rattle.answer.specs.declared.Refusal.{Refusal}
 use Rattle.block.specs.Blocks.{used_length, is_damaged, used_part, block_means}
-use Rattle.block.specs.declared.Block.{Block}
 use Rattle.capture.specs.Listers.{fresh, without, following, one_block_more}
 use Rattle.capture.specs.Lists.{Told, nothing, response_number, response_offset, refusal, answer_line, line, before, started, stepped, taken, no_station, bad_record, noted, is_malformed, recorded, damaged_told, judged, block_told, blocks_in, blocks_told, list_of}
 use Rattle.capture.specs.declared.lister.Lister.{Lister}
@@ -143,7 +142,7 @@ block_counted : (b : List ℕ) (l : Lister) → Counted l (block_told b l) (line
 unfolding block_told block_means
 block_counted b l = by_damage (is_damaged b)
   where
-    by_damage : (d : Bool) → Counted l (judged (pick d Block.Damaged (Block.Used (used_length b))) b l) (pick d 1 (records_counted (records_in (used_part b)))) 1 (pick d 1 0)
+    by_damage : (d : Bool) → Counted l (judged (pick d None (Some (used_length b))) b l) (pick d 1 (records_counted (records_in (used_part b)))) 1 (pick d 1 0)
     by_damage true = in_block l (damaged_told l) 1 1 (one (one_block_more l 1) (without (one_block_more l 1)) Word.Block (refusal Refusal.BlockDamaged) refl refl refl)
     by_damage false = in_block l _ 0 _ (recorded_counted (records_in (used_part b)) (one_block_more l 0))
 

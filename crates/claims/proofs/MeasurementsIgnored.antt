@@ -8,7 +8,7 @@ use native.Mathlib.Omega.{arith}
 use borrow.Author.Tests.{eqb-true, le-ltb, ne_eqb}
 use lib.Dec.{eqb}
 use lib.ListN.{length, length-append}
-use Rattle.action.specs.Openings.{token_field, fixed_fields, Opens, with, forbids_token, opens_with}
+use Rattle.action.specs.Openings.{token_field, fixed_fields, forbids_token, opens_with}
 use Rattle.answer.proofs.Booleans.{clash}
 use Rattle.answer.proofs.Judged.{kept}
 use Rattle.answer.proofs.Judged as Judged
@@ -26,6 +26,7 @@ use Rattle.claims.specs.Filters.{Item, laid, walked_as}
 use Rattle.claims.specs.Reserved.{AlikeBut, reserved_in, ItemsAlike, RunsAlike, MeasurementsAlike}
 use Rattle.claims.proofs.ContentsIgnored.{request_ignored, report_ignored}
 use Rattle.claims.proofs.RunItems.{walk_front}
+use Rattle.action.specs.declared.Opening.{Opening}
 
 -- ---- elements one after the other
 
@@ -136,8 +137,8 @@ runs_as_long run other r =
     ∙ sym (ap length r.other_octets ∙ length-append (laid r.others) r.rest)
 
 -- how a measurement body opens
-abbrev opening : ℕ → ℕ → Placed Opens
-opening action token = judged (forbids_token action token ⇒ fault_at token_field Refusal.ForbiddenValue ∷ []) (with action token)
+abbrev opening : ℕ → ℕ → Placed Opening
+opening action token = judged (forbids_token action token ⇒ fault_at token_field Refusal.ForbiddenValue ∷ []) (Opening.Token action token)
 
 opened : (action token : ℕ) (run : List ℕ) → action ≤ 1 → opens_with (0 ∷ action ∷ token ∷ run) ≡ opening action token
 unfolding opens_with checked
@@ -146,7 +147,7 @@ opened action token run h =
     simp (le-ltb n 1 (omega arith), le-ltb n 2 (omega arith), le-ltb 4 action (omega arith), ne_eqb action 4 (omega arith), le-ltb n 3 (omega arith))
 
 after_alike : (action token : ℕ) (run other : List ℕ) → action ≤ 1 → RunsAlike run other
-    → after_opening (0 ∷ action ∷ token ∷ run) (with action token) ≡ after_opening (0 ∷ action ∷ token ∷ other) (with action token)
+    → after_opening (0 ∷ action ∷ token ∷ run) (Opening.Token action token) ≡ after_opening (0 ∷ action ∷ token ∷ other) (Opening.Token action token)
 after_alike zero token run other h r = ap (λ o. and_then o (λ l. Ok (requests token l))) (measurements_ignored Kind.Requests run other r)
 after_alike (suc zero) token run other h r = ap (λ o. and_then o (λ l. Ok (reports token l))) (measurements_ignored Kind.Reports run other r)
 after_alike (suc (suc n)) token run other h r = absurd (omega arith)
@@ -159,11 +160,11 @@ module _ (body other : List ℕ) (m : MeasurementsAlike body other) where
       → and_then (opens_with os) (after_opening os) ≡ and_then (opening m.action m.token) (after_opening (with_run run))
   opens os run e =
       ap (λ (x : List ℕ). and_then (opens_with x) (after_opening x)) e
-      ∙ ap (λ (o : Placed Opens). and_then o (after_opening (with_run run))) (opened m.action m.token run m.measures)
+      ∙ ap (λ (o : Placed Opening). and_then o (after_opening (with_run run))) (opened m.action m.token run m.measures)
 
-  after : (o : Opens) → opening m.action m.token ≡ Ok o → after_opening (with_run m.run) o ≡ after_opening (with_run m.other_run) o
+  after : (o : Opening) → opening m.action m.token ≡ Ok o → after_opening (with_run m.run) o ≡ after_opening (with_run m.other_run) o
   after o e =
-      subst (λ (x : Opens). after_opening (with_run m.run) x ≡ after_opening (with_run m.other_run) x) (kept _ (Judged.passed _ _ _ e).1)
+      subst (λ (x : Opening). after_opening (with_run m.run) x ≡ after_opening (with_run m.other_run) x) (kept _ (Judged.passed _ _ _ e).1)
       (after_alike m.action m.token m.run m.other_run m.measures m.alike)
 
   pub action_ignored : action_means body ≡ action_means other

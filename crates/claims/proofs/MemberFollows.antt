@@ -14,7 +14,6 @@ use Rattle.answer.specs.Checks.{Outcome, pick, ◌⇒◌, checked, and_then}
 use Rattle.answer.specs.Faults.{Placed, fault_nowhere}
 use Rattle.answer.specs.declared.Refusal.{Refusal}
 use Rattle.beacon.specs.Beacons.{Told}
-use Rattle.beacon.specs.IbssBeacons.{MaybeDfs, absent, is}
 use Rattle.beacon.specs.Notices.{has_switch}
 use Rattle.capture_record.specs.declared.entry.Settings.{Settings}
 use Rattle.frame.specs.Announcements.{announcement_in}
@@ -40,6 +39,7 @@ use Rattle.station.proofs.KeptThroughout.{KeptThroughout, kept_by, heard_keeps, 
 use Rattle.claims.proofs.OwnersTold.{Lasting, units_last, units_told, owns_told, naming_told, heard_told, naming_lasts, hearing_lasts}
 use Rattle.claims.proofs.Same.{accepted_once}
 use Rattle.pending.specs.declared.Switch.{Switch}
+use Rattle.element.specs.IbssDfs.{Dfs}
 
 -- ---- what it hears
 
@@ -218,9 +218,9 @@ module _ (s : Settings) where
       reigning_as : (foreign : Bool) → foreign_to (clock_after h) w x ≡ foreign → reigning s (frame f ∷ h) ≡ pick foreign w (after_kind (clock_after h) x x.sent.kind w)
       reigning_as foreign y = reigns_as (Ok x) e ∙ ap (λ (b : Bool). pick b w (after_kind (clock_after h) x x.sent.kind w)) y
 
-      naming_lasting : (d : MaybeDfs) → x.dfs ≡ d → Lasting (naming_at (clock_after h) d w) (clock_after h)
-      naming_lasting absent y = t.lasting
-      naming_lasting (is d) y = naming_lasts s.interval (clock_after h) w d (recovery_some s f x e d y) t.lasting
+      naming_lasting : (d : Option Dfs) → x.dfs ≡ d → Lasting (naming_at (clock_after h) d w) (clock_after h)
+      naming_lasting None y = t.lasting
+      naming_lasting (Some d) y = naming_lasts s.interval (clock_after h) w d (recovery_some s f x e d y) t.lasting
 
       kind_lasting : (k : Kind) → Lasting (after_kind (clock_after h) x k w) (clock_after h)
       kind_lasting (beacon told) = hearing_lasts s.interval (clock_after h) (naming_at (clock_after h) x.dfs w) x.sender (naming_lasting x.dfs refl)
@@ -228,7 +228,7 @@ module _ (s : Settings) where
       kind_lasting (action body) = t.lasting
 
       -- only a beacon has an element 41 that is read
-      module _ (beacons_only : (k : Kind) → x.sent.kind ≡ k → ((told : Told) → k ≡ beacon told → ⊥) → x.dfs ≡ absent) where
+      module _ (beacons_only : (k : Kind) → x.sent.kind ≡ k → ((told : Told) → k ≡ beacon told → ⊥) → x.dfs ≡ None) where
         kind_owner : (k : Kind) → x.sent.kind ≡ k
             → heard_by (named_by m.owner x.dfs) x.sender k ≡ owner_told s.interval (clock_after h) (after_kind (clock_after h) x k w)
         kind_owner (beacon told) y =

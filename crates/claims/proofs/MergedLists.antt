@@ -1,5 +1,5 @@
 -- The list of a capture in which two advances were merged (02, Seven). Assumes nothing.
-use Rattle.std.specs.Prelude.{Ok, Err}
+use Rattle.std.specs.Prelude.{Ok, Err, Some, None, Option}
 use mathlib.Core.Bool.{Bool, true, false}
 use mathlib.Core.List.{List, [], ◌∷◌, ◌++◌, append_assoc, append-nil}
 use mathlib.Core.Path.{◌≡◌, refl, sym, ap, ap₂, ◌∙◌, subst}
@@ -10,7 +10,6 @@ use Rattle.answer.specs.Checks.{Outcome, pick, Answer}
 use Rattle.answer.specs.Numbers.{answer_number}
 use Rattle.answer.specs.declared.Refusal.{Refusal}
 use Rattle.block.specs.Blocks.{used_length, is_damaged, used_part, block_means}
-use Rattle.block.specs.declared.Block.{Block}
 use Rattle.pen.specs.Lines.{closing_of}
 use Rattle.capture.specs.Listers.{fresh, with_lines, without, following, one_block_more}
 use Rattle.capture.specs.Lists.{Told, response_number, response_offset, refusal, answer_line, line, before, started, stepped, no_station, bad_record, noted, is_malformed, recorded, judged, block_told, blocks_in, blocks_told, closing_for, closed, list_of}
@@ -107,9 +106,9 @@ recorded_spoken (more kind c rs) l =
     let s = noted_spoken l (entry_means kind c) in
     spoken_pick (is_malformed (entry_means kind c)) _ _ (bad_spoken l) (spoken_both (λ n. noted (with_lines l n) (entry_means kind c)) (recorded rs) s (recorded_spoken rs s.base))
 
-judged_spoken : (b : List ℕ) (l : Lister) (x : Block) → Spoken (λ n. judged x b (with_lines l n))
-judged_spoken b l Block.Damaged = spoken_line (without (one_block_more l 1)) Word.Block (refusal Refusal.BlockDamaged)
-judged_spoken b l (Block.Used m) = recorded_spoken (records_in (used_part b)) (one_block_more l 0)
+judged_spoken : (b : List ℕ) (l : Lister) (x : Option ℕ) → Spoken (λ n. judged x b (with_lines l n))
+judged_spoken b l None = spoken_line (without (one_block_more l 1)) Word.Block (refusal Refusal.BlockDamaged)
+judged_spoken b l (Some m) = recorded_spoken (records_in (used_part b)) (one_block_more l 0)
 
 block_spoken : (b : List ℕ) (l : Lister) → Spoken (λ n. block_told b (with_lines l n))
 unfolding block_told
@@ -164,7 +163,7 @@ block_many : (b : List ℕ) (l : Lister) → length (block_spoken b l).said ≡ 
 unfolding block_means block_spoken judged_spoken spoken_line
 block_many b l = by (is_damaged b)
   where
-    by : (d : Bool) → length (judged_spoken b l (pick d Block.Damaged (Block.Used (used_length b)))).said ≡ pick d 1 (records_counted (records_in (used_part b)))
+    by : (d : Bool) → length (judged_spoken b l (pick d None (Some (used_length b)))).said ≡ pick d 1 (records_counted (records_in (used_part b)))
     by true = refl
     by false = recorded_many (records_in (used_part b)) (one_block_more l 0)
 
@@ -337,7 +336,7 @@ records_merge rs rs' m l =
 
 undamaged_told : (b : List ℕ) → is_damaged b ≡ false → (l : Lister) → block_told b l ≡ recorded (records_in (used_part b)) (one_block_more l 0)
 unfolding block_told block_means
-undamaged_told b sound l = ap (λ (d : Bool). judged (pick d Block.Damaged (Block.Used (used_length b))) b l) sound
+undamaged_told b sound l = ap (λ (d : Bool). judged (pick d None (Some (used_length b))) b l) sound
 
 module _ (block block' : List ℕ) (later : List (List ℕ)) (sound : is_damaged block ≡ false) (sound' : is_damaged block' ≡ false) (m : MergedRecords (records_in (used_part block)) (records_in (used_part block'))) where
   abbrev reach_through : List (List ℕ) → Lister → Lister

@@ -1,6 +1,6 @@
 -- Where all frames come from one address and each announcement stands in a beacon that names it as the owner, a station of an IBSS answers as document 01's station does,
 -- given the same bodies (02, Five). Assumes nothing.
-use Rattle.std.specs.Prelude.{Ok, Err}
+use Rattle.std.specs.Prelude.{Ok, Err, Some, Option}
 use mathlib.Core.Bool.{Bool, true, false, not, ◌&&◌}
 use mathlib.Core.List.{List, [], ◌∷◌}
 use mathlib.Core.Path.{◌≡◌, refl, sym, ap, ap₂, ◌∙◌, subst}
@@ -10,7 +10,6 @@ use Rattle.answer.proofs.Judged.{never}
 use Rattle.answer.specs.Checks.{Outcome, pick, and_then, Answer}
 use Rattle.answer.specs.Faults.{Placed, fault_nowhere, Verdict}
 use Rattle.answer.specs.declared.Refusal.{Refusal}
-use Rattle.beacon.specs.IbssBeacons.{MaybeDfs, is}
 use Rattle.beacon.specs.Notices.{has_switch}
 use Rattle.capture_record.specs.declared.entry.Settings.{Settings}
 use Rattle.element.specs.IbssDfs.{Dfs}
@@ -46,7 +45,7 @@ use Rattle.claims.proofs.StationFollows.{follows, kept}
 use Rattle.claims.proofs.StationMeans as StationMeans
 
 -- whom element 41 names is the owner then
-named_owns : (t : ℕ) (d : Dfs) (w : Reigning) → owns (naming_at t (is d) w) d.owner ≡ true
+named_owns : (t : ℕ) (d : Dfs) (w : Reigning) → owns (naming_at t (Some d) w) d.owner ≡ true
 named_owns t d nobody = same_self d.owner
 named_owns t d (reigns r) = by (same d.owner r.owner) refl
   where
@@ -107,7 +106,7 @@ module _ (s : Settings) where
           by true g =
               let n = one.names_itself x e g in
               ap not
-              (ap₂ (λ (d : MaybeDfs) (z : List ℕ). owns (naming_at t d w) z) n.1 (one.from ∙ sym n.2) ∙ named_owns t n.0 w)
+              (ap₂ (λ (d : Option Dfs) (z : List ℕ). owns (naming_at t d w) z) n.1 (one.from ∙ sym n.2) ∙ named_owns t n.0 w)
 
       -- after any calls the verdicts are the same
       verdict_alike : (h g : History) → (take_of (record_after s g) (from_ap s.ap f)).verdict ≡ (Members.take_of (member_after s h) f).verdict

@@ -14,7 +14,6 @@ use Rattle.single_body.proofs.read as SingleBodyRead
 use Rattle.single_body.proofs.write_channel_switch as WriteChannelSwitch
 use Rattle.single_body.proofs.write_tpc_report as WriteTpcReport
 use Rattle.single_body.proofs.write_tpc_request as WriteTpcRequest
-use Rattle.action.specs.Openings.{Opens, switching, with, opening_told}
 use Rattle.action.specs.declared.Opening.{Opening}
 use Rattle.answer.specs.Checks.{Outcome}
 use Rattle.answer.specs.Faults.{Placed}
@@ -111,12 +110,12 @@ power_to_octets κs a e f x y p q = once p q
 pub beacon_read : OneResult 1 BeaconRead.Kinds.ps BeaconRead.Kinds.r BeaconRead.Reads.Post
 beacon_read κs a e f x y p q = once p q
 
-opening_of : Placed Opens → Opening
+opening_of : Placed Opening → Opening
 opening_of (Err r) = Opening.Refused r
-opening_of (Ok switching) = Opening.Switch
-opening_of (Ok (with k t)) = Opening.Token k t
+opening_of (Ok Opening.Switch) = Opening.Switch
+opening_of (Ok (Opening.Token k t)) = Opening.Token k t
 
-opening_told_lem : (x : Opening) → opening_of (opening_told x) ≡ x
+opening_told_lem : (x : Opening) → opening_of (x) ≡ x
 unfolding opening_of
 opening_told_lem (Opening.Refused r) = refl
 opening_told_lem Opening.Switch = refl
@@ -126,7 +125,7 @@ pub forbids_token_lem : OneResult 0 ForbidsToken.Kinds.ps ForbidsToken.Kinds.r F
 forbids_token_lem κs a e f x y p q = once p q
 
 pub body_opening : OneResult 1 Open.Kinds.ps Open.Kinds.r Open.Reads.Post
-body_opening κs a e f x y p q = told_once opening_told opening_of opening_told_lem p q
+body_opening κs a e f x y p q = told_once opening_of opening_told_lem p q
 
 single_of : Placed Single → Singles.Reading
 single_of (Err r) = Singles.Reading.Refused r

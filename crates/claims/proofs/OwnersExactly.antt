@@ -1,5 +1,5 @@
 -- Exactly who owns: whom the latest accepted beacon with element 41 named, if it was not given up since; and exactly from when its misses are counted (02, Five). Assumes nothing.
-use Rattle.std.specs.Prelude.{Ok, Err}
+use Rattle.std.specs.Prelude.{Ok, Err, Some, None, Option}
 use mathlib.Core.Bool.{Bool, true, false}
 use mathlib.Core.List.{List, [], ◌∷◌}
 use mathlib.Core.Logic.{◌⊎◌, inl, inr, ⊎_elim, ◌↔◌}
@@ -9,7 +9,6 @@ use Rattle.answer.proofs.Booleans.{clash}
 use Rattle.answer.specs.Checks.{pick}
 use Rattle.answer.specs.Faults.{Placed}
 use Rattle.beacon.specs.Beacons.{Told}
-use Rattle.beacon.specs.IbssBeacons.{MaybeDfs, absent, is}
 use Rattle.capture_record.specs.declared.entry.Settings.{Settings}
 use Rattle.element.specs.IbssDfs.{Dfs}
 use Rattle.frame.specs.Frames.{Kind, beacon, probe_response, action}
@@ -129,7 +128,7 @@ module _ (s : Settings) (f : List ℕ) (h : History) where
       by true = (λ o. o, λ o. o)
       by false = (λ o. o, λ o. o)
 
-  named_owner : (d : Dfs) (v : Reigning) → OwnerOf (naming_at t (is d) v) (d.owner, d.recovery)
+  named_owner : (d : Dfs) (v : Reigning) → OwnerOf (naming_at t (Some d) v) (d.owner, d.recovery)
   named_owner d nobody = (refl, refl)
   named_owner d (reigns r) = by (same d.owner r.owner) refl
     where
@@ -142,17 +141,17 @@ module _ (s : Settings) (f : List ℕ) (h : History) where
   names_own a n z =
       subst (λ (q : List ℕ × ℕ). OwnerOf (reigning s (frame f ∷ h)) q) (ap₂ (λ (y : List ℕ) (m : ℕ). (y, m)) z.owner z.interval)
       (subst (λ (v : Reigning). OwnerOf v (z.dfs.owner, z.dfs.recovery))
-      (sym (beacon_leaves z.sent z.accepts.0 z.accepts.1 z.told z.in_beacon ∙ ap (λ (d : MaybeDfs). heard_at t z.sent.sender (naming_at t d w)) z.has_dfs_lem))
-      ((heard_same z.sent.sender (naming_at t (is z.dfs) w) (z.dfs.owner, z.dfs.recovery)).1 (named_owner z.dfs w)))
+      (sym (beacon_leaves z.sent z.accepts.0 z.accepts.1 z.told z.in_beacon ∙ ap (λ (d : Option Dfs). heard_at t z.sent.sender (naming_at t d w)) z.has_dfs_lem))
+      ((heard_same z.sent.sender (naming_at t (Some z.dfs) w) (z.dfs.owner, z.dfs.recovery)).1 (named_owner z.dfs w)))
 
   unnamed_same : ((a : List ℕ) (n : ℕ) → Names s (frame f) h a n → ⊥) → (p : List ℕ × ℕ) → OwnerOf (reigning s (frame f ∷ h)) p ↔ OwnerOf w p
   unfolding Leaves
   unnamed_same none p = by leaves
     where
-      by_dfs : (x : SentInIbss) (told : Told) → read_as s f ≡ Ok x → foreign_to t w x ≡ false → x.sent.kind ≡ beacon told → (d : MaybeDfs) → x.dfs ≡ d
+      by_dfs : (x : SentInIbss) (told : Told) → read_as s f ≡ Ok x → foreign_to t w x ≡ false → x.sent.kind ≡ beacon told → (d : Option Dfs) → x.dfs ≡ d
           → OwnerOf (heard_at t x.sender (naming_at t d w)) p ↔ OwnerOf w p
-      by_dfs x told e ours y absent g = heard_same x.sender w p
-      by_dfs x told e ours y (is d) g =
+      by_dfs x told e ours y None g = heard_same x.sender w p
+      by_dfs x told e ours y (Some d) g =
           absurd
           (none d.owner d.recovery (record { sent = x; accepts = (e, ours); told = told; in_beacon = y; dfs = d; has_dfs_lem = g; owner = refl; interval = refl }))
 
@@ -176,20 +175,20 @@ module _ (s : Settings) (f : List ℕ) (h : History) where
       subst (λ (b : Bool). MarkOf (reigns (pick b (reign_of r.owner r.recovery t true) r)) (a, t, true)) (sym e) (sym (same_is a r.owner e), refl, refl)
 
   -- and so does the name of another
-  another_mark : (d : Dfs) (v : Reigning) → owns v d.owner ≡ false → MarkOf (naming_at t (is d) v) (d.owner, t, false)
+  another_mark : (d : Dfs) (v : Reigning) → owns v d.owner ≡ false → MarkOf (naming_at t (Some d) v) (d.owner, t, false)
   another_mark d nobody e = (refl, refl, refl)
   another_mark d (reigns r) e =
       subst (λ (b : Bool). MarkOf (reigns (pick b (reign_of r.owner d.recovery r.since r.by_owner) (reign_of d.owner d.recovery t false))) (d.owner, t, false)) (sym e) (refl, refl, refl)
 
   -- that of the same owner does not
-  same_mark : (d : Dfs) (v : Reigning) → owns v d.owner ≡ true → (p : List ℕ × ℕ × Bool) → MarkOf (naming_at t (is d) v) p ↔ MarkOf v p
+  same_mark : (d : Dfs) (v : Reigning) → owns v d.owner ≡ true → (p : List ℕ × ℕ × Bool) → MarkOf (naming_at t (Some d) v) p ↔ MarkOf v p
   same_mark d nobody e p = clash (sym e)
   same_mark d (reigns r) e p =
       subst (λ (b : Bool). MarkOf (reigns (pick b (reign_of r.owner d.recovery r.since r.by_owner) (reign_of d.owner d.recovery t false))) p ↔ MarkOf (reigns r) p) (sym e)
       (λ o. o, λ o. o)
 
   -- of whom another was named, no one else is the owner
-  another_owns : (d : Dfs) (v : Reigning) (a : List ℕ) → owns v d.owner ≡ false → owns (naming_at t (is d) v) a ≡ same a d.owner
+  another_owns : (d : Dfs) (v : Reigning) (a : List ℕ) → owns v d.owner ≡ false → owns (naming_at t (Some d) v) a ≡ same a d.owner
   another_owns d nobody a e = refl
   another_owns d (reigns r) a e =
       ap (λ (b : Bool). same a (pick b (reign_of r.owner d.recovery r.since r.by_owner) (reign_of d.owner d.recovery t false)).owner) e
@@ -205,11 +204,11 @@ module _ (s : Settings) (f : List ℕ) (h : History) where
           (heard_mark z.sent.sender (naming_at t z.sent.dfs w) (ap (owns (naming_at t z.sent.dfs w)) sender ∙ stands))
       by (inr (own, (d, has, owner), other, sender)) =
           let other' : owns w d.owner ≡ false = ap (owns w) owner ∙ other in
-          let away : owns (naming_at t (is d) w) z.sent.sender ≡ false = another_owns d w z.sent.sender other' ∙ ap (same z.sent.sender) owner ∙ sender in
+          let away : owns (naming_at t (Some d) w) z.sent.sender ≡ false = another_owns d w z.sent.sender other' ∙ ap (same z.sent.sender) owner ∙ sender in
           subst (λ (q : List ℕ × Bool). MarkOf (heard_at t z.sent.sender (naming_at t z.sent.dfs w)) (q.0, t, q.1))
           (ap₂ (λ (y : List ℕ) (c : Bool). (y, c)) owner (sym own))
           (subst (λ (v : Reigning). MarkOf v (d.owner, t, false))
-          (sym (ap (λ (y : MaybeDfs). heard_at t z.sent.sender (naming_at t y w)) has ∙ unheard z.sent.sender (naming_at t (is d) w) away))
+          (sym (ap (λ (y : Option Dfs). heard_at t z.sent.sender (naming_at t y w)) has ∙ unheard z.sent.sender (naming_at t (Some d) w) away))
           (another_mark d w other'))
 
   calm_same : ((a : List ℕ) (y : Bool) → Restarts s (frame f) h a y → ⊥) → (p : List ℕ × ℕ × Bool) → MarkOf (reigning s (frame f ∷ h)) p ↔ MarkOf w p
@@ -222,7 +221,7 @@ module _ (s : Settings) (f : List ℕ) (h : History) where
           absurd (none x.sender true (record { sent = x; accepts = (e, ours); told = told; in_beacon = y; how = inl (refl, refl, g) }))
       away x told e ours y false g = refl
 
-      known : (x : SentInIbss) (told : Told) → read_as s f ≡ Ok x → foreign_to t w x ≡ false → x.sent.kind ≡ beacon told → (d : Dfs) → x.dfs ≡ is d
+      known : (x : SentInIbss) (told : Told) → read_as s f ≡ Ok x → foreign_to t w x ≡ false → x.sent.kind ≡ beacon told → (d : Dfs) → x.dfs ≡ Some d
           → owns (naming_at t x.dfs w) x.sender ≡ false → (b : Bool) → owns w d.owner ≡ b → b ≡ true
       known x told e ours y d has off true g = refl
       known x told e ours y d has off false g =
@@ -233,13 +232,13 @@ module _ (s : Settings) (f : List ℕ) (h : History) where
             accepts = (e, ours);
             told = told;
             in_beacon = y;
-            how = inr (refl, (d, has, refl), g, sym (another_owns d w x.sender g) ∙ sym (ap (λ (z : MaybeDfs). owns (naming_at t z w) x.sender) has) ∙ off);
+            how = inr (refl, (d, has, refl), g, sym (another_owns d w x.sender g) ∙ sym (ap (λ (z : Option Dfs). owns (naming_at t z w) x.sender) has) ∙ off);
           }))
 
       by_dfs : (x : SentInIbss) (told : Told) → read_as s f ≡ Ok x → foreign_to t w x ≡ false → x.sent.kind ≡ beacon told
-          → owns (naming_at t x.dfs w) x.sender ≡ false → (d : MaybeDfs) → x.dfs ≡ d → MarkOf (naming_at t d w) p ↔ MarkOf w p
-      by_dfs x told e ours y off absent g = (λ o. o, λ o. o)
-      by_dfs x told e ours y off (is d) g = same_mark d w (let k = known x told e ours y d g off (owns w d.owner) refl in k) p
+          → owns (naming_at t x.dfs w) x.sender ≡ false → (d : Option Dfs) → x.dfs ≡ d → MarkOf (naming_at t d w) p ↔ MarkOf w p
+      by_dfs x told e ours y off None g = (λ o. o, λ o. o)
+      by_dfs x told e ours y off (Some d) g = same_mark d w (let k = known x told e ours y d g off (owns w d.owner) refl in k) p
 
       by : (reigning s (frame f ∷ h) ≡ w) ⊎ ((x : SentInIbss) × (told : Told) × (read_as s f ≡ Ok x) × (foreign_to t w x ≡ false) × (x.sent.kind ≡ beacon told))
           → MarkOf (reigning s (frame f ∷ h)) p ↔ MarkOf w p

@@ -1,6 +1,6 @@
 -- Who reigns was named by the latest accepted beacon with element 41, and where none is ever heard nobody does, so that no announcement is obeyed (02, Five). Assumes
 -- nothing.
-use Rattle.std.specs.Prelude.{Ok, Err}
+use Rattle.std.specs.Prelude.{Ok, Err, Some, None, Option}
 use mathlib.Core.Bool.{Bool, true, false, not, ◌&&◌}
 use mathlib.Core.List.{List, [], ◌∷◌}
 use mathlib.Core.Logic.{◌⊎◌, inl, inr}
@@ -14,7 +14,6 @@ use Rattle.answer.specs.Checks.{pick}
 use Rattle.answer.specs.Faults.{Placed}
 use Rattle.answer.specs.declared.Fault.{Fault}
 use Rattle.beacon.specs.Beacons.{Told}
-use Rattle.beacon.specs.IbssBeacons.{MaybeDfs, absent, is}
 use Rattle.beacon.specs.Notices.{has_switch}
 use Rattle.capture_record.specs.declared.entry.Settings.{Settings}
 use Rattle.element.specs.IbssDfs.{Dfs}
@@ -57,7 +56,7 @@ module _ (s : Settings) where
       by false x = x
 
   -- element 41 does
-  naming_owner : (t : ℕ) (d : Dfs) (w : Reigning) (p : List ℕ × ℕ) → OwnerOf (naming_at t (is d) w) p → (d.owner ≡ p.0) × (d.recovery ≡ p.1)
+  naming_owner : (t : ℕ) (d : Dfs) (w : Reigning) (p : List ℕ × ℕ) → OwnerOf (naming_at t (Some d) w) p → (d.owner ≡ p.0) × (d.recovery ≡ p.1)
   naming_owner t d nobody p o = o
   naming_owner t d (reigns r) p o = by (same d.owner r.owner) refl o
     where
@@ -83,10 +82,10 @@ module _ (s : Settings) where
       foreign_nameless y a n z =
           clash (sym y ∙ ap (foreign_to (clock_after h) (reigning s h)) (one_reading x z.sent e z.accepts.0) ∙ z.accepts.1)
 
-      absent_nameless : x.dfs ≡ absent → (a : List ℕ) (n : ℕ) → Names s (frame f) h a n → ⊥
+      absent_nameless : x.dfs ≡ None → (a : List ℕ) (n : ℕ) → Names s (frame f) h a n → ⊥
       absent_nameless y a n z = not_both (sym y ∙ ap (λ (v : SentInIbss). v.dfs) (one_reading x z.sent e z.accepts.0) ∙ z.has_dfs_lem)
         where
-          not_both : absent ≡ is z.dfs → ⊥
+          not_both : None ≡ Some z.dfs → ⊥
           not_both c = let w : ◌≡◌ {A = ℕ} 0 1 = cc in omega arith
 
       no_beacon_nameless : (k : Kind) → x.sent.kind ≡ k → ((told : Told) → k ≡ beacon told → ⊥) → (a : List ℕ) (n : ℕ) → Names s (frame f) h a n → ⊥
@@ -101,11 +100,11 @@ module _ (s : Settings) where
       passes none o = inr (none, before o)
 
       module _ (x : SentInIbss) (e : read_as s f ≡ Ok x) where
-        by_dfs : (told : Told) → x.sent.kind ≡ beacon told → foreign_to (clock_after h) (reigning s h) x ≡ false → (d : MaybeDfs) → x.dfs ≡ d
+        by_dfs : (told : Told) → x.sent.kind ≡ beacon told → foreign_to (clock_after h) (reigning s h) x ≡ false → (d : Option Dfs) → x.dfs ≡ d
             → OwnerOf (naming_at (clock_after h) d (reigning s h)) p → LastNamed s (frame f ∷ h) p.0 p.1
         unfolding Latest
-        by_dfs told is-beacon ours absent y o = passes (absent_nameless x e y) o
-        by_dfs told is-beacon ours (is d) y o =
+        by_dfs told is-beacon ours None y o = passes (absent_nameless x e y) o
+        by_dfs told is-beacon ours (Some d) y o =
             let named = naming_owner (clock_after h) d (reigning s h) p o in
             inl (record { sent = x; accepts = (e, ours); told = told; in_beacon = is-beacon; dfs = d; has_dfs_lem = y; owner = named.0; interval = named.1 })
 
@@ -165,11 +164,11 @@ module _ (s : Settings) where
       announces : has_switch (announcement_in x.sent.kind) ≡ true
       announces = ap has_switch (ap announcement_in e ∙ y)
 
-      by : (x.dfs ≡ absent) ⊎ ((told : Told) × (d : Dfs) × (x.sent.kind ≡ beacon told) × (x.dfs ≡ is d) × (1 ≤ d.recovery)) → ⊥
+      by : (x.dfs ≡ None) ⊎ ((told : Told) × (d : Dfs) × (x.sent.kind ≡ beacon told) × (x.dfs ≡ Some d) × (1 ≤ d.recovery)) → ⊥
       by (inl z) =
           clash
           (sym
-          (ap₂ (λ (t : Bool) (v : Reigning). t && not (owns v x.sender)) announces (ap (λ (d : MaybeDfs). naming_at (clock_after h) d (reigning s h)) z ∙ nobody_reigns h none.1))
+          (ap₂ (λ (t : Bool) (v : Reigning). t && not (owns v x.sender)) announces (ap (λ (d : Option Dfs). naming_at (clock_after h) d (reigning s h)) z ∙ nobody_reigns h none.1))
           ∙ ours)
       by (inr (told, d, in_beacon, has, some)) =
           none.0 d.owner d.recovery

@@ -1,5 +1,6 @@
 -- The owner that the calls make, call by call, is the one that the history tells of: what is kept as a count and a flag follows from when a beacon last set the count
 -- to 0 and how many TBTTs have passed since (02, Five). Assumes nothing.
+use Rattle.std.specs.Prelude.{Some, None, Option}
 use mathlib.Core.Bool.{Bool, true, false, ◌&&◌}
 use mathlib.Core.List.{List}
 use mathlib.Core.Logic.{⊎_elim}
@@ -10,7 +11,6 @@ use borrow.Author.Tests.{ne_eqb, lt-leb}
 use lib.Dec.{leb, eqb}
 use Rattle.answer.proofs.Booleans.{either}
 use Rattle.answer.specs.Checks.{pick}
-use Rattle.beacon.specs.IbssBeacons.{MaybeDfs, absent, is}
 use Rattle.element.specs.IbssDfs.{Dfs}
 use Rattle.header.specs.Headers.{same}
 use Rattle.member.specs.Members.{named_by}
@@ -160,10 +160,10 @@ module _ (b : ℕ) where
         by true = refl
         by false = refl
 
-    pub naming_told : (w : Reigning) (d : MaybeDfs) → owner_told b t (naming_at t d w) ≡ named_by (owner_told b t w) d
-    naming_told w absent = refl
-    naming_told nobody (is d) = just_now false d.owner d.recovery
-    naming_told (reigns r) (is d) = by (same d.owner r.owner)
+    pub naming_told : (w : Reigning) (d : Option Dfs) → owner_told b t (naming_at t d w) ≡ named_by (owner_told b t w) d
+    naming_told w None = refl
+    naming_told nobody (Some d) = just_now false d.owner d.recovery
+    naming_told (reigns r) (Some d) = by (same d.owner r.owner)
       where
         by : (as_before_lem : Bool)
             → owner_told b t (reigns (pick as_before_lem (reign_of r.owner d.recovery r.since r.by_owner) (reign_of d.owner d.recovery t false)))
@@ -183,7 +183,7 @@ module _ (b : ℕ) where
         by true = just_now true r.owner r.recovery
         by false = refl
 
-    pub naming_lasts : (w : Reigning) (d : Dfs) → 1 ≤ d.recovery → Lasting w t → Lasting (naming_at t (is d) w) t
+    pub naming_lasts : (w : Reigning) (d : Dfs) → 1 ≤ d.recovery → Lasting w t → Lasting (naming_at t (Some d) w) t
     naming_lasts nobody d some l = (omega arith, some)
     naming_lasts (reigns r) d some l = by (same d.owner r.owner)
       where

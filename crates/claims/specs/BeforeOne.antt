@@ -2,7 +2,7 @@
 -- "Order": absent (7), header cut (6), wrong element (7), contents cut (6); left-over octets last (7)), and no element was passed over in an action body.
 -- `ElementAbsent` stands for that 7.
 use Rattle.std.specs.Prelude.{Bool, true, not, ◌&&◌, ◌||◌, ◌≡◌, List, [], ◌∷◌, ◌++◌, ℕ, ltb, eqb, length, drop, Ok, Err}
-use Rattle.action.specs.Openings.{fixed_fields, switch_fixed_fields, Opens, switching, with, forbids_token}
+use Rattle.action.specs.Openings.{fixed_fields, switch_fixed_fields, forbids_token}
 use Rattle.answer.specs.Checks.{Outcome, pick, ◌⇒◌, checked, judged, and_then}
 use Rattle.answer.specs.Faults.{Placed, without_place}
 use Rattle.answer.specs.Numbers.{number_of}
@@ -25,6 +25,7 @@ use Rattle.walk.specs.Elements.{Elements, elements_in}
 use Rattle.walk.specs.Elements as Raw
 use Rattle.walk.specs.Handed.{Handed, end, cut_header, cut_contents, more, passed, cut_passed, vendor_id}
 use Rattle.walk.specs.Required.{Standing}
+use Rattle.action.specs.declared.Opening.{Opening}
 
 -- ---- the old meaning, over what is handed out of the elements
 
@@ -72,7 +73,7 @@ module _ {A : Type 0} (s : Sort A) where
   old_listed (passed c hs) before = old_listed hs before
   old_listed cut_passed before = and_then (old_next cut_passed before) (λ a. Ok (before ++ (a ∷ [])))
 
-unfoldable pub old_opens : List ℕ → Outcome Opens
+unfoldable pub old_opens : List ℕ → Outcome Opening
 old_opens body =
     checked
     (ltb (length body) 1 ⇒ Refusal.TooShort
@@ -80,18 +81,18 @@ old_opens body =
     ∷ ltb (length body) switch_fixed_fields ⇒ Refusal.TooShort
     ∷ ltb 4 (octet 1 body) ⇒ Refusal.ForeignAction
     ∷ [])
-    (pick (eqb (octet 1 body) 4) (Ok switching)
+    (pick (eqb (octet 1 body) 4) (Ok Opening.Switch)
     (judged
     (ltb (length body) fixed_fields ⇒ Refusal.TooShort
     ∷ forbids_token (octet 1 body) (octet 2 body) ⇒ Refusal.ForbiddenValue
     ∷ [])
-    (with (octet 1 body) (octet 2 body))))
+    (Opening.Token (octet 1 body) (octet 2 body))))
 
 -- `walk` is how the elements of an action body are handed out
 module _ (walk : List ℕ → Handed) where
-  abbrev pub old_after_opening : List ℕ → Opens → Outcome Body
-  old_after_opening body switching = and_then (old_single 37 switch_means (walk (drop switch_fixed_fields body))) (λ s. Ok (switch s))
-  old_after_opening body (with number token) =
+  abbrev pub old_after_opening : List ℕ → Opening → Outcome Body
+  old_after_opening body Opening.Switch = and_then (old_single 37 switch_means (walk (drop switch_fixed_fields body))) (λ s. Ok (switch s))
+  old_after_opening body (Opening.Token number token) =
       pick (eqb number 0) (and_then (old_listed request_sort (walk (drop fixed_fields body)) []) (λ rs. Ok (requests token rs)))
       (pick (eqb number 1) (and_then (old_listed report_sort (walk (drop fixed_fields body)) []) (λ rs. Ok (reports token rs)))
       (pick (eqb number 2) (and_then (old_single 34 tpc_request_means (walk (drop fixed_fields body))) (λ u. Ok (tpc_request token)))

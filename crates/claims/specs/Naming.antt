@@ -1,7 +1,6 @@
 -- What 02, Five says of owners in its own words, over the calls: who named one, and what a station obeys that never hears of one.
-use Rattle.std.specs.Prelude.{Bool, true, false, List, ◌⊎◌, ◌≡◌, ℕ}
+use Rattle.std.specs.Prelude.{Bool, true, false, List, ◌⊎◌, ◌≡◌, ℕ, Some}
 use Rattle.beacon.specs.Beacons.{Told}
-use Rattle.beacon.specs.IbssBeacons.{is}
 use Rattle.capture_record.specs.declared.entry.Settings.{Settings}
 use Rattle.element.specs.IbssDfs.{Dfs}
 use Rattle.frame.specs.Frames.{beacon}
@@ -18,7 +17,7 @@ module _ (s : Settings) where
     pub told : Told
     pub in_beacon : sent.sent.kind ≡ beacon told
     pub dfs : Dfs
-    pub has_dfs_lem : sent.dfs ≡ is dfs
+    pub has_dfs_lem : sent.dfs ≡ Some dfs
     pub owner : dfs.owner ≡ a
     pub interval : dfs.recovery ≡ recovery
 
@@ -33,7 +32,7 @@ module _ (s : Settings) where
   -- one from elsewhere that names another owner than the one before, if there was one
   abbrev pub NamesAnother : History → SentInIbss → List ℕ → Bool → Type 0
   NamesAnother h x a by_owner =
-      (by_owner ≡ false) × ((d : Dfs) × (x.dfs ≡ is d) × (d.owner ≡ a)) × (owns (reigning s h) a ≡ false) × (same x.sender a ≡ false)
+      (by_owner ≡ false) × ((d : Dfs) × (x.dfs ≡ Some d) × (d.owner ≡ a)) × (owns (reigning s h) a ≡ false) × (same x.sender a ≡ false)
 
   -- "A beacon from the owner, or naming another, sets the count to 0": the call was one, after which this is the owner; `by_owner` says that it came from it
   pub record Restarts (c : Call) (h : History) (a : List ℕ) (by_owner : Bool) : Type 0 where

@@ -1,7 +1,6 @@
 -- All frames from one address, and each announcement in a beacon that names it as the owner (02, Five): what document 01's station is to be told beside it, which is the same
 -- bodies from its AP.
-use Rattle.std.specs.Prelude.{true, false, List, map, ◌≡◌, ℕ, length, Ok}
-use Rattle.beacon.specs.IbssBeacons.{MaybeDfs, is}
+use Rattle.std.specs.Prelude.{true, false, List, map, ◌≡◌, ℕ, length, Ok, Some, Option}
 use Rattle.beacon.specs.Notices.{has_switch}
 use Rattle.capture_record.specs.declared.entry.Settings.{Settings}
 use Rattle.element.specs.IbssDfs.{Dfs}
@@ -16,10 +15,10 @@ module _ (s : Settings) where
   -- a frame from the address `a`. The elements 41 of a beacon come to `dfs`, with none that is refused; and what of it document 01 reads as an announcement names that address
   pub record FromOne (a f : List ℕ) : Type 0 where
     pub from : sa f ≡ a
-    pub dfs : MaybeDfs
+    pub dfs : Option Dfs
     pub sound : DfsSoundIn dfs f
     pub names_itself : (x : Sent) → frame_means s.own s.ap s.interval (from_ap s.ap f) ≡ Ok x → has_switch (announcement_in x.kind) ≡ true
-        → (d : Dfs) × (dfs ≡ is d) × (d.owner ≡ a)
+        → (d : Dfs) × (dfs ≡ Some d) × (d.owner ≡ a)
 
   abbrev pub CallFromOne : List ℕ → Call → History → Type 0
   CallFromOne a (frame f) h = FromOne a f

@@ -1,9 +1,8 @@
 -- Who the DFS owner of an IBSS is, by the calls, and which frames a station there accepts (02, Five). Nothing here names a station or a step of one. In the settings
 -- of a station of an IBSS `ap` is the BSSID.
-use Rattle.std.specs.Prelude.{Bool, true, false, not, ◌&&◌, List, [], ◌∷◌, ◌≡◌, ℕ, zero, suc, ◌+◌, ◌-◌, ◌<◌, ◌≤◌, leb, Ok, Err}
+use Rattle.std.specs.Prelude.{Bool, true, false, not, ◌&&◌, List, [], ◌∷◌, ◌≡◌, ℕ, zero, suc, ◌+◌, ◌-◌, ◌<◌, ◌≤◌, leb, Ok, Err, Some, None, Option}
 use Rattle.answer.specs.Checks.{pick}
 use Rattle.answer.specs.Faults.{Placed}
-use Rattle.beacon.specs.IbssBeacons.{MaybeDfs, absent, is}
 use Rattle.beacon.specs.Notices.{has_switch}
 use Rattle.capture_record.specs.declared.entry.Settings.{Settings}
 use Rattle.element.specs.IbssDfs.{Dfs}
@@ -80,9 +79,9 @@ named_at t d nobody = reigns (reign_of d.owner d.recovery t false)
 named_at t d (reigns r) =
     reigns (pick (same d.owner r.owner) (reign_of r.owner d.recovery r.since r.by_owner) (reign_of d.owner d.recovery t false))
 
-abbrev pub naming_at : ℕ → MaybeDfs → Reigning → Reigning
-naming_at t absent w = w
-naming_at t (is d) w = named_at t d w
+abbrev pub naming_at : ℕ → Option Dfs → Reigning → Reigning
+naming_at t None w = w
+naming_at t (Some d) w = named_at t d w
 
 -- a beacon at t from an address: one from the owner sets the count to 0
 abbrev pub heard_at : ℕ → List ℕ → Reigning → Reigning

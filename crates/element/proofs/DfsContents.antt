@@ -1,36 +1,29 @@
--- Element 41: the ways through its checks, and demand 2 for it. Assumes nothing.
-use Rattle.std.specs.Prelude.{Ok, Err}
+-- Element 41: what is accepted, how it is put together, and demand 2 for it. Assumes nothing.
+use Rattle.std.specs.Prelude.{Ok}
 use mathlib.Core.Bool.{Bool, true, false, not, ◌&&◌}
 use mathlib.Core.List.{List, [], ◌∷◌, ◌++◌}
 use mathlib.Core.Path.{◌≡◌, refl, sym, ap, ap₂, ◌∙◌, subst}
 use Prim.Native.Nat.{ℕ, ◌+◌, ◌-◌, ◌*◌, ◌%◌, ◌<◌, ◌≤◌}
 use native.Mathlib.Omega.{arith}
-use borrow.Author.Tests.{le-leb, lt-leb, eq-eqb, ne_eqb, leb-true, eqb-true, lt-ltb, le-ltb, not-false}
+use borrow.Author.Tests.{le-leb, eq-eqb, leb-true, eqb-true, lt-ltb, not-false}
 use lib.Dec.{leb, eqb}
 use lib.ListN.{length, take, length-drop, length-append}
-use Rattle.answer.proofs.Judged.{past, stop, done, passed, kept}
-use Rattle.answer.specs.Checks.{Outcome}
-use Rattle.answer.specs.declared.Refusal.{Refusal}
+use Rattle.std.proofs.lemmas.Slice.{take-put_mid}
+use borrow.Rule.Slice.PartMut.{put_mid}
+use lib.Seq.{take_at}
+use Rattle.answer.proofs.Judged.{past, done, passed, kept}
 use Rattle.octets.proofs.JoinSplit.{all_from}
-use Rattle.octets.proofs.Storing.{not_answer, left_not, filled_front, front_left, left_after}
 use Rattle.octets.specs.Elements.{RoundTrip}
 use Rattle.octets.specs.Numbers.{Octets, octet, octets_from}
-use Rattle.octets.specs.Writing.{left, Written}
 use Rattle.element.specs.IbssDfs.{Dfs, pairs_in, dfs_in, dfs_length, dfs_forbids, dfs_means, pair_means, dfs_contents, dfs_may_of, dfs_may, dfs_octets, DfsFits, few_pairs, in_element}
 
 -- ---- the length
 
 module _ (n : ℕ) where
-  pub length_short : n < 7 → dfs_length n ≡ false
-  length_short h = ap (λ (b : Bool). b && eqb ((n - 7) % 2) 0) (lt-leb 7 n h)
-
-  pub length_odd : 7 ≤ n → ((n - 7) % 2 ≡ 0 → ⊥) → dfs_length n ≡ false
-  length_odd h odd = ap₂ (λ (a b : Bool). a && b) (le-leb 7 n h) (ne_eqb ((n - 7) % 2) 0 odd)
-
-  pub length_right : 7 ≤ n → (n - 7) % 2 ≡ 0 → dfs_length n ≡ true
+  length_right : 7 ≤ n → (n - 7) % 2 ≡ 0 → dfs_length n ≡ true
   length_right h even = ap₂ (λ (a b : Bool). a && b) (le-leb 7 n h) (eq-eqb ((n - 7) % 2) 0 even)
 
-  pub right_length : dfs_length n ≡ true → (7 ≤ n) × ((n - 7) % 2 ≡ 0)
+  right_length : dfs_length n ≡ true → (7 ≤ n) × ((n - 7) % 2 ≡ 0)
   right_length e = by (leb 7 n) (eqb ((n - 7) % 2) 0) refl refl e
     where
       by : (a b : Bool) → leb 7 n ≡ a → eqb ((n - 7) % 2) 0 ≡ b → (a && b) ≡ true → (7 ≤ n) × ((n - 7) % 2 ≡ 0)
@@ -38,21 +31,12 @@ module _ (n : ℕ) where
       by true false f g h = absurd (let z : ◌≡◌ {A = ℕ} 0 1 = cc in omega arith)
       by false b f g h = absurd (let z : ◌≡◌ {A = ℕ} 0 1 = cc in omega arith)
 
--- ---- the ways through
+-- ---- an accepted element
 
 module _ (c : List ℕ) where
-  pub misfit : dfs_length (length c) ≡ false → Err Refusal.WrongLength ≡ dfs_means c
+  good : dfs_length (length c) ≡ true → dfs_forbids (octets_from 6 0 c) (octet 6 c) ≡ false → Ok (dfs_in c) ≡ dfs_means c
   unfolding dfs_means
-  misfit e = stop _ _ _ (ap not e)
-
-  module _ (e : dfs_length (length c) ≡ true) where
-    pub forbidden : dfs_forbids (octets_from 6 0 c) (octet 6 c) ≡ true → Err Refusal.ForbiddenValue ≡ dfs_means c
-    unfolding dfs_means
-    forbidden f = past _ _ _ (ap not e) (stop _ _ _ f)
-
-    pub good : dfs_forbids (octets_from 6 0 c) (octet 6 c) ≡ false → Ok (dfs_in c) ≡ dfs_means c
-    unfolding dfs_means
-    good f = past _ _ _ (ap not e) (past _ _ _ f (done _))
+  good e f = past _ _ _ (ap not e) (past _ _ _ f (done _))
 
   -- an accepted record is the one in contents of such a length, and none that is forbidden
   pub opened : (d : Dfs) → dfs_means c ≡ Ok d → (dfs_length (length c) ≡ true) × (dfs_in c ≡ d) × (dfs_forbids d.owner d.recovery ≡ false)
@@ -65,10 +49,6 @@ module _ (c : List ℕ) where
 
 -- ---- the pairs
 
-pub no_pair : (i : ℕ) (c : List ℕ) → pairs_in (length c) ≤ i → Err Refusal.Impossible ≡ pair_means i c
-unfolding pair_means
-no_pair i c h = stop _ _ _ (ap not (le-ltb i (pairs_in (length c)) h))
-
 pub a_pair : (i : ℕ) (c : List ℕ) → i < pairs_in (length c) → Ok (record { channel = octet (7 + 2 * i) c; map = octet (7 + 2 * i + 1) c }) ≡ pair_means i c
 unfolding pair_means
 a_pair i c h = past _ _ _ (ap not (lt-ltb i (pairs_in (length c)) h)) (done _)
@@ -77,7 +57,7 @@ a_pair i c h = past _ _ _ (ap not (lt-ltb i (pairs_in (length c)) h)) (done _)
 
 -- what may be written
 module _ (owner : List ℕ) (recovery n : ℕ) where
-  pub may_be : dfs_may_of owner recovery n ≡ true → (dfs_forbids owner recovery ≡ false) × (n % 2 ≡ 0) × (n ≤ 248)
+  may_be : dfs_may_of owner recovery n ≡ true → (dfs_forbids owner recovery ≡ false) × (n % 2 ≡ 0) × (n ≤ 248)
   may_be e = by (dfs_forbids owner recovery) (eqb (n % 2) 0) (leb n 248) refl refl refl e
     where
       by : (f even short : Bool) → dfs_forbids owner recovery ≡ f → eqb (n % 2) 0 ≡ even → leb n 248 ≡ short → (not f && (even && short)) ≡ true
@@ -87,24 +67,15 @@ module _ (owner : List ℕ) (recovery n : ℕ) where
       by false false short a b d h = absurd (let z : ◌≡◌ {A = ℕ} 0 1 = cc in omega arith)
       by true even short a b d h = absurd (let z : ◌≡◌ {A = ℕ} 0 1 = cc in omega arith)
 
-  pub may : dfs_forbids owner recovery ≡ false → n % 2 ≡ 0 → n ≤ 248 → dfs_may_of owner recovery n ≡ true
+  may : dfs_forbids owner recovery ≡ false → n % 2 ≡ 0 → n ≤ 248 → dfs_may_of owner recovery n ≡ true
   may a b d = ap₂ (λ (x y : Bool). not x && y) a (ap₂ (λ (x y : Bool). x && y) (eq-eqb (n % 2) 0 b) (le-leb n 248 d))
 
--- where nothing may be written, it is the same for all octets
-pub none_written : (os other : List ℕ) (at : ℕ) (buffer : List ℕ) {answer : Outcome ℕ} {exit : List ℕ} → Written false os at buffer answer exit → Written false other at buffer answer exit
-none_written os other at buffer w =
-    record {
-      answers = w.answers ∙ not_answer os at buffer refl ∙ sym (not_answer other at buffer refl);
-      leaves = w.leaves ∙ left_not os at buffer ∙ sym (left_not other at buffer);
-    }
-
--- two parts in front of a room, one after the other
-pub put_together : (head rest room : List ℕ) {mid all : List ℕ} (n : ℕ) → n ≡ length head + length rest → length head + length rest ≤ length room
-    → mid ≡ left true head 0 room → all ≡ left true rest (length head) mid → take n all ≡ head ++ rest
-put_together head rest room {mid} {all} n e fits first second =
-    filled_front (head ++ rest) room all
-    (second ∙ ap (left true rest (length head)) first ∙ left_after true head rest room fits ∙ front_left (head ++ rest) room (omega (arith, length-append head rest)))
-    n (omega (arith, length-append head rest))
+-- a head put in front, and a part put after it
+pub put_together : (head part room : List ℕ) (n : ℕ) {front after : List ℕ} → front ≡ head → after ≡ part
+    → take (length head + length part) (put_mid (length head) n (front ++ room) after) ≡ head ++ part
+put_together head part room n {front} {after} e f =
+    take-put_mid (length head) n (front ++ room) after (length head + length part) (omega (arith, ap length f)) (omega (arith, ap length e, length-append front room))
+    ∙ ap₂ (λ (xs ys : List ℕ). xs ++ ys) (take_at front room (length head) (ap length e) ∙ e) f
 
 -- the octets of an element, with its head spelled out
 pub its_octets : (d : Dfs) → length d.owner ≡ 6 → (41 ∷ (7 + length d.pairs) ∷ (octets_from 6 0 d.owner ++ (d.recovery ∷ d.pairs))) ≡ dfs_octets d

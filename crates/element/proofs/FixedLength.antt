@@ -1,29 +1,20 @@
--- Elements of one length: the ways through `fixed`, and demand 2 for all of them at once. Assumes nothing.
-use Rattle.std.specs.Prelude.{Ok, Err}
+-- Elements of one length: what is accepted, and demand 2 for all of them at once. Assumes nothing.
+use Rattle.std.specs.Prelude.{Ok}
 use mathlib.Core.Path.{◌≡◌, sym, ap, subst, ◌∙◌}
 use mathlib.Core.Bool.{Bool, true, false, not}
 use mathlib.Core.List.{List}
 use Prim.Native.Nat.{ℕ}
-use borrow.Author.Tests.{eq-eqb, ne_eqb, eqb-true, not-true, not-false}
+use borrow.Author.Tests.{eq-eqb, eqb-true, not-true, not-false}
 use lib.Dec.{eqb}
 use lib.ListN.{length}
 use Rattle.answer.specs.Checks.{checked}
-use Rattle.answer.specs.declared.Refusal.{Refusal}
 use Rattle.answer.proofs.Judged.{passed, kept}
 use Rattle.octets.specs.Numbers.{Octets}
 use Rattle.octets.specs.Elements.{fixed, RoundTrip}
 
 module _ {A : Type 0} (n : ℕ) (record_in : List ℕ → A) (forbids : A → Bool) where
   module _ (c : List ℕ) where
-    pub misfit : (length c ≡ n → ⊥) → Err Refusal.WrongLength ≡ fixed n record_in forbids c
-    unfolding fixed checked
-    misfit h = simp (ne_eqb (length c) n h)
-
-    pub forbidden : length c ≡ n → forbids (record_in c) ≡ true → Err Refusal.ForbiddenValue ≡ fixed n record_in forbids c
-    unfolding fixed checked
-    forbidden h f = simp (eq-eqb (length c) n h, f)
-
-    pub good : length c ≡ n → forbids (record_in c) ≡ false → Ok (record_in c) ≡ fixed n record_in forbids c
+    good : length c ≡ n → forbids (record_in c) ≡ false → Ok (record_in c) ≡ fixed n record_in forbids c
     unfolding fixed checked
     good h f = simp (eq-eqb (length c) n h, f)
 

@@ -1,5 +1,5 @@
 -- Element 37, Channel Switch Announcement (01, "Octets"; 7.3.2.20), length 3: mode, channel, count.
-use Rattle.std.specs.Prelude.{Bool, not, ◌||◌, List, [], ◌∷◌, ℕ, ltb, Ok, Err}
+use Rattle.std.specs.Prelude.{Bool, not, ◌||◌, List, [], ◌∷◌, ℕ, ltb}
 use Rattle.answer.specs.Checks.{Outcome}
 use Rattle.channel.specs.Centres.{highest}
 use Rattle.octets.specs.Numbers.{octet}

@@ -1,5 +1,5 @@
 -- Element 32, Power Constraint (01, "Octets"; 7.3.2.15): length 1.
-use Rattle.std.specs.Prelude.{Bool, true, false, List, [], ◌∷◌, ℕ, Ok, Err}
+use Rattle.std.specs.Prelude.{Bool, true, false, List, [], ◌∷◌, ℕ}
 use Rattle.answer.specs.Checks.{Outcome}
 use Rattle.octets.specs.Numbers.{octet}
 use Rattle.octets.specs.Elements.{fixed, element}

@@ -1,5 +1,5 @@
 -- Element 40, Quiet (01, "Octets"; 7.3.2.23), length 6: count, period, duration (2), offset (2). `b` is the beacon interval.
-use Rattle.std.specs.Prelude.{Bool, not, ◌||◌, List, ◌∷◌, [], ◌++◌, ℕ, ◌<◌, ◌^◌, leb, eqb, Ok, Err}
+use Rattle.std.specs.Prelude.{Bool, not, ◌||◌, List, ◌∷◌, [], ◌++◌, ℕ, ◌<◌, ◌^◌, leb, eqb}
 use Rattle.answer.specs.Checks.{Outcome}
 use Rattle.octets.specs.Numbers.{octet, number, split}
 use Rattle.octets.specs.Elements.{fixed, element}

@@ -1,5 +1,5 @@
 -- Element 35, TPC Report (01, "Octets"; 7.3.2.18), length 2: power in dBm, margin in dB, both signed.
-use Rattle.std.specs.Prelude.{Bool, true, false, List, [], ◌∷◌, ℕ, Ok, Err}
+use Rattle.std.specs.Prelude.{Bool, true, false, List, [], ◌∷◌, ℕ}
 use Rattle.std.specs.Int.{w8}
 use Rattle.std.proofs.Common.{SFits}
 use Rattle.answer.specs.Checks.{Outcome}

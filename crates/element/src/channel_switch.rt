@@ -19,12 +19,10 @@ pub struct ChannelSwitch {
 fn is_forbidden(switch: ChannelSwitch) -> bool
     ensures { result ≡ switch_forbids switch }
 {
-    if 1 < switch.mode {
-        return true;
-    }
-    channel::HIGHEST < switch.channel
+    1 < switch.mode || channel::HIGHEST < switch.channel
 }
 
+#[tactic(auto, unfolding(crate::specs::ChannelSwitch::switch_means, octets::specs::Elements::fixed, answer::specs::Checks::checked))]
 pub fn read(contents: &[u8]) -> Result<ChannelSwitch, Refusal>
     ensures { result ≡ switch_means contents.now }
 {
@@ -49,6 +47,7 @@ pub fn may_write(switch: ChannelSwitch) -> bool
     !is_forbidden(switch)
 }
 
+#[tactic(auto, unfolding(crate::specs::ChannelSwitch::switch_octets))]
 pub fn write(switch: ChannelSwitch, buffer: &mut [u8], at: usize) -> Result<usize, Refusal>
     ensures { Written (switch_may switch) (switch_octets switch) at buffer.old result buffer.new }
 {

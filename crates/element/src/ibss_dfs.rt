@@ -7,10 +7,13 @@ use answer::Refusal;
 
 pub const ID: u8 = 41;
 
-// The octets before the pairs, and those of a pair.
+// The octets of the contents before the pairs, and those of a pair.
 const FIXED_LENGTH: usize = 7;
 
 const PAIR: usize = 2;
+
+// The octets of an element before its pairs: its ID and its length, then the fixed ones.
+const HEAD: usize = 9;
 
 // The most octets that the pairs of an element have, and an element that has them: its length is one octet.
 const LONGEST_PAIRS: usize = 248;
@@ -37,10 +40,7 @@ pub struct ChannelMap {
 fn is_forbidden(owner: [u8; 6], recovery: u8) -> bool
     ensures { result ≡ dfs_forbids owner recovery }
 {
-    if recovery == 0 {
-        return true;
-    }
-    owner[0] % 2 == 1
+    recovery == 0 || owner[0] % 2 == 1
 }
 
 // How many pairs contents of so many octets have.
@@ -53,23 +53,14 @@ fn pairs_in(length: usize) -> usize
     (length - FIXED_LENGTH) / PAIR
 }
 
+#[tactic(auto, unfolding(crate::specs::IbssDfs::dfs_means, answer::specs::Checks::checked))]
 pub fn read(contents: &[u8]) -> Result<IbssDfs, Refusal>
     ensures { result ≡ dfs_laid (dfs_means contents.now) }
 {
-    if contents.len() < FIXED_LENGTH {
+    if contents.len() < FIXED_LENGTH || (contents.len() - FIXED_LENGTH) % PAIR != 0 {
         return Err(Refusal::WrongLength);
     }
-    if (contents.len() - FIXED_LENGTH) % PAIR != 0 {
-        return Err(Refusal::WrongLength);
-    }
-    let owner = [
-        contents[0],
-        contents[1],
-        contents[2],
-        contents[3],
-        contents[4],
-        contents[5],
-    ];
+    let owner = octets::address_at(contents, 0);
     let recovery = contents[6];
     if is_forbidden(owner, recovery) {
         return Err(Refusal::ForbiddenValue);
@@ -83,6 +74,7 @@ pub fn read(contents: &[u8]) -> Result<IbssDfs, Refusal>
 }
 
 // The pair at an index, in the contents that hold it.
+#[tactic(auto, unfolding(crate::specs::IbssDfs::pair_means, answer::specs::Checks::checked))]
 pub fn pair_at(contents: &[u8], index: usize) -> Result<ChannelMap, Refusal>
     ensures { result ≡ pair_means index contents.now }
 {
@@ -100,13 +92,7 @@ pub fn pair_at(contents: &[u8], index: usize) -> Result<ChannelMap, Refusal>
 fn may_write(owner: [u8; 6], recovery: u8, length: usize) -> bool
     ensures { result ≡ dfs_may_of owner recovery length }
 {
-    if is_forbidden(owner, recovery) {
-        return false;
-    }
-    if length % PAIR != 0 {
-        return false;
-    }
-    length <= LONGEST_PAIRS
+    !is_forbidden(owner, recovery) && length % PAIR == 0 && length <= LONGEST_PAIRS
 }
 
 // The pairs are handed in as their octets, channel and map in turn.
@@ -120,7 +106,7 @@ pub fn write(
     ensures { Written (dfs_may (dfs_of owner recovery pairs.now)) (dfs_octets (dfs_of owner recovery pairs.now)) at buffer.old result buffer.new }
 {
     if !may_write(owner, recovery, pairs.len()) {
-        return octets::put(false, pairs, buffer, at);
+        return Err(Refusal::Impossible);
     }
     let head = [
         ID,
@@ -133,9 +119,9 @@ pub fn write(
         owner[5],
         recovery,
     ];
+    let end = HEAD + pairs.len();
     let mut element = [0u8; LONGEST];
-    octets::put(true, &head, &mut element, 0);
-    octets::put(true, pairs, &mut element, 9);
-    let end = 9 + pairs.len();
+    element[..HEAD].copy_from_slice(&head);
+    element[HEAD..end].copy_from_slice(pairs);
     octets::put(true, &element[..end], buffer, at)
 }

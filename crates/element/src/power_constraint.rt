@@ -13,6 +13,7 @@ pub struct PowerConstraint {
     pub decibels: u8,
 }
 
+#[tactic(auto, unfolding(crate::specs::PowerConstraint::power_means, octets::specs::Elements::fixed, answer::specs::Checks::checked))]
 pub fn read(contents: &[u8]) -> Result<PowerConstraint, Refusal>
     ensures { result ≡ power_means contents.now }
 {
@@ -24,6 +25,7 @@ pub fn read(contents: &[u8]) -> Result<PowerConstraint, Refusal>
     })
 }
 
+#[tactic(auto, unfolding(crate::specs::PowerConstraint::power_octets))]
 pub fn write(constraint: PowerConstraint, buffer: &mut [u8], at: usize) -> Result<usize, Refusal>
     ensures { Written (power_may constraint) (power_octets constraint) at buffer.old result buffer.new }
 {

@@ -20,12 +20,10 @@ pub struct Quiet {
 fn is_forbidden(quiet: Quiet, interval: u16) -> bool
     ensures { result ≡ quiet_forbids interval quiet }
 {
-    if quiet.count == 0 {
-        return true;
-    }
-    interval <= quiet.offset
+    quiet.count == 0 || interval <= quiet.offset
 }
 
+#[tactic(auto, unfolding(crate::specs::Quiet::quiet_means, octets::specs::Elements::fixed, answer::specs::Checks::checked))]
 pub fn read(contents: &[u8], interval: u16) -> Result<Quiet, Refusal>
     ensures { result ≡ quiet_means interval contents.now }
 {
@@ -44,6 +42,7 @@ pub fn read(contents: &[u8], interval: u16) -> Result<Quiet, Refusal>
     Ok(quiet)
 }
 
+#[tactic(auto, unfolding(crate::specs::Quiet::quiet_octets))]
 pub fn write(quiet: Quiet, interval: u16, buffer: &mut [u8], at: usize) -> Result<usize, Refusal>
     ensures { Written (quiet_may interval quiet) (quiet_octets quiet) at buffer.old result buffer.new }
 {

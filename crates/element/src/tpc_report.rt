@@ -14,6 +14,7 @@ pub struct TpcReport {
     pub margin: i8,
 }
 
+#[tactic(auto, unfolding(crate::specs::TpcReport::tpc_report_means, octets::specs::Elements::fixed, answer::specs::Checks::checked))]
 pub fn read(contents: &[u8]) -> Result<TpcReport, Refusal>
     ensures { result ≡ tpc_report_means contents.now }
 {
@@ -25,16 +26,15 @@ pub fn read(contents: &[u8]) -> Result<TpcReport, Refusal>
     Ok(TpcReport { power, margin })
 }
 
+#[tactic(auto, unfolding(crate::specs::TpcReport::tpc_report_octets))]
 pub fn write(report: TpcReport, buffer: &mut [u8], at: usize) -> Result<usize, Refusal>
     ensures { Written (tpc_report_may report) (tpc_report_octets report) at buffer.old result buffer.new }
 {
-    let power = report.power;
-    let margin = report.margin;
     let element = [
         ID,
         2,
-        octets::from_signed(power),
-        octets::from_signed(margin),
+        octets::from_signed(report.power),
+        octets::from_signed(report.margin),
     ];
     octets::put(true, &element, buffer, at)
 }

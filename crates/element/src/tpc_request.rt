@@ -7,15 +7,17 @@ use answer::Refusal;
 
 pub const ID: u8 = 34;
 
+#[tactic(auto, unfolding(crate::specs::TpcRequest::tpc_request_means, octets::specs::Elements::fixed, answer::specs::Checks::checked))]
 pub fn read(contents: &[u8]) -> Result<(), Refusal>
     ensures { result ≡ tpc_request_means contents.now }
 {
-    if contents.len() != 0 {
+    if !contents.is_empty() {
         return Err(Refusal::WrongLength);
     }
     Ok(())
 }
 
+#[tactic(auto, unfolding(crate::specs::TpcRequest::tpc_request_octets))]
 pub fn write(buffer: &mut [u8], at: usize) -> Result<usize, Refusal>
     ensures { Written true tpc_request_octets at buffer.old result buffer.new }
 {

@@ -23,10 +23,7 @@ FrameAllowed b (Frame.ChannelSwitch w) qs = switch_forbids w ≡ false
 abbrev pub KindAllowed : ℕ → Kind → Type 0
 KindAllowed b k = FrameAllowed b (frame_of k) (quiets_of k)
 
-abbrev pub ReadingAllowed : ℕ → Placed Frame → List Quiet → Type 0
-ReadingAllowed b (Err x) qs = Unit {0}
-ReadingAllowed b (Ok f) qs = FrameAllowed b f qs
-
 -- what a reader hands out
-abbrev pub ReceivedAllowed : ℕ → Received → Type 0
-ReceivedAllowed b v = ReadingAllowed b v.reading (take v.count v.quiets)
+abbrev pub ReceivedAllowed : ℕ → Placed Received → Type 0
+ReceivedAllowed b (Err x) = Unit {0}
+ReceivedAllowed b (Ok v) = FrameAllowed b v.frame (take v.count v.quiets)

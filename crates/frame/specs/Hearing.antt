@@ -10,10 +10,6 @@ use Rattle.answer.specs.Faults.{Placed, Verdict}
 use Rattle.element.specs.declared.power_constraint.PowerConstraint.{PowerConstraint}
 use Rattle.element.specs.declared.channel_switch.ChannelSwitch.{ChannelSwitch}
 
-abbrev pub verdict_on : Placed Frame → Verdict
-verdict_on (Err x) = Err x
-verdict_on (Ok f) = Ok tt
-
 abbrev changing : Bool → Option PowerConstraint → Option ChannelSwitch → Change
 changing replaces p m = record { replaces = replaces; power = p; switch = m }
 
@@ -32,10 +28,9 @@ by_frame (Frame.TpcRequest token) = nothing
 by_frame (Frame.TpcReport token t) = nothing
 by_frame (Frame.ChannelSwitch w) = changing false None (Some w)
 
-abbrev pub by_reading : Placed Frame → Change
-by_reading (Err x) = nothing
-by_reading (Ok f) = by_frame f
-
 -- what was received, as it is heard
-abbrev pub hearing_of : Received → Hearing
-hearing_of v = record { verdict = verdict_on v.reading; change = by_reading v.reading; quiets = v.quiets; count = v.count }
+abbrev pub heard_of : Received → Hearing
+heard_of v = record { change = by_frame v.frame; quiets = v.quiets; count = v.count }
+
+abbrev pub hearing_of : Placed Received → Placed Hearing
+hearing_of o = and_then o (λ v. Ok (heard_of v))

@@ -7,6 +7,7 @@ use Rattle.frame.specs.IbssFrames.{SentInIbss}
 use Rattle.frame.specs.Laid.{frame_laid}
 use Rattle.frame.specs.declared.ibss.ReceivedInIbss.{ReceivedInIbss}
 
+-- of a refused frame the sender is no one, and no owner is named
 abbrev pub ibss_laid : Placed SentInIbss → ReceivedInIbss
-ibss_laid (Err x) = record { received = frame_laid (Err x); sender = replicate 6 0; names = false; dfs = dfs_fields absent }
-ibss_laid (Ok s) = record { received = frame_laid (Ok s.sent); sender = s.sender; names = has_dfs s.dfs; dfs = dfs_fields s.dfs }
+ibss_laid (Err x) = record { received = Err x; sender = replicate 6 0; dfs = None }
+ibss_laid (Ok s) = record { received = frame_laid (Ok s.sent); sender = s.sender; dfs = option_map dfs_fields s.dfs }

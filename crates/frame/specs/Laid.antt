@@ -1,4 +1,4 @@
--- A frame as the code hands it out: counts in place of lists, Quiet elements in slots beside it. A refusal leaves one fixed value.
+-- A frame as the code hands it out: counts in place of lists, Quiet elements in slots beside it.
 use Rattle.std.specs.Prelude.{Bool, true, false, List, [], length, Ok, Err}
 use Rattle.answer.specs.Checks.{and_then}
 use Rattle.answer.specs.Faults.{Placed}
@@ -22,8 +22,9 @@ action_frame (switch s) = Frame.ChannelSwitch s
 abbrev pub body_frame : Placed Body → Placed Frame
 body_frame o = and_then o (λ body. Ok (action_frame body))
 
-abbrev pub received : Placed Frame → Bool → List Quiet → Received
-received reading to_all qs = record { reading = reading; broadcast = to_all; quiets = slots qs; count = length qs }
+-- a frame, whether it was sent to all ones, and its Quiet elements in slots
+abbrev pub received : Frame → Bool → List Quiet → Received
+received frame to_all qs = record { frame = frame; broadcast = to_all; quiets = slots qs; count = length qs }
 
 -- the frame of each kind, and the Quiet elements beside it
 abbrev pub frame_of : Kind → Frame
@@ -36,9 +37,8 @@ quiets_of (beacon t) = t.quiets
 quiets_of (probe_response t) = t.quiets
 quiets_of (action body) = []
 
-abbrev pub frame_laid : Placed Sent → Received
-frame_laid (Err x) = received (Err x) false []
-frame_laid (Ok s) = received (Ok (frame_of s.kind)) s.to_all (quiets_of s.kind)
+abbrev pub frame_laid : Placed Sent → Placed Received
+frame_laid o = and_then o (λ s. Ok (received (frame_of s.kind) s.to_all (quiets_of s.kind)))
 
 -- ---- the code's own terms, which no public promise cites
 

@@ -17,88 +17,60 @@ use header::{Cell, Header, Subtype};
 use answer::Refusal;
 use element::ibss_dfs::ChannelMap;
 
-// What was received, who sent it, and whether it names a DFS owner, by the element 41 of a beacon. A refusal leaves everything else at one fixed value.
+// What was received, who sent it, and the element 41 of a beacon, which names a DFS owner. Of a refused frame the sender is no one, and no owner is named.
 #[derive(Clone, Copy)]
 pub struct ReceivedInIbss {
-    pub received: Received,
+    pub received: Result<Received, Fault>,
     pub sender: [u8; 6],
-    pub names: bool,
-    pub dfs: IbssDfs,
+    pub dfs: Option<IbssDfs>,
 }
 
-// The same, with the pair of element 41 at an index.
+// A frame that was read, and its element 41, with the pair at an index.
 #[derive(Clone, Copy)]
 pub struct HeardInIbss {
     pub received: Received,
-    pub sender: [u8; 6],
-    pub dfs: HeardDfs,
-}
-
-// A frame that was read, with its sender and its element 41; beside a refusal there is neither.
-fn sent_by(received: Received, sender: [u8; 6], dfs: HeardDfs) -> HeardInIbss
-    ensures { result ≡ sent_by received sender dfs }
-{
-    let reading = received.reading;
-    match reading {
-        Err(_) => HeardInIbss {
-            received,
-            sender: [0; 6],
-            dfs: HeardDfs::NONE,
-        },
-        Ok(_) => HeardInIbss {
-            received,
-            sender,
-            dfs,
-        },
-    }
+    pub dfs: Option<HeardDfs>,
 }
 
 // The body of a beacon.
-fn read_beacon(
-    body: &[u8],
-    interval: u16,
-    broadcast: bool,
-    sender: [u8; 6],
-    index: usize,
-) -> HeardInIbss
+fn read_beacon(body: &[u8], interval: u16, broadcast: bool, index: usize) -> Result<HeardInIbss, Fault>
     requires { length body.now ≤ longest_body }
-    ensures { result ≡ heard_laid index (sent_in_ibss sender broadcast (placed_past header_length (kind_in_ibss interval Subtype.Beacon body.now))) }
+    ensures { (sender : List ℕ) → result ≡ heard_laid index (sent_in_ibss sender broadcast (placed_past header_length (kind_in_ibss interval Subtype.Beacon body.now))) }
 {
-    let heard = beacon::read(body, interval, true, index);
-    let dfs = heard.dfs;
-    sent_by(crate::notice_frame(heard, false, broadcast), sender, dfs)
+    match beacon::read(body, interval, true, index) {
+        Err(fault) => Err(places::fault_in_frame(fault)),
+        Ok(heard) => Ok(HeardInIbss {
+            received: crate::notice_frame(heard, false, broadcast),
+            dfs: heard.dfs,
+        }),
+    }
+}
+
+// A frame with no element 41 read.
+fn nameless(received: Received) -> HeardInIbss
+    ensures { result ≡ record { received = received; dfs = None } }
+{
+    HeardInIbss {
+        received,
+        dfs: None,
+    }
 }
 
 // A frame, with the pair at an index of its element 41.
-fn hear(frame: &[u8], own: [u8; 6], bssid: [u8; 6], interval: u16, index: usize) -> HeardInIbss
+fn hear(frame: &[u8], own: [u8; 6], bssid: [u8; 6], interval: u16, index: usize) -> Result<HeardInIbss, Fault>
     ensures { result ≡ heard_laid index (ibss_frame_means own bssid interval frame.now) }
 {
-    let sender = header::sender(frame);
-    match header::read(frame, Cell::Ibss, own, bssid) {
-        Header::Refused(refusal) => {
-            let fault = Fault::nowhere(refusal);
-            sent_by(
-                crate::alone(Err(fault), false),
-                sender,
-                HeardDfs::NONE,
-            )
+    let head = header::read(frame, Cell::Ibss, own, bssid).map_err(Fault::nowhere)?;
+    let body = header::body(frame);
+    match head.subtype {
+        Subtype::Beacon => read_beacon(body, interval, head.to_all, index),
+        Subtype::ProbeResponse => {
+            let received = crate::read_notice(body, interval, true, head.to_all)?;
+            Ok(nameless(received))
         }
-        Header::Is {
-            subtype,
-            to_all: broadcast,
-        } => {
-            let body = header::body(frame);
-            match subtype {
-                Subtype::Beacon => read_beacon(body, interval, broadcast, sender, index),
-                Subtype::ProbeResponse => {
-                    let received = crate::read_notice(body, interval, true, broadcast);
-                    sent_by(received, sender, HeardDfs::NONE)
-                }
-                Subtype::Action => {
-                    let received = crate::read_action(body, broadcast);
-                    sent_by(received, sender, HeardDfs::NONE)
-                }
-            }
+        Subtype::Action => {
+            let received = crate::read_action(body, head.to_all)?;
+            Ok(nameless(received))
         }
     }
 }
@@ -107,34 +79,35 @@ fn hear(frame: &[u8], own: [u8; 6], bssid: [u8; 6], interval: u16, index: usize)
 pub fn read_in_ibss(frame: &[u8], own: [u8; 6], bssid: [u8; 6], interval: u16) -> ReceivedInIbss
     ensures { result ≡ ibss_laid (ibss_frame_means own bssid interval frame.now) }
 {
-    let heard = hear(frame, own, bssid, interval, 0);
-    let received = heard.received;
-    let sender = heard.sender;
-    let named = heard.dfs;
-    let dfs = named.dfs;
-    ReceivedInIbss {
-        received,
-        sender,
-        names: named.names,
-        dfs,
+    match hear(frame, own, bssid, interval, 0) {
+        Err(fault) => ReceivedInIbss {
+            received: Err(fault),
+            sender: [0; 6],
+            dfs: None,
+        },
+        Ok(heard) => ReceivedInIbss {
+            received: Ok(heard.received),
+            sender: header::sender(frame),
+            dfs: heard.dfs.map(|named| named.dfs),
+        },
     }
 }
 
-// The pair of its element 41 at an index.
-pub fn dfs_pair_at(frame: &[u8], own: [u8; 6], bssid: [u8; 6], interval: u16, index: usize) -> Result<ChannelMap, Refusal>
+// The pair of its element 41 at an index: 16 where there is none, or no element 41.
+pub fn dfs_pair_at(
+    frame: &[u8],
+    own: [u8; 6],
+    bssid: [u8; 6],
+    interval: u16,
+    index: usize,
+) -> Result<ChannelMap, Refusal>
     ensures { result ≡ pair_of index (ibss_frame_means own bssid interval frame.now) }
 {
-    let heard = hear(frame, own, bssid, interval, index);
-    let received = heard.received;
-    let reading = received.reading;
-    match reading {
-        Err(fault) => {
-            let refusal = fault.refusal;
-            Err(refusal)
-        }
-        Ok(_) => {
-            let named = heard.dfs;
-            named.pair
-        }
+    match hear(frame, own, bssid, interval, index) {
+        Err(fault) => Err(fault.refusal),
+        Ok(heard) => match heard.dfs {
+            None => Err(Refusal::Impossible),
+            Some(named) => named.pair,
+        },
     }
 }

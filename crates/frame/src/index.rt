@@ -3,122 +3,97 @@ ghost use Rattle.std.specs.Prelude.{◌≡◌, ◌≤◌, length};
 ghost use Rattle.answer.specs.Checks.{and_then};
 ghost use Rattle.answer.specs.Faults.{placed_past, without_place};
 ghost use Rattle.frame.specs.Actions.{action_means};
-ghost use Rattle.frame.specs.CodeTerms.Located.{PlaceWithin, read_there, located_in, kind_means};
+ghost use Rattle.frame.specs.CodeTerms.Located.{PlaceWithin, means_at, located_in, kind_means, asked_of};
 ghost use Rattle.frame.specs.Frames.{kind_of, frame_means, request_in, report_in, element_of};
 ghost use Rattle.frame.specs.Laid.{body_frame};
 ghost use Rattle.header.specs.Headers.{header_length, body_of};
 ghost use Rattle.measurement_body.specs.Bodies.{longest_body};
 ghost use Rattle.header.specs.declared.management.Subtype.{Subtype};
-ghost use Rattle.measurement_element.specs.MeasurementReport.{report_means, report_laid};
+ghost use Rattle.measurement_element.specs.MeasurementReport.{report_means};
 ghost use Rattle.measurement_element.specs.MeasurementRequest.{request_means};
 
 use crate::bodies::Located;
 use crate::{bodies, places};
 use answer::{Fault, Refusal};
-use header::{Cell, Header, Subtype};
-use measurement_body::Place;
+use header::Cell;
+use walk::Contents;
 use measurement_element::{measurement_report, measurement_request};
+use measurement_element::measurement_report::Report;
 use measurement_element::measurement_request::Request;
-use crate::Frame;
+use crate::{BodyKind, Frame};
 
 // An action body, and its request at an index.
 #[derive(Clone, Copy)]
 pub struct Asked {
-    pub reading: Result<Frame, Fault>,
+    pub frame: Frame,
     pub request: Result<Request, Refusal>,
 }
 
-// The request at a place of a body that was read so: a refused body keeps its refusal, and no place is 16.
-fn request_there(body: &[u8], reading: Result<Frame, Fault>, place: Place) -> Result<Request, Refusal>
+// The request at a place of a body: no place is 16.
+fn request_there(body: &[u8], place: Option<Contents>) -> Result<Request, Refusal>
     requires { PlaceWithin body.now place }
-    ensures { result ≡ read_there request_means body.now reading place }
+    ensures { result ≡ means_at request_means body.now place }
 {
-    match reading {
-        Err(fault) => {
-            let refusal = fault.refusal;
-            Err(refusal)
-        }
-        Ok(_) => match place {
-            Place::Absent => Err(Refusal::Impossible),
-            Place::Contents { start, end } => measurement_request::read(&body[start..end]),
-        },
+    match place {
+        None => Err(Refusal::Impossible),
+        Some(contents) => measurement_request::read(&body[contents.start..contents.end]),
     }
 }
 
-// The same of a report.
-fn report_there(body: &[u8], reading: Result<Frame, Fault>, place: Place) -> measurement_report::Reading
+// The report at a place of a body: no place is 16.
+fn report_there(body: &[u8], place: Option<Contents>) -> Result<Report, Refusal>
     requires { PlaceWithin body.now place }
-    ensures { result ≡ report_laid (read_there report_means body.now reading place) }
+    ensures { result ≡ means_at report_means body.now place }
 {
-    match reading {
-        Err(fault) => {
-            let refusal = fault.refusal;
-            measurement_report::refused(refusal)
-        }
-        Ok(_) => match place {
-            Place::Absent => measurement_report::refused(Refusal::Impossible),
-            Place::Contents { start, end } => measurement_report::read(&body[start..end]),
-        },
+    match place {
+        None => Err(Refusal::Impossible),
+        Some(contents) => measurement_report::read(&body[contents.start..contents.end]),
     }
 }
 
 // An action body and its request at an index, in one walk.
-pub fn read_request(body: &[u8], index: usize) -> Asked
-    ensures reading_value { result.reading ≡ body_frame (action_means body.now) }
-    ensures request_value { result.request ≡ and_then (without_place (action_means body.now)) (request_in index) }
+pub fn read_request(body: &[u8], index: usize) -> Result<Asked, Fault>
+    ensures { result ≡ asked_of index (action_means body.now) }
 {
-    let found = bodies::read_at(body, index);
-    let reading = found.reading;
-    let place = found.request;
-    let request = request_there(body, reading, place);
-    Asked { reading, request }
+    let found = bodies::read_at(body, index)?;
+    Ok(Asked {
+        frame: found.frame,
+        request: request_there(body, found.request),
+    })
 }
 
 // The request at an index of an action body.
 pub fn request_in(body: &[u8], index: usize) -> Result<Request, Refusal>
     ensures { result ≡ and_then (without_place (action_means body.now)) (request_in index) }
 {
-    let asked = read_request(body, index);
-    asked.request
+    match read_request(body, index) {
+        Err(fault) => Err(fault.refusal),
+        Ok(asked) => asked.request,
+    }
 }
 
 // An action frame by its body: where its element at an index lies is a place in the body, and where it broke one in the frame.
-fn locate_action(body: &[u8], index: usize) -> Located
+fn locate_action(body: &[u8], index: usize) -> Result<Located, Fault>
     requires { length body.now ≤ longest_body }
     ensures { result ≡ located_in index body.now (placed_past header_length (kind_of 0 Subtype.Action body.now)) }
 {
-    let found = bodies::read_at(body, index);
-    let reading = found.reading;
-    let request = found.request;
-    let report = found.report;
-    Located {
-        reading: places::reading_in_frame(reading),
-        request,
-        report,
+    match bodies::read_at(body, index) {
+        Err(fault) => Err(places::fault_in_frame(fault)),
+        Ok(found) => Ok(found),
     }
 }
 
 // A frame, and where in its body the element at an index lies: beacons and probe responses have none.
-fn locate(frame: &[u8], own: [u8; 6], ap: [u8; 6], interval: u16, index: usize) -> Located
+fn locate(frame: &[u8], own: [u8; 6], ap: [u8; 6], interval: u16, index: usize) -> Result<Located, Fault>
     ensures { result ≡ located_in index (body_of frame.now) (kind_means own ap interval frame.now) }
 {
-    match header::read(frame, Cell::Ap, own, ap) {
-        Header::Refused(refusal) => bodies::unplaced(Err(Fault::nowhere(refusal))),
-        Header::Is { subtype, to_all: _ } => {
-            let body = header::body(frame);
-            match subtype {
-                Subtype::Action => locate_action(body, index),
-                Subtype::Beacon => {
-                    let heard = crate::read_notice(body, interval, false, false);
-                    let reading = heard.reading;
-                    bodies::unplaced(reading)
-                }
-                Subtype::ProbeResponse => {
-                    let heard = crate::read_notice(body, interval, true, false);
-                    let reading = heard.reading;
-                    bodies::unplaced(reading)
-                }
-            }
+    let head = header::read(frame, Cell::Ap, own, ap).map_err(Fault::nowhere)?;
+    let body = header::body(frame);
+    match crate::body_kind(head.subtype) {
+        BodyKind::Action => locate_action(body, index),
+        BodyKind::Notice { probe } => {
+            let heard = crate::read_notice(body, interval, probe, false)?;
+            Ok(bodies::unplaced(heard.frame))
         }
     }
 }
@@ -133,10 +108,10 @@ pub fn request_at(
 ) -> Result<Request, Refusal>
     ensures { result ≡ element_of request_in index (frame_means own ap interval frame.now) }
 {
-    let found = locate(frame, own, ap, interval, index);
-    let reading = found.reading;
-    let place = found.request;
-    request_there(header::body(frame), reading, place)
+    match locate(frame, own, ap, interval, index) {
+        Err(fault) => Err(fault.refusal),
+        Ok(found) => request_there(header::body(frame), found.request),
+    }
 }
 
 // The report at an index of a frame.
@@ -146,11 +121,11 @@ pub fn report_at(
     ap: [u8; 6],
     interval: u16,
     index: usize,
-) -> measurement_report::Reading
-    ensures { result ≡ report_laid (element_of report_in index (frame_means own ap interval frame.now)) }
+) -> Result<Report, Refusal>
+    ensures { result ≡ element_of report_in index (frame_means own ap interval frame.now) }
 {
-    let found = locate(frame, own, ap, interval, index);
-    let reading = found.reading;
-    let place = found.report;
-    report_there(header::body(frame), reading, place)
+    match locate(frame, own, ap, interval, index) {
+        Err(fault) => Err(fault.refusal),
+        Ok(found) => report_there(header::body(frame), found.report),
+    }
 }

@@ -10,7 +10,7 @@ mod places;
 ghost use Rattle.std.specs.Prelude.{◌≡◌, [], ◌≤◌, length};
 ghost use Rattle.answer.specs.Faults.{placed_past};
 ghost use Rattle.frame.specs.CodeTerms.BodyKinds.{kind_subtype};
-ghost use Rattle.frame.specs.CodeTerms.Notices.{VerdictWithin, notice_frame};
+ghost use Rattle.frame.specs.CodeTerms.Notices.{notice_frame};
 ghost use Rattle.frame.specs.Frames.{kind_of, sent, frame_means};
 ghost use Rattle.frame.specs.Laid.{received, frame_laid, notice_subtype};
 ghost use Rattle.header.specs.Headers.{header_length};
@@ -23,8 +23,8 @@ pub use bodies::read_body;
 use element::channel_switch::ChannelSwitch;
 use element::quiet::Quiet;
 use element::tpc_report::TpcReport;
-use header::{Cell, Header, Subtype};
-pub use hearing::{Change, Hearing, hear, verdict_on};
+use header::{Cell, Subtype};
+pub use hearing::{Change, Hearing, hear};
 pub use ibss::{ReceivedInIbss, dfs_pair_at, read_in_ibss};
 pub use index::{Asked, read_request, report_at, request_at, request_in};
 
@@ -41,72 +41,63 @@ pub enum Frame {
 }
 
 // What was received: the frame, whether it was sent to all ones, and the Quiet elements of a beacon or a probe response beside it,
-// the first `count` slots in the order of the frame and the others blank. A refusal leaves everything else at one fixed value.
+// the first `count` slots in the order of the frame and the others blank.
 #[derive(Clone, Copy)]
 pub struct Received {
-    pub reading: Result<Frame, Fault>,
+    pub frame: Frame,
     pub broadcast: bool,
     pub quiets: [Quiet; QUIETS],
     pub count: usize,
 }
 
-// A reading with no Quiet element beside it.
-fn alone(reading: Result<Frame, Fault>, broadcast: bool) -> Received
-    ensures { result ≡ received reading broadcast [] }
+// A frame with no Quiet element beside it.
+fn alone(frame: Frame, broadcast: bool) -> Received
+    ensures { result ≡ received frame broadcast [] }
 {
-    let quiets = [NO_QUIET; QUIETS];
     Received {
-        reading,
+        frame,
         broadcast,
-        quiets,
+        quiets: [NO_QUIET; QUIETS],
         count: 0,
     }
 }
 
 // A body that was heard, as the frame that it makes.
 fn notice_frame(heard: Heard, probe: bool, broadcast: bool) -> Received
-    requires { VerdictWithin longest_body heard.verdict }
     ensures { result ≡ notice_frame probe broadcast heard }
 {
-    let verdict = heard.verdict;
-    let notice = heard.notice;
-    let quiets = heard.quiets;
-    match verdict {
-        Err(fault) => alone(Err(places::fault_in_frame(fault)), false),
-        Ok(()) => {
-            let frame = if probe {
-                Frame::ProbeResponse(notice)
-            } else {
-                Frame::Beacon(notice)
-            };
-            Received {
-                reading: Ok(frame),
-                broadcast,
-                quiets,
-                count: heard.count,
-            }
-        }
+    let frame = if probe {
+        Frame::ProbeResponse(heard.notice)
+    } else {
+        Frame::Beacon(heard.notice)
+    };
+    Received {
+        frame,
+        broadcast,
+        quiets: heard.quiets,
+        count: heard.count,
     }
 }
 
 // A beacon, where `probe` is false, or a probe response: their bodies are the same.
-fn read_notice(body: &[u8], interval: u16, probe: bool, broadcast: bool) -> Received
+fn read_notice(body: &[u8], interval: u16, probe: bool, broadcast: bool) -> Result<Received, Fault>
     requires { length body.now ≤ longest_body }
     ensures { result ≡ frame_laid (sent broadcast (placed_past header_length (kind_of interval (notice_subtype probe) body.now))) }
 {
-    let heard = beacon::read(body, interval, false, 0);
-    notice_frame(heard, probe, broadcast)
+    match beacon::read(body, interval, false, 0) {
+        Err(fault) => Err(places::fault_in_frame(fault)),
+        Ok(heard) => Ok(notice_frame(heard, probe, broadcast)),
+    }
 }
 
 // An action frame.
-fn read_action(body: &[u8], broadcast: bool) -> Received
+fn read_action(body: &[u8], broadcast: bool) -> Result<Received, Fault>
     requires { length body.now ≤ longest_body }
     ensures { result ≡ frame_laid (sent broadcast (placed_past header_length (kind_of 0 Subtype.Action body.now))) }
 {
-    let reading = places::reading_in_frame(read_body(body));
-    match reading {
-        Err(fault) => alone(Err(fault), false),
-        Ok(frame) => alone(Ok(frame), broadcast),
+    match read_body(body) {
+        Err(fault) => Err(places::fault_in_frame(fault)),
+        Ok(frame) => Ok(alone(frame, broadcast)),
     }
 }
 
@@ -128,20 +119,13 @@ fn body_kind(subtype: Subtype) -> BodyKind
 }
 
 // A frame that a station hears: `own` is its address, `ap` its AP's, `interval` its beacon interval.
-pub fn read(frame: &[u8], own: [u8; 6], ap: [u8; 6], interval: u16) -> Received
+pub fn read(frame: &[u8], own: [u8; 6], ap: [u8; 6], interval: u16) -> Result<Received, Fault>
     ensures { result ≡ frame_laid (frame_means own ap interval frame.now) }
 {
-    match header::read(frame, Cell::Ap, own, ap) {
-        Header::Refused(refusal) => alone(Err(Fault::nowhere(refusal)), false),
-        Header::Is {
-            subtype,
-            to_all: broadcast,
-        } => {
-            let body = header::body(frame);
-            match body_kind(subtype) {
-                BodyKind::Notice { probe } => read_notice(body, interval, probe, broadcast),
-                BodyKind::Action => read_action(body, broadcast),
-            }
-        }
+    let head = header::read(frame, Cell::Ap, own, ap).map_err(Fault::nowhere)?;
+    let body = header::body(frame);
+    match body_kind(head.subtype) {
+        BodyKind::Notice { probe } => read_notice(body, interval, probe, head.to_all),
+        BodyKind::Action => read_action(body, head.to_all),
     }
 }

@@ -1,5 +1,5 @@
 -- From what `frame::read_in_ibss` hands out to what the frame means to a station of an IBSS. Assumes nothing.
-use Rattle.std.specs.Prelude.{Ok, Err}
+use Rattle.std.specs.Prelude.{is_some, Ok, Err, Some, None, Option}
 use mathlib.Core.Bool.{Bool, true, false, not, ◌&&◌}
 use mathlib.Core.List.{List}
 use mathlib.Core.Logic.{◌⊎◌, inl, inr}
@@ -12,7 +12,6 @@ use Rattle.answer.specs.Checks.{pick, checked, and_then}
 use Rattle.answer.specs.Faults.{Placed, fault_nowhere, Verdict}
 use Rattle.answer.specs.declared.Refusal.{Refusal}
 use Rattle.beacon.specs.Beacons.{Told}
-use Rattle.beacon.specs.IbssBeacons.{MaybeDfs, absent, is, has_dfs}
 use Rattle.beacon.specs.Laid.{dfs_fields}
 use Rattle.beacon.specs.Notices.{has_switch}
 use Rattle.element.specs.IbssDfs.{Dfs}
@@ -62,7 +61,7 @@ heard_as o a (action (switch w)) = refl
 is_sent : {x y : Sent} → ◌≡◌ {A = Placed Sent} (Ok x) (Ok y) → x ≡ y
 is_sent e = cc
 
-same_recovery : {d d' : Dfs} → is d ≡ is d' → d.recovery ≡ d'.recovery
+same_recovery : {d d' : Dfs} → Some d ≡ Some d' → d.recovery ≡ d'.recovery
 same_recovery e = cc
 
 module _ (m : Member) where
@@ -77,9 +76,9 @@ module _ (m : Member) where
   abbrev taken_as : Verdict → Member → Taken
   taken_as verdict next = record { verdict = verdict; member = next }
 
-  named_as : (d : MaybeDfs) → pick (has_dfs d) (named m.owner (dfs_fields d).owner (dfs_fields d).recovery) m.owner ≡ named_by m.owner d
-  named_as absent = refl
-  named_as (is d) = refl
+  named_as : (d : Option Dfs) → pick (is_some d) (named m.owner (dfs_fields d).owner (dfs_fields d).recovery) m.owner ≡ named_by m.owner d
+  named_as None = refl
+  named_as (Some d) = refl
 
   module _ (x : SentInIbss) where
     foreign_as : foreign_in (ibss_laid (Ok x)) ≡ foreign_announcement (named_by m.owner x.dfs) x
@@ -119,15 +118,15 @@ module _ (m : Member) where
 
   -- ---- the owner still fits
 
-  pub owner_fits_after : OwnerFits m.owner → (o : Placed SentInIbss) → ((x : SentInIbss) → o ≡ Ok x → (d : Dfs) → x.dfs ≡ is d → 1 ≤ d.recovery)
+  pub owner_fits_after : OwnerFits m.owner → (o : Placed SentInIbss) → ((x : SentInIbss) → o ≡ Ok x → (d : Dfs) → x.dfs ≡ Some d → 1 ≤ d.recovery)
       → OwnerFits (owner_after (ibss_laid o))
   owner_fits_after fits (Err q) some = fits
   owner_fits_after fits (Ok x) some =
       by (is_beacon (Ok (frame_of x.sent.kind))) (by_dfs x.dfs refl)
     where
-      by_dfs : (d : MaybeDfs) → x.dfs ≡ d → OwnerFits (pick (has_dfs d) (named m.owner (dfs_fields d).owner (dfs_fields d).recovery) m.owner)
-      by_dfs absent e = fits
-      by_dfs (is d) e = named_fits m.owner d.owner d.recovery fits (some x refl d e)
+      by_dfs : (d : Option Dfs) → x.dfs ≡ d → OwnerFits (pick (is_some d) (named m.owner (dfs_fields d).owner (dfs_fields d).recovery) m.owner)
+      by_dfs None e = fits
+      by_dfs (Some d) e = named_fits m.owner d.owner d.recovery fits (some x refl d e)
 
       by : (is-beacon : Bool) → OwnerFits (owner_named m.owner (ibss_laid (Ok x)))
           → OwnerFits (pick is-beacon (heard_from (owner_named m.owner (ibss_laid (Ok x))) x.sender) (owner_named m.owner (ibss_laid (Ok x))))
@@ -144,9 +143,9 @@ module _ (own bss : List ℕ) (b : ℕ) (f : List ℕ) where
       by (Err q) e = received_allowed b (Err q) (λ x g. absurd (never g))
       by (Ok x) e = received_allowed b (Ok x.sent) (λ y g. subst (λ (z : Sent). KindAllowed b z.kind) (is_sent g) (ibss_allowed own bss b f x e))
 
-  pub named_recovery : (x : SentInIbss) → ibss_frame_means own bss b f ≡ Ok x → (d : Dfs) → x.dfs ≡ is d → 1 ≤ d.recovery
+  pub named_recovery : (x : SentInIbss) → ibss_frame_means own bss b f ≡ Ok x → (d : Dfs) → x.dfs ≡ Some d → 1 ≤ d.recovery
   named_recovery x e d y = by (sent_names own bss b f x e)
     where
-      by : (x.dfs ≡ absent) ⊎ ((told : Told) × (d' : Dfs) × (x.sent.kind ≡ beacon told) × (x.dfs ≡ is d') × (1 ≤ d'.recovery)) → 1 ≤ d.recovery
-      by (inl z) = absurd (let c : absent ≡ is d = sym z ∙ y in let q : ◌≡◌ {A = ℕ} 0 1 = cc in omega arith)
+      by : (x.dfs ≡ None) ⊎ ((told : Told) × (d' : Dfs) × (x.sent.kind ≡ beacon told) × (x.dfs ≡ Some d') × (1 ≤ d'.recovery)) → 1 ≤ d.recovery
+      by (inl z) = absurd (let c : None ≡ Some d = sym z ∙ y in let q : ◌≡◌ {A = ℕ} 0 1 = cc in omega arith)
       by (inr (told, d', k, z, some)) = subst (λ (n : ℕ). 1 ≤ n) (same_recovery (sym z ∙ y)) some

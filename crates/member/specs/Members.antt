@@ -1,9 +1,8 @@
 -- A station of an IBSS (02, Five): document 01's station, whose AP is the BSSID, and the DFS owner that it follows.
-use Rattle.std.specs.Prelude.{Bool, not, ◌&&◌, List, [], ◌∷◌, ℕ, Ok, Err}
+use Rattle.std.specs.Prelude.{Bool, not, ◌&&◌, List, [], ◌∷◌, ℕ, Ok, Err, Some, None, Option}
 use Rattle.answer.specs.Checks.{Outcome, ◌⇒◌, checked, and_then}
 use Rattle.answer.specs.Faults.{Placed, fault_nowhere}
 use Rattle.answer.specs.declared.Refusal.{Refusal}
-use Rattle.beacon.specs.IbssBeacons.{MaybeDfs, absent, is}
 use Rattle.beacon.specs.Notices.{has_switch}
 use Rattle.frame.specs.Announcements.{announcement_in}
 use Rattle.frame.specs.Frames.{Kind, beacon, probe_response, action}
@@ -12,32 +11,28 @@ use Rattle.owner.specs.Owners.{unknown, is_owner, named, heard_from, past_tbtts}
 use Rattle.owner.specs.Tbtts.{tbtts_in}
 use Rattle.owner.specs.declared.Owner.{Owner}
 use Rattle.station.specs.Clock.{advance_means}
-use Rattle.station.specs.Starting.{blank, start_means}
+use Rattle.station.specs.Starting.{start_means}
 use Rattle.station.specs.Taking.{heard}
 use Rattle.station.specs.declared.Station.{Station}
 use Rattle.member.specs.declared.Member.{Member}
-use Rattle.member.specs.declared.starting.Started.{Started}
 use Rattle.member.specs.declared.clock.Stepped.{Stepped}
 use Rattle.member.specs.declared.taking.Taken.{Taken}
+use Rattle.element.specs.IbssDfs.{Dfs}
 
 abbrev pub member_of : Station → Owner → Member
 member_of s o = record { station = s; owner = o }
 
 -- ---- start: 15 as in 01; "at start the owner is unknown"
 
-abbrev pub member_started : Outcome Station → Started
-member_started (Err r) = record { answer = Err r; member = member_of blank unknown }
-member_started (Ok s) = record { answer = Ok tt; member = member_of s unknown }
-
-abbrev pub start_of : List ℕ → List ℕ → ℕ → ℕ → Started
-start_of own bssid b channel = member_started (start_means own bssid b channel)
+abbrev pub start_of : List ℕ → List ℕ → ℕ → ℕ → Outcome Member
+start_of own bssid b channel = and_then (start_means own bssid b channel) (λ s. Ok (member_of s unknown))
 
 -- ---- frames
 
 -- "The latest accepted beacon with element 41 decides owner and interval"
-abbrev pub named_by : Owner → MaybeDfs → Owner
-named_by o absent = o
-named_by o (is d) = named o d.owner d.recovery
+abbrev pub named_by : Owner → Option Dfs → Owner
+named_by o None = o
+named_by o (Some d) = named o d.owner d.recovery
 
 -- a beacon is heard from its sender
 abbrev pub heard_by : Owner → List ℕ → Kind → Owner

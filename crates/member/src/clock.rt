@@ -32,13 +32,13 @@ impl Member {
         let station = self.station;
         let owner = self.owner;
         let stepped = station.advance(units);
-        let answer = stepped.answer;
-        let next = stepped.station;
-        let past = owner.past(tbtts_between(station.clock, next.clock, station.interval));
-        let member = Member {
-            station: next,
-            owner: past,
-        };
-        Stepped { answer, member }
+        let past = owner.past(tbtts_between(station.clock, stepped.station.clock, station.interval));
+        Stepped {
+            answer: stepped.answer,
+            member: Member {
+                station: stepped.station,
+                owner: past,
+            },
+        }
     }
 }

@@ -11,7 +11,6 @@ ghost use Rattle.station.specs.Asking.{permission_of};
 
 pub use clock::Stepped;
 use owner::Owner;
-pub use starting::Started;
 use station::{Permission, Station};
 pub use taking::Taken;
 
@@ -28,7 +27,6 @@ impl Member {
         requires { ValidMember self }
         ensures { result ≡ permission_of self.station units }
     {
-        let station = self.station;
-        station.ask(units)
+        self.station.ask(units)
     }
 }

@@ -1,7 +1,6 @@
 // Taking a frame in an IBSS (document 02, Five; 802.11h 11.6.7.2).
 ghost use Rattle.std.specs.Prelude.{not, ◌&&◌, ◌≡◌};
 ghost use Rattle.answer.specs.Checks.{pick};
-ghost use Rattle.beacon.specs.Notices.{has_switch};
 ghost use Rattle.member.specs.CodeTerms.Readings.{announces, is_beacon, owner_named};
 ghost use Rattle.member.specs.Members.{take_of};
 ghost use Rattle.member.specs.Validity.{ValidMember};
@@ -9,8 +8,8 @@ ghost use Rattle.owner.specs.Owners.{is_owner, heard_from};
 
 use crate::Member;
 use answer::{Fault, Refusal};
-use beacon::Notice;
-use frame::{Frame, ReceivedInIbss};
+use element::ibss_dfs::IbssDfs;
+use frame::{Frame, Received};
 use owner::Owner;
 
 // The verdict on a frame, and the station after it: the same as before where the frame was refused.
@@ -20,86 +19,53 @@ pub struct Taken {
     pub member: Member,
 }
 
-// Whether a beacon or a probe response has an announcement.
-fn notice_announces(notice: Notice) -> bool
-    ensures { result ≡ has_switch notice.switch }
-{
-    let switch = notice.switch;
-    match switch {
-        None => false,
-        Some(_) => true,
-    }
-}
-
 // Whether what was read has an announcement.
-fn announces(reading: Result<Frame, Fault>) -> bool
-    ensures { result ≡ announces reading }
+fn announces(received: Result<Received, Fault>) -> bool
+    ensures { result ≡ announces received }
 {
-    match reading {
+    match received {
         Err(_broken) => false,
-        Ok(frame) => match frame {
-            Frame::Beacon(notice) => notice_announces(notice),
-            Frame::ProbeResponse(notice) => notice_announces(notice),
+        Ok(received) => match received.frame {
+            Frame::Beacon(notice) => notice.switch.is_some(),
+            Frame::ProbeResponse(notice) => notice.switch.is_some(),
             Frame::ChannelSwitch(_) => true,
-            Frame::MeasurementRequest { token: _, count: _ } => false,
-            Frame::MeasurementReport { token: _, count: _ } => false,
-            Frame::TpcRequest { token: _ } => false,
-            Frame::TpcReport {
-                token: _,
-                report: _,
-            } => false,
+            _ => false,
         },
     }
 }
 
 // Whether it is a beacon: nothing else is one from the owner.
-fn is_beacon(reading: Result<Frame, Fault>) -> bool
-    ensures { result ≡ is_beacon reading }
+fn is_beacon(received: Result<Received, Fault>) -> bool
+    ensures { result ≡ is_beacon received }
 {
-    match reading {
+    match received {
         Err(_) => false,
-        Ok(frame) => match frame {
-            Frame::Beacon(_) => true,
-            Frame::ProbeResponse(_) => false,
-            Frame::ChannelSwitch(_) => false,
-            Frame::MeasurementRequest { token: _, count: _ } => false,
-            Frame::MeasurementReport { token: _, count: _ } => false,
-            Frame::TpcRequest { token: _ } => false,
-            Frame::TpcReport {
-                token: _,
-                report: _,
-            } => false,
-        },
+        Ok(received) => matches!(received.frame, Frame::Beacon(_)),
     }
 }
 
 // The owner that a beacon's element 41 names, or the one before.
-fn named_by(owner: Owner, received: ReceivedInIbss) -> Owner
-    ensures { result ≡ owner_named owner received }
+fn named_by(owner: Owner, dfs: Option<IbssDfs>) -> Owner
+    ensures { result ≡ owner_named owner dfs }
 {
-    let dfs = received.dfs;
-    let address = dfs.owner;
-    if received.names {
-        return owner.named(address, dfs.recovery);
+    match dfs {
+        None => owner,
+        Some(dfs) => owner.named(dfs.owner, dfs.recovery),
     }
-    owner
 }
 
 // An announcement by any but a known owner.
-fn is_foreign(reading: Result<Frame, Fault>, owner: Owner, sender: [u8; 6]) -> bool
-    ensures { result ≡ (announces reading && not (is_owner owner sender)) }
+fn is_foreign(received: Result<Received, Fault>, owner: Owner, sender: [u8; 6]) -> bool
+    ensures { result ≡ (announces received && not (is_owner owner sender)) }
 {
-    if !announces(reading) {
-        return false;
-    }
-    !owner.is(sender)
+    announces(received) && !owner.is(sender)
 }
 
 // The owner after a frame that was accepted: a beacon is heard from its sender.
-fn heard_by(owner: Owner, reading: Result<Frame, Fault>, sender: [u8; 6]) -> Owner
-    ensures { result ≡ pick (is_beacon reading) (heard_from owner sender) owner }
+fn heard_by(owner: Owner, received: Result<Received, Fault>, sender: [u8; 6]) -> Owner
+    ensures { result ≡ pick (is_beacon received) (heard_from owner sender) owner }
 {
-    if is_beacon(reading) {
+    if is_beacon(received) {
         return owner.heard_from(sender);
     }
     owner
@@ -113,27 +79,25 @@ impl Member {
         ensures kept { ValidMember result.member }
     {
         let station = self.station;
-        let own = station.own;
-        let bssid = station.ap;
-        let heard = frame::read_in_ibss(frame, own, bssid, station.interval);
-        let received = heard.received;
-        let reading = received.reading;
-        let sender = heard.sender;
         let owner = self.owner;
-        let named = named_by(owner, heard);
-        if is_foreign(reading, named, sender) {
-            let verdict = Err(Fault::nowhere(Refusal::ForeignAnnouncement));
+        let heard = frame::read_in_ibss(frame, station.own, station.ap, station.interval);
+        let received = heard.received;
+        let sender = heard.sender;
+        let named = named_by(owner, heard.dfs);
+        if is_foreign(received, named, sender) {
             let member = self;
-            return Taken { verdict, member };
+            return Taken {
+                verdict: Err(Fault::nowhere(Refusal::ForeignAnnouncement)),
+                member,
+            };
         }
         let taken = station.heard(received);
-        let verdict = taken.verdict;
-        let next = taken.station;
-        let owner = heard_by(named, reading, sender);
-        let member = Member {
-            station: next,
-            owner,
-        };
-        Taken { verdict, member }
+        Taken {
+            verdict: taken.verdict,
+            member: Member {
+                station: taken.station,
+                owner: heard_by(named, received, sender),
+            },
+        }
     }
 }

@@ -1,6 +1,7 @@
 pub mod Bits
 pub mod JoinSplit
 pub mod Overwriting
+pub mod Padding
 pub mod Parts
 pub mod PartsBuilt
 pub mod Prefixed

@@ -6,20 +6,12 @@ ghost use Rattle.octets.specs.Signed.{signed_of, octet_of};
 pub fn to_signed(octet: u8) -> i8
     ensures { result ≡ signed_of octet }
 {
-    if octet < 128 {
-        octet as i8
-    } else {
-        -1 - ((255 - octet) as i8)
-    }
+    octet.cast_signed()
 }
 
 // The octet that holds a signed number.
 pub fn from_signed(x: i8) -> u8
     ensures { result ≡ octet_of x }
 {
-    if x >= 0 {
-        x as u8
-    } else {
-        255 - ((-1 - x) as u8)
-    }
+    x.cast_unsigned()
 }

@@ -7,15 +7,13 @@ ghost use Rattle.reply.specs.Due.{has_category, or_return, due_in};
 use action::CATEGORY;
 use answer::Refusal;
 use frame::Frame;
-use header::{Cell, Header, Subtype};
-use measurement_element::measurement_request;
+use header::{Cell, Subtype};
 use measurement_element::measurement_request::Request;
 
 // What a frame is owed: an answer to the request that it makes, by its dialog token, and the element of a Measurement Request at the index
 // that was asked for; or, where its body is broken, that body.
 #[derive(Clone, Copy)]
 pub enum Due {
-    Refused(Refusal),
     Broken,
     Tpc {
         token: u8,
@@ -30,58 +28,42 @@ pub enum Due {
 fn has_category(body: &[u8]) -> bool
     ensures { result ≡ has_category body.now }
 {
-    if body.len() <= CATEGORY {
-        return false;
-    }
-    body[CATEGORY] < 128
+    CATEGORY < body.len() && body[CATEGORY] < 128
 }
 
 // What an action body is owed. Whatever breaks one is among 1, 5 to 10, 21 and 22; one that asks for nothing is due no reply.
-fn owed_to(body: &[u8], index: usize) -> Due
+fn owed_to(body: &[u8], index: usize) -> Result<Due, Refusal>
     ensures { result ≡ due_of index (or_return body.now (action_means body.now)) }
 {
-    let none = Due::Refused(Refusal::NoReplyDue);
-    let asked = frame::read_request(body, index);
-    let reading = asked.reading;
-    let request = asked.request;
-    match reading {
+    match frame::read_request(body, index) {
         Err(_) => {
             if has_category(body) {
-                return Due::Broken;
+                return Ok(Due::Broken);
             }
-            none
+            Err(Refusal::NoReplyDue)
         }
-        Ok(frame) => match frame {
-            Frame::TpcRequest { token } => Due::Tpc { token },
-            Frame::MeasurementRequest { token, count: _ } => Due::Measurement { token, request },
-            Frame::MeasurementReport { token: _, count: _ } => none,
-            Frame::TpcReport {
-                token: _,
-                report: _,
-            } => none,
-            Frame::ChannelSwitch(_) => none,
-            Frame::Beacon(_) => none,
-            Frame::ProbeResponse(_) => none,
+        Ok(asked) => match asked.frame {
+            Frame::TpcRequest { token } => Ok(Due::Tpc { token }),
+            Frame::MeasurementRequest { token, count: _ } => Ok(Due::Measurement {
+                token,
+                request: asked.request,
+            }),
+            _ => Err(Refusal::NoReplyDue),
         },
     }
 }
 
 // What a frame to the station itself is owed.
-pub fn due_to(frame: &[u8], cell: Cell, own: [u8; 6], bssid: [u8; 6], index: usize) -> Due
+pub fn due_to(frame: &[u8], cell: Cell, own: [u8; 6], bssid: [u8; 6], index: usize) -> Result<Due, Refusal>
     ensures { result ≡ due_of index (due_in cell own bssid frame.now) }
 {
-    match header::read(frame, cell, own, bssid) {
-        Header::Refused(refusal) => Due::Refused(refusal),
-        Header::Is { subtype, to_all } => {
-            let none = Due::Refused(Refusal::NoReplyDue);
-            if to_all {
-                return none;
-            }
-            match subtype {
-                Subtype::Action => owed_to(header::body(frame), index),
-                Subtype::Beacon => none,
-                Subtype::ProbeResponse => none,
-            }
-        }
+    let head = header::read(frame, cell, own, bssid)?;
+    if head.to_all {
+        return Err(Refusal::NoReplyDue);
+    }
+    match head.subtype {
+        Subtype::Action => owed_to(header::body(frame), index),
+        Subtype::Beacon => Err(Refusal::NoReplyDue),
+        Subtype::ProbeResponse => Err(Refusal::NoReplyDue),
     }
 }

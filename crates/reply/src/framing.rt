@@ -37,9 +37,8 @@ fn put_frame(own: [u8; 6], to: [u8; 6], bssid: [u8; 6], body: &[u8], buffer: &mu
     if buffer.len() < size {
         return Err(Refusal::BufferShort);
     }
-    let head = head(own, to, bssid);
-    octets::put(true, &head, buffer, 0);
-    octets::put(true, body, buffer, header::LENGTH);
+    buffer[..header::LENGTH].copy_from_slice(&head(own, to, bssid));
+    buffer[header::LENGTH..size].copy_from_slice(body);
     Ok(size)
 }
 
@@ -55,14 +54,9 @@ pub fn put_return(
     requires body_value { has_category body.now ≡ true }
     ensures { Written true (frame_to own to bssid (error_return body.now)) 0 buffer.old result buffer.new }
 {
-    match put_frame(own, to, bssid, body, buffer) {
-        Err(refusal) => Err(refusal),
-        Ok(count) => {
-            let category = body[CATEGORY];
-            buffer[header::LENGTH + CATEGORY] = category + 128;
-            Ok(count)
-        }
-    }
+    let count = put_frame(own, to, bssid, body, buffer)?;
+    buffer[header::LENGTH + CATEGORY] = body[CATEGORY] + 128;
+    Ok(count)
 }
 
 // A TPC Report frame.
@@ -77,7 +71,7 @@ pub fn put_tpc_report(
     ensures { Written true (frame_to own to bssid (tpc_report_body token report)) 0 buffer.old result buffer.new }
 {
     let mut body = [0u8; TPC_REPORT_BODY];
-    single_body::write_tpc_report(token, report, &mut body, 0);
+    single_body::write_tpc_report(token, report, &mut body, 0)?;
     put_frame(own, to, bssid, &body, buffer)
 }
 
@@ -93,8 +87,6 @@ pub fn put_report(
     ensures { Written (report_may report) (frame_to own to bssid (body_octets report_sort token (report ∷ []))) 0 buffer.old result buffer.new }
 {
     let mut body = [0u8; LONGEST_REPLY_BODY];
-    match measurement_body::reports::append(&mut body, 0, token, report) {
-        Err(refusal) => Err(refusal),
-        Ok(count) => put_frame(own, to, bssid, &body[..count], buffer),
-    }
+    let count = measurement_body::reports::append(&mut body, 0, token, report)?;
+    put_frame(own, to, bssid, &body[..count], buffer)
 }

@@ -4,7 +4,6 @@
 
 mod due;
 mod framing;
-mod reporting;
 
 ghost use Rattle.std.specs.Prelude.{◌≡◌};
 ghost use Rattle.header.specs.declared.address.Cell.{Cell};
@@ -39,8 +38,7 @@ fn tpc_reply(
     ensures { Replied (tpc_reply_in cell own bssid report frame.now) buffer.old result buffer.new }
 {
     let to = old_sender(frame, cell, bssid);
-    match due::due_to(frame, cell, own, bssid, 0) {
-        Due::Refused(refusal) => Err(refusal),
+    match due::due_to(frame, cell, own, bssid, 0)? {
         Due::Broken => framing::put_return(own, to, bssid, header::body(frame), buffer),
         Due::Measurement {
             token: _,
@@ -64,18 +62,12 @@ fn measurement_reply(
     ensures { Replied (measurement_reply_in cell own bssid clock index readings frame.now) buffer.old result buffer.new }
 {
     let to = old_sender(frame, cell, bssid);
-    match due::due_to(frame, cell, own, bssid, index) {
-        Due::Refused(refusal) => Err(refusal),
+    match due::due_to(frame, cell, own, bssid, index)? {
         Due::Broken => framing::put_return(own, to, bssid, header::body(frame), buffer),
         Due::Tpc { token: _ } => Err(Refusal::Impossible),
         Due::Measurement { token, request } => {
-            let owed = reporting::report_on(request, clock, readings);
-            let answer = owed.answer;
-            let report = owed.report;
-            match answer {
-                Err(refusal) => Err(refusal),
-                Ok(()) => framing::put_report(own, to, bssid, token, report, buffer),
-            }
+            let report = measured_report::report_for(request?, clock, readings)?;
+            framing::put_report(own, to, bssid, token, report, buffer)
         }
     }
 }

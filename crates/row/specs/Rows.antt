@@ -1,6 +1,7 @@
 -- The rows of a table of stations (02, Six): "a row is joined by an address and left by it"; "the whole row of stations is stepped by one tick call".
 use Rattle.std.specs.Prelude.{Bool, true, false, not, ◌&&◌, List, [], ◌∷◌, map, ◌≡◌, ℕ, length}
 use Rattle.answer.specs.Checks.{pick}
+use Rattle.answer.specs.Faults.{Placed}
 use Rattle.frame.specs.declared.Received.{Received}
 use Rattle.header.specs.Headers.{same}
 use Rattle.station.specs.Clock.{advance_of}
@@ -57,5 +58,5 @@ abbrev pub ticked : ℕ → List Row → List Row
 ticked n ws = map (row_ticked n) ws
 
 -- a station that is joined hears what was read of a frame
-unfoldable pub row_heard : Received → Row → Row
+unfoldable pub row_heard : Placed Received → Row → Row
 row_heard v w = pick w.joined (seated (heard_of w.station v).station) w

@@ -9,6 +9,7 @@ ghost use Rattle.std.specs.Prelude.{◌≡◌};
 ghost use Rattle.frame.specs.Allowed.{ReceivedAllowed};
 ghost use Rattle.row.specs.Rows.{free, seated, is_of, ValidRow, row_ticked, row_heard};
 
+use answer::Fault;
 use frame::Received;
 pub use hearing::hear_all;
 pub use places::{free_place, place_of};
@@ -59,12 +60,7 @@ impl Row {
     pub fn is_of(self, own: [u8; 6]) -> bool
         ensures { result ≡ is_of own self }
     {
-        if !self.joined {
-            return false;
-        }
-        let station = self.station;
-        let sitting = station.own;
-        header::are_same(own, sitting)
+        self.joined && own == self.station.own
     }
 
     // What its station's advance by so many TU leaves, which is the same station where that is refused; a free row stays so.
@@ -76,17 +72,14 @@ impl Row {
         if !self.joined {
             return self;
         }
-        let station = self.station;
-        let stepped = station.advance(units);
-        let next = stepped.station;
         Row {
             joined: true,
-            station: next,
+            station: self.station.advance(units).station,
         }
     }
 
     // Its station hears what was read of a frame.
-    pub fn hear(self, received: Received) -> Row
+    pub fn hear(self, received: Result<Received, Fault>) -> Row
         requires { ValidRow self }
         ensures value { result ≡ row_heard received self }
         ensures kept { ReceivedAllowed self.station.interval received → ValidRow result }
@@ -94,12 +87,9 @@ impl Row {
         if !self.joined {
             return self;
         }
-        let station = self.station;
-        let taken = station.heard(received);
-        let next = taken.station;
         Row {
             joined: true,
-            station: next,
+            station: self.station.heard(received).station,
         }
     }
 }

@@ -9,28 +9,12 @@ use crate::Row;
 pub fn place_of(rows: [Row; crate::ROWS], own: [u8; 6]) -> Option<usize>
     ensures { result ≡ place_of (is_of own) rows }
 {
-    let mut i = 0;
-    while i < crate::ROWS {
-        let row = rows[i];
-        if row.is_of(own) {
-            return Some(i);
-        }
-        i += 1;
-    }
-    None
+    rows.iter().position(|row| row.is_of(own))
 }
 
 // The first row that is free.
 pub fn free_place(rows: [Row; crate::ROWS]) -> Option<usize>
     ensures { result ≡ place_of is_free rows }
 {
-    let mut i = 0;
-    while i < crate::ROWS {
-        let row = rows[i];
-        if !row.joined {
-            return Some(i);
-        }
-        i += 1;
-    }
-    None
+    rows.iter().position(|row| !row.joined)
 }

@@ -10,10 +10,8 @@ pub fn tick(rows: &mut [Row], units: u32)
     ensures rows_after { rows.new ≡ ticked units rows.old }
     ensures kept { ValidRows rows.new }
 {
-    let mut i = 0;
-    while i < crate::ROWS {
-        rows[i] = rows[i].advance(units);
-        i += 1;
+    for row in rows {
+        *row = row.advance(units);
     }
 }
 

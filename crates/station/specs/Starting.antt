@@ -5,16 +5,11 @@ use Rattle.answer.specs.declared.Refusal.{Refusal}
 use Rattle.channel.specs.Centres.{highest}
 use Rattle.octets.specs.Numbers.{bit, octet}
 use Rattle.station.specs.Stations.{fresh}
-use Rattle.station.specs.declared.starting.Started.{Started}
 use Rattle.station.specs.declared.Station.{Station}
 
--- what stands beside a refusal; its interval is 0, so it is not valid
+-- what stands where there is no station; its interval is 0, so it is not valid
 abbrev pub blank : Station
 blank = fresh (replicate 6 0) (replicate 6 0) 0 0
-
-abbrev pub started : Outcome Station → Started
-started (Err r) = record { answer = Err r; station = blank }
-started (Ok s) = record { answer = Ok tt; station = s }
 
 -- the group bit is the first of an address
 abbrev pub start_forbids : List ℕ → List ℕ → ℕ → ℕ → Bool

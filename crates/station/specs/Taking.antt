@@ -79,11 +79,11 @@ taken s (Err x) = record { verdict = Err x; station = s }
 taken s (Ok next) = record { verdict = Ok tt; station = next }
 
 -- what a reader handed out: a refusal stays one, and a count past the slots is that of all of them
-unfoldable pub heard_means : Station → Received → Placed Station
-heard_means s v = and_then (v.reading) (λ f. Ok (changed_by s f (take v.count v.quiets)))
+unfoldable pub heard_means : Station → Placed Received → Placed Station
+heard_means s o = and_then o (λ v. Ok (changed_by s v.frame (take v.count v.quiets)))
 
-abbrev pub heard_of : Station → Received → Taken
-heard_of s v = taken s (heard_means s v)
+abbrev pub heard_of : Station → Placed Received → Taken
+heard_of s o = taken s (heard_means s o)
 
 -- an accepted frame of each kind
 abbrev pub heard : Station → Kind → Station

@@ -46,18 +46,12 @@ impl Station {
         ensures { result ≡ first_quiet self to }
     {
         let from = self.clock as u64;
-        if to <= from {
-            return from;
-        }
-        if from < self.until {
+        if to <= from || from < self.until {
             return from;
         }
         let mut first = to;
-        let mut i = 0;
-        while i < self.count {
-            let schedule = self.schedules[i];
+        for schedule in &self.schedules[..self.count] {
             first = schedule.first_covered(from, first);
-            i += 1;
         }
         first
     }
@@ -68,12 +62,11 @@ impl Station {
         requires { Valid self }
         ensures { result ≡ clear_until self }
     {
-        let pending = self.pending;
         let first = self.clock as u64;
-        if pending.silences() {
+        if pending::silences(self.pending) {
             return first;
         }
-        self.first_quiet(pending.up_to(first + (Station::UNIT_LIMIT as u64)))
+        self.first_quiet(pending::up_to(self.pending, first + (Station::UNIT_LIMIT as u64)))
     }
 
     // Whether the units from the clock on, so many, may be used to send.
@@ -81,20 +74,15 @@ impl Station {
         requires { Valid self }
         ensures { result ≡ permission_of self units }
     {
-        let wrong = Permission::WrongLength;
-        if units == 0 {
-            return wrong;
+        if units == 0 || Station::UNIT_LIMIT < units {
+            return Permission::WrongLength;
         }
-        if Station::UNIT_LIMIT < units {
-            return wrong;
-        }
-        let pending = self.pending;
         let first = self.clock as u64;
         let end = first + (units as u64);
-        if pending.silences() {
+        if pending::silences(self.pending) {
             return Permission::SwitchSilences;
         }
-        let to = pending.up_to(end);
+        let to = pending::up_to(self.pending, end);
         let quiet = self.first_quiet(to);
         if quiet == first {
             return Permission::QuietNow;
@@ -102,7 +90,7 @@ impl Station {
         if quiet < to {
             return Permission::QuietLater;
         }
-        if pending.comes_before(end) {
+        if pending::comes_before(self.pending, end) {
             return Permission::SwitchBefore;
         }
         Permission::Granted

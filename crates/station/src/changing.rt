@@ -11,10 +11,7 @@ use pending::Switch;
 pub fn is_at_once(switch: Option<ChannelSwitch>) -> bool
     ensures { result ≡ at_once switch }
 {
-    match switch {
-        None => false,
-        Some(announcement) => announcement.count == 0,
-    }
+    switch.is_some_and(|announcement| announcement.count == 0)
 }
 
 // What a station keeps beside its addresses and its schedules, which are long to copy.
@@ -56,7 +53,7 @@ impl Rest {
     fn pending_by(self, switch: ChannelSwitch) -> Option<Switch>
         ensures { result ≡ pending_by switch (self.clock / self.interval) self.interval }
     {
-        Switch::set_by(switch, self.clock, self.interval)
+        Some(Switch::set_by(switch, self.clock, self.interval))
     }
 
     // An announcement, if there is one, takes the place of any that is pending. Its count is one of TBTTs, not of intervals from now; a count of 0

@@ -8,36 +8,27 @@ use crate::Station;
 use answer::Refusal;
 use pending::Switch;
 
-// What an advance comes to: it is refused, or the clock goes to a moment, with no switch reached by then or with this one.
+// What an advance comes to that is not refused: the clock goes to a moment, with no switch reached by then or with this one.
 #[derive(Clone, Copy)]
 pub enum Advanced {
-    Refused,
     Goes(u32),
     Switches { moment: u32, channel: u8 },
 }
 
 // An advance by what it asks of a station alone, since a station is long to copy and most advances change no more than its clock.
-pub fn advance_clock(clock: u32, pending: Option<Switch>, units: u32) -> Advanced
+pub fn advance_clock(clock: u32, pending: Option<Switch>, units: u32) -> Result<Advanced, Refusal>
     ensures { result ≡ clock_advance clock pending units }
 {
-    if Station::UNIT_LIMIT < units {
-        return Advanced::Refused;
-    }
-    if Station::CLOCK_LIMIT - clock < units {
-        return Advanced::Refused;
+    if Station::UNIT_LIMIT < units || Station::CLOCK_LIMIT - clock < units {
+        return Err(Refusal::PastClock);
     }
     let moment = clock + units;
     match pending {
-        None => Advanced::Goes(moment),
-        Some(switch) => {
-            if (moment as u64) < switch.at {
-                return Advanced::Goes(moment);
-            }
-            Advanced::Switches {
-                moment,
-                channel: switch.channel,
-            }
-        }
+        Some(switch) if switch.at <= (moment as u64) => Ok(Advanced::Switches {
+            moment,
+            channel: switch.channel,
+        }),
+        _ => Ok(Advanced::Goes(moment)),
     }
 }
 
@@ -64,11 +55,10 @@ impl Station {
         ensures value { result ≡ advance_of self units }
         ensures kept { Valid result.station }
     {
-        let pending = self.pending;
-        match advance_clock(self.clock, pending, units) {
-            Advanced::Refused => Stepped::refused(Refusal::PastClock, self),
-            Advanced::Goes(moment) => Stepped::accepted(self.with_clock(moment)),
-            Advanced::Switches { moment, channel } => Stepped::accepted(
+        match advance_clock(self.clock, self.pending, units) {
+            Err(refusal) => Stepped::refused(refusal, self),
+            Ok(Advanced::Goes(moment)) => Stepped::accepted(self.with_clock(moment)),
+            Ok(Advanced::Switches { moment, channel }) => Stepped::accepted(
                 self.with_clock(moment).switched(channel),
             ),
         }

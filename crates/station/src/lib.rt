@@ -19,7 +19,6 @@ pub use changing::{Rest, is_at_once};
 pub use clock::{Advanced, Stepped, advance_clock};
 pub use replacing::later;
 use schedule::Schedule;
-pub use starting::Started;
 pub use taking::Taken;
 use element::power_constraint::PowerConstraint;
 use pending::Switch;

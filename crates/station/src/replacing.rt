@@ -51,7 +51,7 @@ pub fn extent_of(switches: bool, replaces: bool, before: usize, count: usize) ->
 pub fn later(one: u64, other: u64) -> u64
     ensures { result ≡ later one other }
 {
-    if one < other { other } else { one }
+    one.max(other)
 }
 
 // What a slot holds of which so many are in use: the schedule that its Quiet element sets, or nothing.

@@ -24,7 +24,7 @@ pub struct Taken {
 fn at_most_all(count: usize) -> usize
     ensures { (result ≤ quiet_limit) × ((qs : List Quiet) → length qs ≡ quiet_limit → take result qs ≡ take count qs) }
 {
-    if QUIETS < count { QUIETS } else { count }
+    count.min(QUIETS)
 }
 
 impl Station {
@@ -34,39 +34,47 @@ impl Station {
         requires { Valid self }
         ensures { result ≡ changed self change (take count quiets) }
     {
-        let power = change.power;
-        let switch = change.switch;
-        let schedules = self.schedules;
         let extent = replacing::extent_of(
-            changing::is_at_once(switch),
+            changing::is_at_once(change.switch),
             change.replaces,
             self.count,
             at_most_all(count),
         );
         let next = replacing::replace(
-            schedules,
+            self.schedules,
             self.until,
             extent,
             quiets,
             self.clock,
             self.interval,
         );
-        let slots = next.schedules;
-        let rest = self.rest(next.until).constrained(power).announced(switch);
-        self.with(rest, slots, extent.used)
+        let rest = self
+            .rest(next.until)
+            .constrained(change.power)
+            .announced(change.switch);
+        self.with(rest, next.schedules, extent.used)
     }
 
     // What a reader handed out, so that one reading can serve several stations. A count past the slots is that of all of them.
-    pub fn heard(self, received: Received) -> Taken
+    pub fn heard(self, received: Result<Received, Fault>) -> Taken
         requires { Valid self }
         ensures value { result ≡ heard_of self received }
         ensures kept { ReceivedAllowed self.interval received → Valid result.station }
     {
-        let reading = received.reading;
-        let quiets = received.quiets;
-        let station = self.changed(Change::by_reading(reading), quiets, received.count);
-        let verdict = frame::verdict_on(reading);
-        Taken { verdict, station }
+        match received {
+            Err(fault) => Taken {
+                verdict: Err(fault),
+                station: self,
+            },
+            Ok(received) => {
+                let change = Change::by_frame(received.frame);
+                let station = self.changed(change, received.quiets, received.count);
+                Taken {
+                    verdict: Ok(()),
+                    station,
+                }
+            }
+        }
     }
 
     pub fn take(self, frame: &[u8]) -> Taken
@@ -74,8 +82,6 @@ impl Station {
         ensures value { result ≡ take_of self frame.now }
         ensures kept { Valid result.station }
     {
-        let own = self.own;
-        let ap = self.ap;
-        self.heard(frame::read(frame, own, ap, self.interval))
+        self.heard(frame::read(frame, self.own, self.ap, self.interval))
     }
 }

@@ -57,11 +57,6 @@ stepped t (Ok next) = record { answer = Ok tt; table = next }
 abbrev pub empty : List ℕ → ℕ → Table
 empty ap b = record { ap = ap; interval = b; clock = 0; rows = replicate row_count free }
 
--- what stands beside a refusal; its interval is 0, so it is not valid
-abbrev pub started : Outcome Table → Started
-started (Err r) = record { answer = Err r; table = empty (replicate 6 0) 0 }
-started (Ok t) = record { answer = Ok tt; table = t }
-
 abbrev pub start_forbids : List ℕ → ℕ → Bool
 start_forbids ap b = eqb b 0 || bit 0 (octet 0 ap)
 

@@ -7,15 +7,13 @@ use crate::Table;
 use answer::Refusal;
 use station::Permission;
 
-impl Result<Permission, Refusal> {
-    // The answer's number.
-    pub fn number(self) -> u8
-        ensures { result ≡ asked_number self }
-    {
-        match self {
-            Err(refusal) => refusal.number(),
-            Ok(permission) => permission.number(),
-        }
+// The number of what a question gets.
+pub fn number(asked: Result<Permission, Refusal>) -> u8
+    ensures { result ≡ asked_number asked }
+{
+    match asked {
+        Err(refusal) => refusal.number(),
+        Ok(permission) => permission.number(),
     }
 }
 
@@ -28,11 +26,7 @@ impl Table {
         let rows = self.rows;
         match row::place_of(rows, own) {
             None => Err(Refusal::NotJoined),
-            Some(at) => {
-                let row = rows[at];
-                let station = row.station;
-                Ok(station.ask(units))
-            }
+            Some(at) => Ok(rows[at].station.ask(units)),
         }
     }
 }

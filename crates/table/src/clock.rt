@@ -14,17 +14,12 @@ impl Table {
         ensures value { result ≡ tick_of self units }
         ensures kept { ValidTable result.table }
     {
-        if Station::UNIT_LIMIT < units {
+        if Station::UNIT_LIMIT < units || Station::CLOCK_LIMIT - self.clock < units {
             return Stepped::refused(Refusal::PastClock, self);
         }
-        if Station::CLOCK_LIMIT - self.clock < units {
-            return Stepped::refused(Refusal::PastClock, self);
-        }
-        let before = self.rows;
-        let rows = row::tick_all(before, units);
         Stepped::accepted(Table {
             clock: self.clock + units,
-            rows,
+            rows: row::tick_all(self.rows, units),
             ..self
         })
     }

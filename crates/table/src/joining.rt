@@ -8,13 +8,6 @@ use crate::{Stepped, Table};
 use answer::Refusal;
 use station::Station;
 
-// The row that a station takes, or why it takes none.
-#[derive(Clone, Copy)]
-enum Result<usize, Refusal> {
-    Refused(Refusal),
-    At(usize),
-}
-
 // 25 where a station of its address sits somewhere, before 24 where no row is free.
 fn seat_among(sitting: Option<usize>, vacant: Option<usize>) -> Result<usize, Refusal>
     ensures { result ≡ seat_among sitting vacant }
@@ -34,15 +27,10 @@ impl Table {
         requires { ValidTable self }
         ensures { result ≡ stepped self (seat_means self station) }
     {
-        let own = station.own;
         let rows = self.rows;
-        let seat = seat_among(row::place_of(rows, own), row::free_place(rows));
-        match seat {
+        match seat_among(row::place_of(rows, station.own), row::free_place(rows)) {
             Err(refusal) => Stepped::refused(refusal, self),
-            Ok(place) => {
-                let row = rows[place];
-                Stepped::accepted(self.with_row(place, row.taken_by(station)))
-            }
+            Ok(place) => Stepped::accepted(self.with_row(place, rows[place].taken_by(station))),
         }
     }
 
@@ -52,13 +40,9 @@ impl Table {
         ensures value { result ≡ join_of self own channel }
         ensures kept { ValidTable result.table }
     {
-        let ap = self.ap;
-        let started = Station::start(own, ap, self.interval, channel);
-        let answer = started.answer;
-        let fresh = started.station;
-        match answer {
+        match Station::start(own, self.ap, self.interval, channel) {
             Err(refusal) => Stepped::refused(refusal, self),
-            Ok(()) => self.seat(Station {
+            Ok(fresh) => self.seat(Station {
                 clock: self.clock,
                 ..fresh
             }),
@@ -74,10 +58,7 @@ impl Table {
         let rows = self.rows;
         match row::place_of(rows, own) {
             None => Stepped::refused(Refusal::NotJoined, self),
-            Some(place) => {
-                let row = rows[place];
-                Stepped::accepted(self.with_row(place, row.vacated()))
-            }
+            Some(place) => Stepped::accepted(self.with_row(place, rows[place].vacated())),
         }
     }
 }

@@ -15,7 +15,7 @@ ghost use Rattle.table.specs.Tables.{reader_of, stepped, with_rows};
 
 use answer::Refusal;
 use row::Row;
-pub use starting::Started;
+pub use asking::number;
 pub use taking::Taken;
 
 // What is kept between calls. Every station that is joined has the table's AP, interval and clock.

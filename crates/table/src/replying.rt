@@ -13,9 +13,7 @@ impl Table {
     pub fn reply_to_tpc_request(self, frame: &[u8], report: TpcReport, buffer: &mut [u8]) -> Result<usize, Refusal>
         ensures { Replied (tpc_reply_of self report frame.now) buffer.old result buffer.new }
     {
-        let own = self.reader_of(frame);
-        let ap = self.ap;
-        reply::to_tpc_request(frame, own, ap, report, buffer)
+        reply::to_tpc_request(frame, self.reader_of(frame), self.ap, report, buffer)
     }
 
     // The reply to the element at an index of a Measurement Request.
@@ -28,8 +26,14 @@ impl Table {
     ) -> Result<usize, Refusal>
         ensures { Replied (measurement_reply_of self index readings frame.now) buffer.old result buffer.new }
     {
-        let own = self.reader_of(frame);
-        let ap = self.ap;
-        reply::to_measurement_request(frame, own, ap, self.clock, index, readings, buffer)
+        reply::to_measurement_request(
+            frame,
+            self.reader_of(frame),
+            self.ap,
+            self.clock,
+            index,
+            readings,
+            buffer,
+        )
     }
 }

@@ -19,21 +19,18 @@ pub struct Taken {
 
 impl Table {
     // What was read goes to the row at a place, or, where it was sent to no station alone, to all of them.
-    fn heard(self, place: Option<usize>, received: Received) -> Table
+    fn heard(self, place: Option<usize>, received: Result<Received, Fault>) -> Table
         requires valid_table { ValidTable self }
         requires place_within { PlaceWithin place }
         ensures { result ≡ with_rows self (rows_after place received self.rows) }
     {
         let rows = self.rows;
         match place {
-            Some(at) => {
-                let row = rows[at];
-                self.with_row(at, row.hear(received))
-            }
-            None => {
-                let next = row::hear_all(rows, received);
-                Table { rows: next, ..self }
-            }
+            Some(at) => self.with_row(at, rows[at].hear(received)),
+            None => Table {
+                rows: row::hear_all(rows, received),
+                ..self
+            },
         }
     }
 
@@ -44,13 +41,10 @@ impl Table {
         ensures kept { ValidTable result.table }
     {
         let to = header::receiver(frame);
-        let rows = self.rows;
-        let ap = self.ap;
-        let place = row::place_of(rows, to);
+        let place = row::place_of(self.rows, to);
         let own = crate::reader_at(place, to);
-        let received = frame::read(frame, own, ap, self.interval);
-        let reading = received.reading;
-        match reading {
+        let received = frame::read(frame, own, self.ap, self.interval);
+        match received {
             Err(fault) => Taken {
                 verdict: Err(fault),
                 table: self,

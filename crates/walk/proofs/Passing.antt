@@ -1,4 +1,5 @@
 -- What the walk of an action body hands out and passes over, by its octets. Assumes nothing.
+use Rattle.std.specs.Prelude.{Ok}
 use mathlib.Core.Path.{◌≡◌, refl, sym, ap, ◌∙◌}
 use mathlib.Core.Bool.{Bool, true, false}
 use mathlib.Core.List.{List, [], ◌∷◌, ◌++◌}
@@ -8,14 +9,13 @@ use native.Mathlib.Omega.{arith}
 use borrow.Author.Tests.{eqb-true}
 use lib.Dec.{eqb}
 use lib.ListN.{length, drop}
-use Rattle.answer.proofs.Booleans.{clash}
+use Rattle.answer.proofs.Judged.{never}
 use Rattle.answer.specs.Checks.{pick}
 use Rattle.octets.specs.Elements.{element}
-use Rattle.walk.specs.CodeTerms.Next.{standing, next_after}
+use Rattle.walk.specs.CodeTerms.Next.{next_after}
 use Rattle.walk.specs.Elements.{Elements, elements_in, past_element}
 use Rattle.walk.specs.Elements as Raw
 use Rattle.walk.specs.Handed.{Handed, end, cut_header, cut_contents, more, passed, cut_passed, vendor_id, passing, handing, passing_in, handed_in}
-use Rattle.walk.specs.declared.Next.{Next}
 use Rattle.walk.proofs.RunLaws.{front, none, split, empty, lying}
 
 -- ---- an element's octets in front of others
@@ -178,14 +178,14 @@ past_passed (more id c hs) = more id c hs
 past_passed (passed c hs) = past_passed hs
 past_passed cut_passed = cut_passed
 
-pub no_further_back : (hs : Handed) (n : ℕ) → n ≤ (next_after n hs).at
+pub no_further_back : (hs : Handed) (n : ℕ) {m : ℕ} → next_after n hs ≡ Ok m → n ≤ m
 unfolding next_after
-no_further_back end n = omega arith
-no_further_back cut_header n = omega arith
-no_further_back (cut_contents id) n = omega arith
-no_further_back (more id c hs) n = omega arith
-no_further_back (passed c hs) n = omega (arith, no_further_back hs (past_element n c))
-no_further_back cut_passed n = omega arith
+no_further_back end n {m} e = let here : n ≡ m = cc in omega arith
+no_further_back cut_header n {m} e = let here : n ≡ m = cc in omega arith
+no_further_back (cut_contents id) n {m} e = let here : n ≡ m = cc in omega arith
+no_further_back (more id c hs) n {m} e = let here : n ≡ m = cc in omega arith
+no_further_back (passed c hs) n {m} e = let on = no_further_back hs (past_element n c) e in omega arith
+no_further_back cut_passed n e = absurd (never e)
 
 -- in a run, by the elements from a place on
 module _ (run : List ℕ) where
@@ -196,90 +196,36 @@ module _ (run : List ℕ) where
       let z = lying run at id d y.rest y.octets in
       (ap elements_in z.after ∙ y.after, z.inside)
 
-  abbrev Onward : ℕ → Elements → Type 0
-  Onward at es = (next_after at (passing es)).cut ≡ false → past_passed (passing es) ≡ handed_in (drop (next_after at (passing es)).at run)
+  abbrev Onward : ℕ → ℕ → Handed → Type 0
+  Onward m at hs = next_after at hs ≡ Ok m → (past_passed hs ≡ handed_in (drop m run)) × (at ≤ length run → m ≤ length run)
 
-  goes_on : (es : Elements) (at : ℕ) → elements_in (drop at run) ≡ es → Onward at es
-  unfolding passing handing next_after
-  goes_on Raw.end at e = λ h. sym (ap handing e)
-  goes_on (Raw.cut_header o) at e = by (eqb o vendor_id)
-    where
-      by : (t : Bool) → (next_after at (pick t cut_passed cut_header)).cut ≡ false
-          → past_passed (pick t cut_passed cut_header) ≡ handed_in (drop (next_after at (pick t cut_passed cut_header)).at run)
-      by true h = clash h
-      by false h = sym (ap handing e)
-  goes_on (Raw.cut_contents i) at e = by (eqb i vendor_id)
-    where
-      by : (t : Bool) → (next_after at (pick t cut_passed (cut_contents i))).cut ≡ false
-          → past_passed (pick t cut_passed (cut_contents i)) ≡ handed_in (drop (next_after at (pick t cut_passed (cut_contents i))).at run)
-      by true h = clash h
-      by false h = sym (ap handing e)
-  goes_on (Raw.more i d fs) at e = by (eqb i vendor_id) (goes_on fs (past_element at d) (lies at i d fs e).0)
-    where
-      by : (t : Bool) → Onward (past_element at d) fs → (next_after at (pick t (passed d (passing fs)) (more i d (passing fs)))).cut ≡ false
-          → past_passed (pick t (passed d (passing fs)) (more i d (passing fs)))
-          ≡ handed_in (drop (next_after at (pick t (passed d (passing fs)) (more i d (passing fs)))).at run)
-      by true on h = on h
-      by false on h = sym (ap handing e)
+  -- what is handed out next stands where the walk goes on, in the run
+  module _ (m : ℕ) where
+    stays : (at : ℕ) (hs : Handed) → hs ≡ handed_in (drop at run) → at ≡ m → (hs ≡ handed_in (drop m run)) × (at ≤ length run → m ≤ length run)
+    stays at hs h e = (h ∙ ap (λ (n : ℕ). handed_in (drop n run)) e, λ k. omega arith)
 
-  inside_by : (es : Elements) (at : ℕ) → elements_in (drop at run) ≡ es → at ≤ length run → (next_after at (passing es)).at ≤ length run
-  unfolding passing next_after
-  inside_by Raw.end at e h = h
-  inside_by (Raw.cut_header o) at e h = by (eqb o vendor_id)
-    where
-      by : (t : Bool) → (next_after at (pick t cut_passed cut_header)).at ≤ length run
-      by true = h
-      by false = h
-  inside_by (Raw.cut_contents i) at e h = by (eqb i vendor_id)
-    where
-      by : (t : Bool) → (next_after at (pick t cut_passed (cut_contents i))).at ≤ length run
-      by true = h
-      by false = h
-  inside_by (Raw.more i d fs) at e h = let s = lies at i d fs e in by (eqb i vendor_id) (inside_by fs (past_element at d) s.0 s.1)
-    where
-      by : (t : Bool) → (next_after (past_element at d) (passing fs)).at ≤ length run → (next_after at (pick t (passed d (passing fs)) (more i d (passing fs)))).at ≤ length run
-      by true on = on
-      by false on = h
-
-  -- ---- by what stands at a place
-
-  module _ (at : ℕ) where
-    abbrev here : Next
-    here = next_after at (passing_in (drop at run))
-
-    pub next_end : elements_in (drop at run) ≡ Raw.end → here ≡ standing at false
-    unfolding passing next_after
-    next_end e = ap (λ (es : Elements). next_after at (passing es)) e
-
-    pub next_cut_header : (o : ℕ) → elements_in (drop at run) ≡ Raw.cut_header o → here ≡ standing at (eqb o vendor_id)
-    unfolding passing next_after
-    next_cut_header o e = ap (λ (es : Elements). next_after at (passing es)) e ∙ by (eqb o vendor_id)
+    goes_on : (es : Elements) (at : ℕ) → elements_in (drop at run) ≡ es → Onward m at (passing es)
+    unfolding passing handing next_after
+    goes_on Raw.end at e = λ h. stays at end (sym (ap handing e)) cc
+    goes_on (Raw.cut_header o) at e = by (eqb o vendor_id)
       where
-        by : (t : Bool) → next_after at (pick t cut_passed cut_header) ≡ standing at t
-        by true = refl
-        by false = refl
-
-    pub next_cut_contents : (id : ℕ) → elements_in (drop at run) ≡ Raw.cut_contents id → here ≡ standing at (eqb id vendor_id)
-    unfolding passing next_after
-    next_cut_contents id e = ap (λ (es : Elements). next_after at (passing es)) e ∙ by (eqb id vendor_id)
+        by : (t : Bool) → Onward m at (pick t cut_passed cut_header)
+        by true = λ h. absurd (never h)
+        by false = λ h. stays at cut_header (sym (ap handing e)) cc
+    goes_on (Raw.cut_contents i) at e = by (eqb i vendor_id)
       where
-        by : (t : Bool) → next_after at (pick t cut_passed (cut_contents id)) ≡ standing at t
-        by true = refl
-        by false = refl
+        by : (t : Bool) → Onward m at (pick t cut_passed (cut_contents i))
+        by true = λ h. absurd (never h)
+        by false = λ h. stays at (cut_contents i) (sym (ap handing e)) cc
+    goes_on (Raw.more i d fs) at e = let s = lies at i d fs e in by (eqb i vendor_id) s.1 (goes_on fs (past_element at d) s.0)
+      where
+        by : (t : Bool) → past_element at d ≤ length run → Onward m (past_element at d) (passing fs) → Onward m at (pick t (passed d (passing fs)) (more i d (passing fs)))
+        by true k on = λ h. let o = on h in (o.0, λ l. o.1 k)
+        by false k on = λ h. stays at (more i d (passing fs)) (sym (ap handing e)) cc
 
-    module _ (id : ℕ) (c : List ℕ) (stop : ℕ) (e : elements_in (drop at run) ≡ Raw.more id c (elements_in (drop stop run))) where
-      pub next_other : eqb id vendor_id ≡ false → here ≡ standing at false
-      unfolding passing next_after
-      next_other v = ap (λ (es : Elements). next_after at (passing es)) e ∙ simp v
+  module _ (at : ℕ) {m : ℕ} (e : next_after at (passing_in (drop at run)) ≡ Ok m) where
+    pub onward_at : past_passed (passing_in (drop at run)) ≡ handed_in (drop m run)
+    onward_at = (goes_on m (elements_in (drop at run)) at refl e).0
 
-      pub next_vendor : eqb id vendor_id ≡ true → past_element at c ≡ stop → here ≡ next_after stop (passing_in (drop stop run))
-      unfolding passing next_after
-      next_vendor v p =
-          ap (λ (es : Elements). next_after at (passing es)) e ∙ simp v (ap (λ (n : ℕ). next_after n (passing_in (drop stop run))) p)
-
-    -- what is handed out next stands there
-    pub onward_at : (next_after at (passing_in (drop at run))).cut ≡ false → past_passed (passing_in (drop at run)) ≡ handed_in (drop (next_after at (passing_in (drop at run))).at run)
-    onward_at = goes_on (elements_in (drop at run)) at refl
-
-    pub inside : at ≤ length run → (next_after at (passing_in (drop at run))).at ≤ length run
-    inside = inside_by (elements_in (drop at run)) at refl
+    pub inside : at ≤ length run → m ≤ length run
+    inside = (goes_on m (elements_in (drop at run)) at refl e).1

@@ -9,10 +9,11 @@ use borrow.Author.Tests.{eq-eqb, eqb-true, not-false}
 use lib.Dec.{leb, eqb}
 use lib.ListN.{length, take, drop, length-drop}
 use lib.Seq.{length-take-le}
-use Rattle.answer.proofs.Booleans.{clash}
 use Rattle.answer.proofs.Judged as Judged
-use Rattle.answer.specs.Checks.{pick, checked}
+use Rattle.answer.proofs.Judged.{never}
+use Rattle.answer.specs.Checks.{Outcome, pick, checked}
 use Rattle.answer.specs.Faults.{fault_at, Placed}
+use Rattle.answer.specs.declared.Fault.{Fault}
 use Rattle.answer.specs.declared.Refusal.{Refusal}
 use Rattle.walk.specs.CodeTerms.Required.{between, required_told, RequiredWithin}
 use Rattle.walk.specs.CodeTerms.Next.{next_after}
@@ -20,9 +21,9 @@ use Rattle.walk.specs.Elements.{Elements, elements_after, elements_in, past_elem
 use Rattle.walk.specs.Elements as Raw
 use Rattle.walk.specs.Handed.{Handed, end, cut_header, cut_contents, more, passed, cut_passed, handing, passing_in, handed_in}
 use Rattle.walk.specs.Required.{Standing, required, nothing_left}
-use Rattle.walk.specs.declared.Required.{Required}
+use Rattle.walk.specs.declared.Contents.{Contents}
 use Rattle.walk.proofs.Passing.{past_passed, onward_at}
-use Rattle.walk.proofs.Walking.{at_end, headed}
+use Rattle.walk.proofs.Walking.{at_end, headed, next_place}
 
 -- ---- the element that has to be there
 
@@ -48,51 +49,51 @@ module _ (id : ℕ) where
 -- ---- what `required_at` promises, by its case
 
 -- the contents lie between two places of the run
-pub record Lies (run : List ℕ) (at id start stop : ℕ) : Type 0 where
-  pub stands : required id (handed_in (drop at run)) ≡ Ok (between run start stop)
-  pub begins : start ≡ at + 2
-  pub ordered : start ≤ stop
-  pub inside : stop ≤ length run
+pub record Lies (run : List ℕ) (at id : ℕ) (c : Contents) : Type 0 where
+  pub stands : required id (handed_in (drop at run)) ≡ Ok (between run c)
+  pub begins : c.start ≡ at + 2
+  pub ordered : c.start ≤ c.end
+  pub inside : c.end ≤ length run
 
 -- they are as long as the places say
-pub long : {run : List ℕ} {at id start stop : ℕ} → Lies run at id start stop → length (take (stop - start) (drop start run)) ≡ stop - start
-long {run} {at} {id} {start} {stop} l = length-take-le (stop - start) (drop start run) (simp length-drop (omega (arith, l.ordered, l.inside)))
+pub long : {run : List ℕ} {at id : ℕ} {c : Contents} → Lies run at id c → length (take (c.end - c.start) (drop c.start run)) ≡ c.end - c.start
+long {run} {at} {id} {c} l = length-take-le (c.end - c.start) (drop c.start run) (simp length-drop (omega (arith, l.ordered, l.inside)))
 
 -- and the next element begins where they end
-pub past : {run : List ℕ} {at id start stop : ℕ} → Lies run at id start stop → past_element at (take (stop - start) (drop start run)) ≡ stop
-past l = omega (arith, long l, l.begins, l.ordered)
+pub past : {run : List ℕ} {at id : ℕ} {c : Contents} → Lies run at id c → past_element at (take (c.end - c.start) (drop c.start run)) ≡ c.end
+past {run} {at} {id} {c} l = next_place run at c.start c.end l.begins l.ordered l.inside
 
-module _ (run : List ℕ) (at id : ℕ) (x : Required) (t : required_told run x ≡ required id (handed_in (drop at run))) where
-  pub lies : RequiredWithin at (length run) x → {start stop : ℕ} → x ≡ Required.Contents start stop → Lies run at id start stop
+module _ (run : List ℕ) (at id : ℕ) (x : Outcome Contents) (t : required_told run x ≡ required id (handed_in (drop at run))) where
+  pub lies : RequiredWithin at (length run) x → {c : Contents} → x ≡ Ok c → Lies run at id c
   lies w e =
       let v = subst (RequiredWithin at (length run)) e w in
       record { stands = sym t ∙ ap (required_told run) e; begins = v.0; ordered = v.1; inside = v.2 }
 
-  pub is_not : {r : Refusal} → x ≡ Required.Refused r → required id (handed_in (drop at run)) ≡ Err r
+  pub is_not : {r : Refusal} → x ≡ Err r → required id (handed_in (drop at run)) ≡ Err r
   is_not e = sym t ∙ ap (required_told run) e
 
 -- ---- what is left after it
 
 module _ {A : Type 0} (a : A) where
   -- nothing but what is passed over, as far as that goes
-  pub left_onward : (hs : Handed) (n : ℕ) → (next_after n hs).cut ≡ false → nothing_left n hs a ≡ nothing_left (next_after n hs).at (past_passed hs) a
+  pub left_onward : (hs : Handed) (n : ℕ) {m : ℕ} → next_after n hs ≡ Ok m → nothing_left n hs a ≡ nothing_left m (past_passed hs) a
   unfolding nothing_left next_after
-  left_onward end n h = refl
-  left_onward cut_header n h = refl
-  left_onward (cut_contents id) n h = refl
-  left_onward (more id c hs) n h = refl
-  left_onward (passed c hs) n h = left_onward hs (past_element n c) h
-  left_onward cut_passed n h = clash h
+  left_onward end n e = refl
+  left_onward cut_header n e = cc
+  left_onward (cut_contents id) n e = cc
+  left_onward (more id c hs) n e = cc
+  left_onward (passed c hs) n e = left_onward hs (past_element n c) e
+  left_onward cut_passed n e = absurd (never e)
 
   -- or one of them is cut
-  pub left_cut : (hs : Handed) (n : ℕ) → (next_after n hs).cut ≡ true → nothing_left n hs a ≡ Err (fault_at (next_after n hs).at Refusal.ElementCut)
+  pub left_cut : (hs : Handed) (n : ℕ) {x : Fault} → next_after n hs ≡ Err x → nothing_left n hs a ≡ Err x
   unfolding nothing_left next_after
-  left_cut end n h = clash (sym h)
-  left_cut cut_header n h = clash (sym h)
-  left_cut (cut_contents id) n h = clash (sym h)
-  left_cut (more id c hs) n h = clash (sym h)
-  left_cut (passed c hs) n h = left_cut hs (past_element n c) h
-  left_cut cut_passed n h = refl
+  left_cut end n e = absurd (never (sym e))
+  left_cut cut_header n e = absurd (never (sym e))
+  left_cut (cut_contents id) n e = absurd (never (sym e))
+  left_cut (more id c hs) n e = absurd (never (sym e))
+  left_cut (passed c hs) n e = left_cut hs (past_element n c) e
+  left_cut cut_passed n e = cc
 
   module _ (n : ℕ) where
     abbrev over : Placed A
@@ -115,12 +116,9 @@ module _ {A : Type 0} (a : A) where
     none run h = ap (λ (es : Elements). nothing_left n (handing es) a) (at_end run n h)
 
   -- past what is passed over, octets that are left are refused
-  module _ (run : List ℕ) (at : ℕ) (whole-ones : (next_after at (passing_in (drop at run))).cut ≡ false) where
-    abbrev next : ℕ
-    next = (next_after at (passing_in (drop at run))).at
-
+  module _ (run : List ℕ) (at : ℕ) {next : ℕ} (e : next_after at (passing_in (drop at run)) ≡ Ok next) where
     by_next : nothing_left at (passing_in (drop at run)) a ≡ nothing_left next (handed_in (drop next run)) a
-    by_next = left_onward (passing_in (drop at run)) at whole-ones ∙ ap (λ (hs : Handed). nothing_left next hs a) (onward_at run at whole-ones)
+    by_next = left_onward (passing_in (drop at run)) at e ∙ ap (λ (hs : Handed). nothing_left next hs a) (onward_at run at e)
 
     pub left_over : next < length run → nothing_left at (passing_in (drop at run)) a ≡ Err (fault_at next Refusal.LeftOver)
     left_over h = by_next ∙ left next (drop next run) (simp length-drop (omega arith))

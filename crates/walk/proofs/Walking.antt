@@ -4,12 +4,12 @@ use mathlib.Core.List.{List, [], ◌∷◌, ◌++◌}
 use Prim.Native.Nat.{ℕ, zero, suc, ◌+◌, ◌-◌, ◌*◌, ◌<◌, ◌≤◌}
 use native.Mathlib.Omega.{arith}
 use lib.Dec.{leb}
-use lib.ListN.{length, take, drop, drop_of_length-le}
-use lib.Seq.{drop-cons}
+use lib.ListN.{length, take, drop, length-drop, drop_of_length-le}
+use lib.Seq.{drop-cons, length-take-le}
 use Rattle.answer.specs.Checks.{pick}
 use Rattle.octets.specs.Numbers.{join, octet, number}
 use Rattle.octets.proofs.Prefixed as Prefixed
-use Rattle.walk.specs.Elements.{Elements, end, cut_header, cut_contents, more, elements_after, elements_in}
+use Rattle.walk.specs.Elements.{Elements, end, cut_header, cut_contents, more, elements_after, elements_in, past_element}
 
 -- after so many octets are the elements of what is left without them
 pub after : (k : ℕ) (os : List ℕ) → elements_after k os ≡ elements_in (drop k os)
@@ -17,6 +17,11 @@ unfolding elements_in elements_after
 after zero os = refl
 after (suc k) [] = refl
 after (suc k) (o ∷ os) = after k os
+
+-- past an element that lies in a run between two places
+pub next_place : (run : List ℕ) (at start stop : ℕ) → start ≡ at + 2 → start ≤ stop → stop ≤ length run → past_element at (take (stop - start) (drop start run)) ≡ stop
+next_place run at start stop begins ordered inside =
+    let long = length-take-le (stop - start) (drop start run) (simp length-drop (omega arith)) in omega arith
 
 -- a header, and what it says of the rest
 pub headed : (id n : ℕ) (os : List ℕ)

@@ -9,7 +9,7 @@ ghost use Rattle.walk.specs.Elements.{elements_in};
 ghost use Rattle.walk.specs.Handed.{passing_in, handed_in};
 ghost use Rattle.walk.specs.Required.{required};
 
-use answer::Refusal;
+use answer::{Fault, Refusal};
 
 // The ID of vendors' elements, which the walk of an action body passes over after its first element (document 02, Four).
 const VENDOR: u8 = 221;
@@ -25,6 +25,7 @@ pub enum Found {
 }
 
 // The element at a place: the contents are the part of the run that begins at `start`, and the next element is at `end`.
+#[tactic(auto, using(crate::proofs::Walking::at_end, crate::proofs::Walking::at_cut_header, crate::proofs::Walking::at_cut_contents, crate::proofs::Walking::at_whole))]
 pub fn element_at(run: &[u8], at: usize) -> Found
     ensures run_value { elements_in (drop at run.now) ≡ follow run.now result }
     ensures within { Within at (length run.now) result }
@@ -49,75 +50,50 @@ pub fn element_at(run: &[u8], at: usize) -> Found
     }
 }
 
-// The element that has to stand at a place: why it does not, or where its contents lie.
+// Where the contents of an element lie: they are the part of the run from `start` up to `end`.
 #[derive(Clone, Copy)]
-pub enum Required {
-    Refused(Refusal),
-    Contents { start: usize, end: usize },
+pub struct Contents {
+    pub start: usize,
+    pub end: usize,
 }
 
-// The element of this ID at a place. One of a vendor is another element there.
-pub fn required_at(run: &[u8], at: usize, id: u8) -> Required
+// The element of this ID that has to stand at a place. One of a vendor is another element there.
+#[tactic(auto, unfolding(crate::specs::Required::required, crate::specs::Handed::handing, answer::specs::Checks::checked))]
+pub fn required_at(run: &[u8], at: usize, id: u8) -> Result<Contents, Refusal>
     ensures result_value { required_told run.now result ≡ required id (handed_in (drop at run.now)) }
     ensures required_within { RequiredWithin at (length run.now) result }
 {
     match element_at(run, at) {
-        Found::End => Required::Refused(Refusal::ElementAbsent),
-        Found::CutHeader(_) => Required::Refused(Refusal::ElementCut),
-        Found::CutContents(found) => {
-            if found != id {
-                return Required::Refused(Refusal::OtherElement);
-            }
-            Required::Refused(Refusal::ElementCut)
-        }
+        Found::End => Err(Refusal::ElementAbsent),
+        Found::CutHeader(_) => Err(Refusal::ElementCut),
+        Found::CutContents(found) if found == id => Err(Refusal::ElementCut),
         Found::Whole {
             id: found,
             start,
             end,
-        } => {
-            if found != id {
-                return Required::Refused(Refusal::OtherElement);
-            }
-            Required::Contents { start, end }
-        }
+        } if found == id => Ok(Contents { start, end }),
+        _ => Err(Refusal::OtherElement),
     }
 }
 
-// Where the walk stands past vendors' elements: at what comes next or at the end, or at one of them that is cut.
-#[derive(Clone, Copy)]
-pub struct Next {
-    pub at: usize,
-    pub cut: bool,
-}
-
-// What stands at a place after an element: vendors' elements are passed over, as many as there are.
-pub fn pass_over(run: &[u8], start: usize) -> Next
+// Where the walk goes on after an element: past vendors' elements, as many as there are. One of them that is cut is refused, at its place.
+#[tactic(auto, unfolding(crate::specs::CodeTerms::Next::next_after, crate::specs::Handed::passing), using(crate::proofs::Walking::next_place))]
+pub fn pass_over(run: &[u8], start: usize) -> Result<usize, Fault>
     ensures { result ≡ next_after start (passing_in (drop start run.now)) }
 {
     let mut at = start;
     loop {
         match element_at(run, at) {
-            Found::End => {
-                return Next { at, cut: false };
-            }
-            Found::CutHeader(id) => {
-                return Next {
-                    at,
-                    cut: id == VENDOR,
-                };
-            }
-            Found::CutContents(id) => {
-                return Next {
-                    at,
-                    cut: id == VENDOR,
-                };
-            }
-            Found::Whole { id, start: _, end } => {
-                if id != VENDOR {
-                    return Next { at, cut: false };
-                }
-                at = end;
-            }
+            Found::Whole {
+                id: VENDOR,
+                start: _,
+                end,
+            } => at = end,
+            Found::CutHeader(VENDOR) | Found::CutContents(VENDOR) => return Err(Fault::at(
+                Refusal::ElementCut,
+                at,
+            )),
+            _ => return Ok(at),
         }
     }
 }

@@ -10,14 +10,5 @@ use Rattle.frame.specs.declared.Received.{Received}
 use Rattle.frame.specs.declared.ibss.HeardInIbss.{HeardInIbss}
 use Rattle.frame.specs.declared.Frame.{Frame}
 
-abbrev pub heard_laid : ℕ → Placed SentInIbss → HeardInIbss
-heard_laid i (Err x) = record { received = frame_laid (Err x); sender = replicate 6 0; dfs = dfs_heard i absent }
-heard_laid i (Ok s) = record { received = frame_laid (Ok s.sent); sender = s.sender; dfs = dfs_heard i s.dfs }
-
--- a frame that was read, with its sender and its element 41
-abbrev pub sent_as : Placed Frame → Received → List ℕ → HeardDfs → HeardInIbss
-sent_as (Err x) v sender dfs = record { received = v; sender = replicate 6 0; dfs = dfs_heard 0 absent }
-sent_as (Ok f) v sender dfs = record { received = v; sender = sender; dfs = dfs }
-
-abbrev pub sent_by : Received → List ℕ → HeardDfs → HeardInIbss
-sent_by v sender dfs = sent_as v.reading v sender dfs
+abbrev pub heard_laid : ℕ → Placed SentInIbss → Placed HeardInIbss
+heard_laid i o = and_then o (λ s. Ok (record { received = received (frame_of s.sent.kind) s.sent.to_all (quiets_of s.sent.kind); dfs = dfs_heard i s.dfs }))

@@ -7,37 +7,42 @@ use Rattle.header.specs.Headers.{header_length, body_of, header_means}
 use Rattle.header.specs.declared.address.Cell.{Cell}
 use Rattle.measurement_body.specs.Surveys.{place_in}
 use Rattle.measurement_body.specs.declared.kinds.Kind as Measurements
-use Rattle.measurement_body.specs.declared.surveying.Place.{Place}
+use Rattle.walk.specs.declared.Contents.{Contents}
 use Rattle.frame.specs.Actions.{Body, requests, reports, tpc_request, tpc_report, switch}
-use Rattle.frame.specs.Frames.{Kind, beacon, probe_response, action, kind_of, sent}
-use Rattle.frame.specs.Laid.{frame_laid}
+use Rattle.frame.specs.Frames.{Kind, beacon, probe_response, action, kind_of, request_in}
+use Rattle.frame.specs.Laid.{action_frame}
 use Rattle.frame.specs.declared.Frame.{Frame}
 use Rattle.frame.specs.declared.bodies.Located.{Located}
+use Rattle.frame.specs.declared.index.Asked.{Asked}
 
 -- ---- what is found
 
-abbrev pub unplaced : Placed Frame → Located
-unplaced reading = record { reading = reading; request = Place.Absent; report = Place.Absent }
+abbrev pub unplaced : Frame → Located
+unplaced frame = record { frame = frame; request = None; report = None }
 
-abbrev pub placed : Measurements.Kind → ℕ → ℕ → Place → Located
-placed Measurements.Kind.Requests token count p = record { reading = Ok (Frame.MeasurementRequest token count); request = p; report = Place.Absent }
-placed Measurements.Kind.Reports token count p = record { reading = Ok (Frame.MeasurementReport token count); request = Place.Absent; report = p }
+abbrev pub placed : Measurements.Kind → ℕ → ℕ → Option Contents → Located
+placed Measurements.Kind.Requests token count p = record { frame = Frame.MeasurementRequest token count; request = p; report = None }
+placed Measurements.Kind.Reports token count p = record { frame = Frame.MeasurementReport token count; request = None; report = p }
 
 -- of an action body
-abbrev pub located : ℕ → List ℕ → Placed Body → Located
-located i body (Err x) = unplaced (Err x)
-located i body (Ok (requests token rs)) = placed Measurements.Kind.Requests token (length rs) (place_in i body)
-located i body (Ok (reports token rs)) = placed Measurements.Kind.Reports token (length rs) (place_in i body)
-located i body (Ok (tpc_request token)) = unplaced (Ok (Frame.TpcRequest token))
-located i body (Ok (tpc_report token t)) = unplaced (Ok (Frame.TpcReport token t))
-located i body (Ok (switch s)) = unplaced (Ok (Frame.ChannelSwitch s))
+abbrev pub body_located : ℕ → List ℕ → Body → Located
+body_located i body (requests token rs) = placed Measurements.Kind.Requests token (length rs) (place_in i body)
+body_located i body (reports token rs) = placed Measurements.Kind.Reports token (length rs) (place_in i body)
+body_located i body (tpc_request token) = unplaced (Frame.TpcRequest token)
+body_located i body (tpc_report token t) = unplaced (Frame.TpcReport token t)
+body_located i body (switch s) = unplaced (Frame.ChannelSwitch s)
+
+abbrev pub located : ℕ → List ℕ → Placed Body → Placed Located
+located i body o = and_then o (λ b. Ok (body_located i body b))
 
 -- of a body of any subtype
-abbrev pub located_in : ℕ → List ℕ → Placed Kind → Located
-located_in i body (Err x) = unplaced (Err x)
-located_in i body (Ok (beacon t)) = unplaced (frame_laid (sent false (Ok (beacon t)))).reading
-located_in i body (Ok (probe_response t)) = unplaced (frame_laid (sent false (Ok (probe_response t)))).reading
-located_in i body (Ok (action b)) = located i body (Ok b)
+abbrev pub kind_located : ℕ → List ℕ → Kind → Located
+kind_located i body (beacon t) = unplaced (Frame.Beacon t.notice)
+kind_located i body (probe_response t) = unplaced (Frame.ProbeResponse t.notice)
+kind_located i body (action b) = body_located i body b
+
+abbrev pub located_in : ℕ → List ℕ → Placed Kind → Placed Located
+located_in i body o = and_then o (λ k. Ok (kind_located i body k))
 
 -- of a frame
 unfoldable pub kind_means : List ℕ → List ℕ → ℕ → List ℕ → Placed Kind
@@ -49,26 +54,17 @@ abbrev pub OffsetWithin : ℕ → Option ℕ → Type 0
 OffsetWithin size None = Unit {0}
 OffsetWithin size (Some n) = n ≤ size
 
-abbrev pub ReadingWithin : ℕ → Placed Frame → Type 0
-ReadingWithin size (Err x) = OffsetWithin size x.offset
-ReadingWithin size (Ok f) = Unit {0}
-
-abbrev pub reading_past : ℕ → Placed Frame → Placed Frame
-reading_past n (Err x) = Err (fault_past n x)
-reading_past n (Ok f) = Ok f
-
 -- ---- what is read there
 
-abbrev pub PlaceWithin : List ℕ → Place → Type 0
-PlaceWithin body Place.Absent = Unit {0}
-PlaceWithin body (Place.Contents start stop) = (start ≤ stop) × (stop ≤ length body)
+abbrev pub PlaceWithin : List ℕ → Option Contents → Type 0
+PlaceWithin body None = Unit {0}
+PlaceWithin body (Some p) = (p.start ≤ p.end) × (p.end ≤ length body)
 
 -- what the contents at a place mean; 16 where there are none
-abbrev pub means_at : {A : Type 0} → (List ℕ → Outcome A) → List ℕ → Place → Outcome A
-means_at means body Place.Absent = Err Refusal.Impossible
-means_at means body (Place.Contents start stop) = means (take (stop - start) (drop start body))
+abbrev pub means_at : {A : Type 0} → (List ℕ → Outcome A) → List ℕ → Option Contents → Outcome A
+means_at means body None = Err Refusal.Impossible
+means_at means body (Some p) = means (take (p.end - p.start) (drop p.start body))
 
--- in a body that was read so
-abbrev pub read_there : {A : Type 0} → (List ℕ → Outcome A) → List ℕ → Placed Frame → Place → Outcome A
-read_there means body (Err x) p = Err x.refusal
-read_there means body (Ok f) p = means_at means body p
+-- an action body as a frame, and its request at an index
+abbrev pub asked_of : ℕ → Placed Body → Placed Asked
+asked_of i o = and_then o (λ b. Ok (record { frame = action_frame b; request = request_in i b }))

@@ -9,6 +9,5 @@ single_frame token Single.TpcRequest = Frame.TpcRequest token
 single_frame token (Single.TpcReport t) = Frame.TpcReport token t
 single_frame token (Single.ChannelSwitch s) = Frame.ChannelSwitch s
 
-abbrev pub single_reading : ℕ → Placed Single → Placed Frame
-single_reading token (Err x) = Err x
-single_reading token (Ok s) = Ok (single_frame token s)
+abbrev pub single_located : ℕ → Placed Single → Placed Located
+single_located token o = and_then o (λ s. Ok (unplaced (single_frame token s)))

@@ -1,9 +1,10 @@
 -- What was read of a frame, as the code tells it.
-use Rattle.std.specs.Prelude.{Bool, true, false, Ok, Err}
+use Rattle.std.specs.Prelude.{Bool, true, false, Ok, Err, Some, None, Option}
 use Rattle.answer.specs.Checks.{pick}
 use Rattle.beacon.specs.Notices.{has_switch}
 use Rattle.frame.specs.declared.Frame.{Frame}
-use Rattle.frame.specs.declared.ibss.ReceivedInIbss.{ReceivedInIbss}
+use Rattle.frame.specs.declared.Received.{Received}
+use Rattle.element.specs.declared.ibss_dfs.IbssDfs.{IbssDfs}
 use Rattle.owner.specs.Owners.{named}
 use Rattle.owner.specs.declared.Owner.{Owner}
 use Rattle.answer.specs.Faults.{Placed}
@@ -18,9 +19,9 @@ announces_in (Frame.TpcRequest token) = false
 announces_in (Frame.TpcReport token t) = false
 announces_in (Frame.ChannelSwitch w) = true
 
-abbrev pub announces : Placed Frame → Bool
+abbrev pub announces : Placed Received → Bool
 announces (Err x) = false
-announces (Ok f) = announces_in f
+announces (Ok v) = announces_in v.frame
 
 abbrev is_beacon_frame : Frame → Bool
 is_beacon_frame (Frame.Beacon n) = true
@@ -31,10 +32,11 @@ is_beacon_frame (Frame.TpcRequest token) = false
 is_beacon_frame (Frame.TpcReport token t) = false
 is_beacon_frame (Frame.ChannelSwitch w) = false
 
-abbrev pub is_beacon : Placed Frame → Bool
+abbrev pub is_beacon : Placed Received → Bool
 is_beacon (Err x) = false
-is_beacon (Ok f) = is_beacon_frame f
+is_beacon (Ok v) = is_beacon_frame v.frame
 
 -- the owner that it names, if any, or the one before
-abbrev pub owner_named : Owner → ReceivedInIbss → Owner
-owner_named o v = pick v.names (named o v.dfs.owner v.dfs.recovery) o
+abbrev pub owner_named : Owner → Option IbssDfs → Owner
+owner_named o None = o
+owner_named o (Some d) = named o d.owner d.recovery

@@ -1,5 +1,6 @@
 -- A frame by the place of the row that it is sent to.
 use Rattle.std.specs.Prelude.{List, map, ℕ, ◌<◌, get_or, set, replicate, Some, None, Option}
+use Rattle.answer.specs.Faults.{Placed}
 use Rattle.frame.specs.declared.Received.{Received}
 use Rattle.row.specs.Rows.{row_count, free, row_heard}
 use Rattle.row.specs.declared.Row.{Row}
@@ -12,6 +13,6 @@ abbrev pub PlaceWithin : Option ℕ → Type 0
 PlaceWithin (Some i) = i < row_count
 PlaceWithin None = Unit {0}
 
-abbrev pub rows_after : Option ℕ → Received → List Row → List Row
+abbrev pub rows_after : Option ℕ → Placed Received → List Row → List Row
 rows_after (Some i) v ws = set ws i (row_heard v (get_or ws i free))
 rows_after None v ws = map (row_heard v) ws

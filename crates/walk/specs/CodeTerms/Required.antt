@@ -3,18 +3,18 @@ use Rattle.std.specs.Prelude.{List, ◌≡◌, ℕ, ◌+◌, ◌-◌, ◌≤◌,
 use Rattle.answer.specs.Checks.{Outcome}
 use Rattle.walk.specs.Handed.{passing_in}
 use Rattle.walk.specs.Required.{Standing}
-use Rattle.walk.specs.declared.Required.{Required}
+use Rattle.walk.specs.declared.Contents.{Contents}
 
--- the contents from a place to another, and the elements after them
-abbrev pub between : List ℕ → ℕ → ℕ → Standing
-between run start stop = record { contents = take (stop - start) (drop start run); rest = passing_in (drop stop run) }
+-- the contents that lie there, and the elements after them
+abbrev pub between : List ℕ → Contents → Standing
+between run c = record { contents = take (c.end - c.start) (drop c.start run); rest = passing_in (drop c.end run) }
 
--- the outcome that each case of the answer stands for
-abbrev pub required_told : List ℕ → Required → Outcome Standing
-required_told run (Required.Refused r) = Err r
-required_told run (Required.Contents start stop) = Ok (between run start stop)
+-- the outcome that an answer stands for
+abbrev pub required_told : List ℕ → Outcome Contents → Outcome Standing
+required_told run (Err r) = Err r
+required_told run (Ok c) = Ok (between run c)
 
 -- its contents begin two octets past the place, and end in the run
-abbrev pub RequiredWithin : ℕ → ℕ → Required → Type 0
-RequiredWithin at size (Required.Refused r) = Unit {0}
-RequiredWithin at size (Required.Contents start stop) = (start ≡ at + 2) × (start ≤ stop) × (stop ≤ size)
+abbrev pub RequiredWithin : ℕ → ℕ → Outcome Contents → Type 0
+RequiredWithin at size (Err r) = Unit {0}
+RequiredWithin at size (Ok c) = (c.start ≡ at + 2) × (c.start ≤ c.end) × (c.end ≤ size)

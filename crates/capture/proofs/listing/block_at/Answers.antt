@@ -1,10 +1,10 @@
 -- `block_at` meets its contract: no block, or one that is judged.
 -- Assumes nothing.
+use Rattle.std.specs.Prelude.{None, Option}
 use Rattle.std.proofs.Common.{ap, arith, drop, length, length-take, refl, sym, take, ℕ, ◌-◌, ◌<◌, ◌∙◌, ◌≡◌, ◌≤◌}
 use Rattle.block.proofs.Ending.{end_inside}
 use Rattle.block.proofs.Judging.{used_within}
 use Rattle.block.specs.Blocks.{block_means}
-use Rattle.block.specs.declared.Block.{Block}
 use Rattle.capture.specs.CodeTerms.Blocks.{Begins}
 use Rattle.capture.proofs.listing.block_at.Goals as goal
 use Rattle.capture.proofs.listing.block_at.Goals.{After-end_after-end, After-judge}
@@ -19,7 +19,7 @@ inside c =
     (omega (arith, e, c.end_after-end.ensures), omega (arith, e, c.end_after-end.ensures))
 
 -- how it is judged
-begins : (c : After-judge) (j : Block) → c.judge.result ≡ j
+begins : (c : After-judge) (j : Option ℕ) → c.judge.result ≡ j
     → let a = c.args in
     Begins a.blocks.now a.at c.end_after-end.result j
 begins c j told =
@@ -41,7 +41,7 @@ overflow_add-result-in-Used c =
     omega (arith, w, i, length-take (e - a.at) (drop a.at a.blocks.now))
 
 pub returns-in-Damaged : goal.returns-in-Damaged
-returns-in-Damaged c = begins (goal.at.returns-in-Damaged c).After-judge Block.Damaged c.in-Damaged.is
+returns-in-Damaged c = begins (goal.at.returns-in-Damaged c).After-judge None c.in-Damaged.is
 
 pub returns-in-Used : goal.returns-in-Used
 returns-in-Used c = (c.in-Used.used, refl, begins (goal.at.returns-in-Used c).After-judge _ c.in-Used.is)
