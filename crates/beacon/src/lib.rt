@@ -115,15 +115,13 @@ pub fn read(body: &[u8], interval: u16, ibss: bool, index: usize) -> Result<Hear
                 }
                 Found::Whole { id, start, end } => {
                     let contents = &body[start..end];
+                    let placed = |refusal| Fault::at(refusal, at);
                     if naming::reads_dfs(ibss, id) {
-                        let next = naming::read_dfs(contents, dfs.is_some(), index).map_err(
-                            |refusal| Fault::at(refusal, at),
-                        )?;
-                        dfs = Some(next);
+                        let next = naming::read_dfs(contents, dfs.is_some(), index);
+                        dfs = Some(next.map_err(placed)?);
                     } else {
-                        notice = adding::add_element(notice, id, contents, interval).map_err(
-                            |refusal| Fault::at(refusal, at),
-                        )?;
+                        let next = adding::add_element(notice, id, contents, interval);
+                        notice = next.map_err(placed)?;
                     }
                     at = end;
                 }

@@ -24,7 +24,7 @@ use Rattle.beacon.proofs.Saying.{short_body, other_interval, body_says}
 use Rattle.beacon.proofs.GoingUp.{mapped, placed_fault}
 use Rattle.beacon.proofs.Walking.{Comes, at_end, at_cut, at_bad_dfs, at_dfs, at_refused, at_notice, no_slot, at_quiet}
 use Rattle.beacon.proofs.read.Goals as goal
-use Rattle.beacon.proofs.read.Goals.{After-add_element, After-map_err, After-map_err-else-reads_dfs, After-read_dfs, In-Some}
+use Rattle.beacon.proofs.read.Goals.{After-add_element-next, After-map_err, After-map_err-else-reads_dfs, After-read_dfs-next, In-Some}
 use Rattle.beacon.specs.declared.Notice.{Notice}
 
 -- ---- before the loop
@@ -103,70 +103,70 @@ module _ (body : List ℕ) (at id start end : ℕ) {f : Found} (e : f ≡ Found.
       omega (arith, w, length-take-le (end - start) (drop start body) (simp length-drop (omega (arith, w))))
 
 -- ---- element 41: it is one that is read, and its refusal goes up with the place
-reads : (c : After-read_dfs) → reads_dfs c.args.ibss c.in-Whole.id ≡ true
+reads : (c : After-read_dfs-next) → reads_dfs c.args.ibss c.in-Whole.id ≡ true
 reads c = sym c.reads_dfs.ensures ∙ c.if-reads_dfs.true
 
-placed : (c : After-map_err) → c.map_err.result ≡ placed_at c.loop-quiet.at c.read_dfs.result
-placed c = mapped c.loop-quiet.at c.read_dfs.result (λ r x g. search rules) c.map_err.ensures.cases
+placed : (c : After-map_err) → c.map_err.result ≡ placed_at c.loop-quiet.at c.read_dfs-next.result
+placed c = mapped c.loop-quiet.at c.read_dfs-next.result (λ r x g. search rules) c.map_err.ensures.cases
 
 -- what was handed out by whether one was named before
-named : (c : After-read_dfs) → c.read_dfs.result ≡ naming_laid c.args.index (first_dfs (is_some c.loop-quiet.dfs) (take (c.in-Whole.end - c.in-Whole.start) (drop c.in-Whole.start c.args.body.now)))
+named : (c : After-read_dfs-next) → c.read_dfs-next.result ≡ naming_laid c.args.index (first_dfs (is_some c.loop-quiet.dfs) (take (c.in-Whole.end - c.in-Whole.start) (drop c.in-Whole.start c.args.body.now)))
 named c = search rules
 
-pub returns-in_err-next-in-Whole : goal.returns-in_err-next-in-Whole
-returns-in_err-next-in-Whole c =
-    let k = goal.at.returns-in_err-next-in-Whole c in
+pub returns-in_err-map_err-in-Whole : goal.returns-in_err-map_err-in-Whole
+returns-in_err-map_err-in-Whole c =
+    let k = goal.at.returns-in_err-map_err-in-Whole c in
     let n = c.element_at.ensures in
-    let f = placed_fault c.loop-quiet.at c.read_dfs.result (sym (placed k.After-map_err) ∙ c.in_err-next-in-Whole.was) in
+    let f = placed_fault c.loop-quiet.at c.read_dfs-next.result (sym (placed k.After-map_err) ∙ c.in_err-map_err-in-Whole.was) in
     let up = err_from_is_err_and c.from_residual.result c.from_residual.ensures.1 in
     up.1 ∙ ap Err (up.2 ∙ sym f.2)
     ∙ ap (laid c.args.index)
     (at_bad_dfs _ _ _ _ _ _ _ _ _ c.loop-quiet.invariant _ _ c.in-Whole.end (goes_on _ _ _ _ _ c.in-Whole.is n.run_value) (past _ _ _ _ _ c.in-Whole.is n.within)
-    (reads k.After-read_dfs) c.read_dfs.result (named k.After-read_dfs) f.0 f.1)
+    (reads k.After-read_dfs-next) c.read_dfs-next.result (named k.After-read_dfs-next) f.0 f.1)
 
-pub loop-quiet-preserved-in_ok-next-in-Whole : goal.loop-quiet-preserved-in_ok-next-in-Whole
-loop-quiet-preserved-in_ok-next-in-Whole c =
-    let k = goal.at.loop-quiet-preserved-in_ok-next-in-Whole c in
+pub loop-quiet-preserved-in_ok-map_err-in-Whole : goal.loop-quiet-preserved-in_ok-map_err-in-Whole
+loop-quiet-preserved-in_ok-map_err-in-Whole c =
+    let k = goal.at.loop-quiet-preserved-in_ok-map_err-in-Whole c in
     let n = c.element_at.ensures in
     at_dfs _ _ _ _ _ _ _ _ _ c.loop-quiet.invariant _ _ c.in-Whole.end (goes_on _ _ _ _ _ c.in-Whole.is n.run_value) (past _ _ _ _ _ c.in-Whole.is n.within)
-    (reads k.After-read_dfs) c.read_dfs.result (named k.After-read_dfs) c.in_ok-next-in-Whole.next
-    (placed_value c.loop-quiet.at c.read_dfs.result (sym (placed k.After-map_err) ∙ c.in_ok-next-in-Whole.was))
+    (reads k.After-read_dfs-next) c.read_dfs-next.result (named k.After-read_dfs-next) c.in_ok-map_err-in-Whole.field-0
+    (placed_value c.loop-quiet.at c.read_dfs-next.result (sym (placed k.After-map_err) ∙ c.in_ok-map_err-in-Whole.was))
 
 -- ---- any other
-skips : (c : After-add_element) → reads_dfs c.args.ibss c.in-Whole.id ≡ false
+skips : (c : After-add_element-next) → reads_dfs c.args.ibss c.in-Whole.id ≡ false
 skips c = sym c.reads_dfs.ensures ∙ c.if-reads_dfs.false
 
-abbrev contents : After-add_element → List ℕ
+abbrev contents : After-add_element-next → List ℕ
 contents c = take (c.in-Whole.end - c.in-Whole.start) (drop c.in-Whole.start c.args.body.now)
 
-goes : (c : After-add_element)
+goes : (c : After-add_element-next)
     → elements_in (drop c.loop-quiet.at c.args.body.now) ≡ follow c.args.body.now (Found.Whole c.in-Whole.id c.in-Whole.start c.in-Whole.end)
 goes c = goes_on _ _ _ _ _ c.in-Whole.is c.element_at.ensures.run_value
 
-ends : (c : After-add_element) → past_element c.loop-quiet.at (contents c) ≡ c.in-Whole.end
+ends : (c : After-add_element-next) → past_element c.loop-quiet.at (contents c) ≡ c.in-Whole.end
 ends c = past _ _ _ _ _ c.in-Whole.is c.element_at.ensures.within
 
 -- if it is a Quiet element that is not refused, no slot is left for it: one that finds a slot does not come here
-full : (c : After-add_element) → SlotlessIn c.loop-quiet.invariant.quiets c.args.interval c.in-Whole.id (contents c)
+full : (c : After-add_element-next) → SlotlessIn c.loop-quiet.invariant.quiets c.args.interval c.in-Whole.id (contents c)
 full c =
     no_slot _ _ _ _ _ _ _ _ _ c.loop-quiet.invariant _ _ c.in-Whole.end (goes c) (ends c)
     (subst (QuietAt c.args.body.now c.loop-quiet.at c.loop-quiet.count c.args.interval) c.in-None.is c.quiet_at.ensures)
 
 -- what was added is what the definition adds
-comes : (c : After-add_element) (x : Outcome Notice) → c.add_element.result ≡ x
+comes : (c : After-add_element-next) (x : Outcome Notice) → c.add_element-next.result ≡ x
     → Comes _ _ _ _ _ _ _ _ _ c.loop-quiet.invariant c.in-Whole.id (contents c) c.in-Whole.end (goes c) (ends c) x
 comes c x e =
     let w = c.loop-quiet.invariant in
-    ap (added_told w.quiets) (sym e) ∙ c.add_element.ensures w.quiets (full c)
+    ap (added_told w.quiets) (sym e) ∙ c.add_element-next.ensures w.quiets (full c)
 
-added : (c : After-map_err-else-reads_dfs) → c.map_err-else-reads_dfs.result ≡ placed_at c.loop-quiet.at c.add_element.result
-added c = mapped c.loop-quiet.at c.add_element.result (λ r x g. search rules) c.map_err-else-reads_dfs.ensures.cases
+added : (c : After-map_err-else-reads_dfs) → c.map_err-else-reads_dfs.result ≡ placed_at c.loop-quiet.at c.add_element-next.result
+added c = mapped c.loop-quiet.at c.add_element-next.result (λ r x g. search rules) c.map_err-else-reads_dfs.ensures.cases
 
 pub returns-in_err-notice-in-Whole : goal.returns-in_err-notice-in-Whole
 returns-in_err-notice-in-Whole c =
     let s = goal.at.returns-in_err-notice-in-Whole c in
-    let k = s.After-add_element in
-    let f = placed_fault c.loop-quiet.at c.add_element.result (sym (added s.After-map_err-else-reads_dfs) ∙ c.in_err-notice-in-Whole.was) in
+    let k = s.After-add_element-next in
+    let f = placed_fault c.loop-quiet.at c.add_element-next.result (sym (added s.After-map_err-else-reads_dfs) ∙ c.in_err-notice-in-Whole.was) in
     let up = err_from_is_err_and c.from_residual-in_err-notice-in-Whole.result c.from_residual-in_err-notice-in-Whole.ensures.1 in
     up.1 ∙ ap Err (up.2 ∙ sym f.2)
     ∙ ap (laid c.args.index) (at_refused _ _ _ _ _ _ _ _ _ c.loop-quiet.invariant _ _ c.in-Whole.end (goes k) (ends k) (skips k) f.0 (comes k _ f.1))
@@ -174,6 +174,6 @@ returns-in_err-notice-in-Whole c =
 pub loop-quiet-preserved : goal.loop-quiet-preserved
 loop-quiet-preserved c =
     let s = goal.at.loop-quiet-preserved c in
-    let k = s.After-add_element in
+    let k = s.After-add_element-next in
     at_notice _ _ _ _ _ _ _ _ _ c.loop-quiet.invariant _ _ c.in-Whole.end (goes k) (ends k) (skips k) _
-    (comes k _ (placed_value c.loop-quiet.at c.add_element.result (sym (added s.After-map_err-else-reads_dfs) ∙ c.in_ok-notice-in-Whole.was)))
+    (comes k _ (placed_value c.loop-quiet.at c.add_element-next.result (sym (added s.After-map_err-else-reads_dfs) ∙ c.in_ok-notice-in-Whole.was)))
