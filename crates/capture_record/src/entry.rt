@@ -2,8 +2,6 @@
 ghost use Rattle.std.specs.Prelude.{◌≡◌};
 ghost use Rattle.capture_record.specs.Entries.{settings_of, entry_told, entry_means};
 
-use frame::Frame;
-
 // A frame's octets and a start's settings stay in the contents.
 #[derive(Clone, Copy)]
 pub enum Entry {
@@ -28,39 +26,24 @@ pub struct Settings {
 pub fn settings_in(contents: &[u8]) -> Settings
     ensures { result ≡ settings_of contents.now }
 {
-    let own = octets::address_at(contents, 0);
-    let ap = octets::address_at(contents, 6);
     Settings {
-        own,
-        ap,
+        own: octets::address_at(contents, 0),
+        ap: octets::address_at(contents, 6),
         channel: octets::octet_at(contents, 12),
         interval: octets::number16(contents, 13),
     }
 }
 
 // A record by its kind and its contents.
+#[tactic(auto, unfolding(crate::specs::Entries::entry_means))]
 pub fn entry_of(kind: u8, contents: &[u8]) -> Entry
     ensures { entry_told contents.now result ≡ entry_means kind contents.now }
 {
-    let length = contents.len();
-    if kind == 2 {
-        return Entry::Frame;
+    match (kind, contents.len()) {
+        (1, 2) => Entry::Advance(octets::number16(contents, 0)),
+        (2, _) => Entry::Frame,
+        (3, 2) => Entry::Ask(octets::number16(contents, 0)),
+        (4, 15) => Entry::Start,
+        _ => Entry::Malformed,
     }
-    if kind == 4 {
-        if length == 15 {
-            return Entry::Start;
-        }
-        return Entry::Malformed;
-    }
-    if length != 2 {
-        return Entry::Malformed;
-    }
-    let units = octets::number16(contents, 0);
-    if kind == 1 {
-        return Entry::Advance(units);
-    }
-    if kind == 3 {
-        return Entry::Ask(units);
-    }
-    Entry::Malformed
 }

@@ -19,6 +19,7 @@ pub enum Found {
 }
 
 // The record at a place; the next one is at `end`.
+#[tactic(auto, using(crate::proofs::Walking::at_end, crate::proofs::Walking::at_cut_head, crate::proofs::Walking::at_cut_contents, crate::proofs::Walking::at_whole))]
 pub fn record_at(used: &[u8], at: usize) -> Found
     ensures used_value { records_in (drop at used.now) ≡ follow used.now result }
     ensures within { Within at (length used.now) result }
@@ -32,7 +33,7 @@ pub fn record_at(used: &[u8], at: usize) -> Found
     }
     let kind = used[at];
     let start = at + 3;
-    let length = octets::number16(used, at + 1) as usize;
+    let length = usize::from(octets::number16(used, at + 1));
     if used.len() - start < length {
         return Found::Cut;
     }

@@ -1,15 +1,13 @@
--- A text, and the letters of a word, stand whole in front of their room. Assumes nothing.
+-- A text stands whole in front of its room. Assumes nothing.
 use mathlib.Core.List.{List, ◌++◌}
 use mathlib.Core.Path.{◌≡◌, sym, ap, ap₂, ◌∙◌}
 use Prim.Native.Nat.{ℕ, ◌+◌, ◌-◌, ◌≤◌}
 use native.Mathlib.Omega.{arith}
 use lib.ListN.{length, take, drop, replicate, length-append, length-replicate, replicate-append-replicate}
 use lib.Seq.{take-append_seam, drop_at}
-use Rattle.pen.specs.CodeTerms.Letters.{lettered}
 use Rattle.pen.specs.CodeTerms.Putting.{OctetsPut}
-use Rattle.pen.specs.Rooms.{line_room, most_letters, roomy, fronted}
+use Rattle.pen.specs.Rooms.{line_room, roomy, fronted}
 use Rattle.pen.specs.declared.last_line.Text.{Text}
-use Rattle.pen.specs.declared.words.Letters.{Letters}
 
 module _ (room : ℕ) (os : List ℕ) where
   front : take (length os) (roomy room os) ≡ os
@@ -25,13 +23,6 @@ in_front_lem t os e = ap (λ (x : Text). take x.count x.bytes) e ∙ front line_
 -- which lie in its room
 pub count_within : (t : Text) (os : List ℕ) → t ≡ fronted os → t.count ≤ length t.bytes
 count_within t os e = omega (arith, ap (λ (x : Text). x.count) e, ap (λ (x : Text). length x.bytes) e, within line_room os)
-
--- and so do the letters of a word
-pub letters_front : (x : Letters) (os : List ℕ) → x ≡ lettered os → take x.count x.octets ≡ os
-letters_front x os e = ap (λ (x : Letters). take x.count x.octets) e ∙ front most_letters os
-
-pub letters_within : (x : Letters) (os : List ℕ) → x ≡ lettered os → x.count ≤ length x.octets
-letters_within x os e = omega (arith, ap (λ (x : Letters). x.count) e, ap (λ (x : Letters). length x.octets) e, within most_letters os)
 
 -- ---- octets that are put in front of an empty room
 

@@ -1,3 +1,2 @@
 -- What the code's shape needs beside what is promised.
-pub mod Letters
 pub mod Putting

@@ -10,6 +10,10 @@ line_room = 64
 abbrev pub most_letters : ℕ
 most_letters = 7
 
+-- a space, and the longest number
+abbrev pub offset_room : ℕ
+offset_room = 21
+
 -- so many octets at least, with zeros after those that are meant
 abbrev pub roomy : ℕ → List ℕ → List ℕ
 roomy room os = os ++ replicate (room - length os) 0

@@ -5,7 +5,7 @@ ghost use Rattle.pen.specs.Rooms.{fronted};
 
 use crate::putting;
 
-// The text is the first `count` octets; those after it are 0.
+// The text is the first `count` octets; those after it are 0. Its length differs from call to call, and there is no heap.
 #[derive(Clone, Copy)]
 pub struct Text {
     pub bytes: [u8; Text::ROOM],

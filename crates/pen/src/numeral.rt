@@ -20,11 +20,11 @@ pub fn spell(number: u64, digits: &mut [u8]) -> usize
     let mut rest = number;
     while 10 <= rest {
         from -= 1;
-        digits[from] = 48 + ((rest % 10) as u8);
+        digits[from] = b'0' + (rest % 10) as u8;
         rest /= 10;
     }
     from -= 1;
-    digits[from] = 48 + (rest as u8);
+    digits[from] = b'0' + rest as u8;
     from
 }
 
@@ -35,10 +35,10 @@ pub fn count_up(digits: &mut [u8], from: usize) -> usize
     ensures by_index_2 { (n : ℕ) → Spells n digits.old from → (result ≡ numeral_end - length (decimal (n + 1))) × (digits.new ≡ over digits.old (numeral_end - length (decimal (n + 1))) (decimal (n + 1))) }
 {
     let mut at = END - 1;
-    while digits[at] == 57 {
-        digits[at] = 48;
+    while digits[at] == b'9' {
+        digits[at] = b'0';
         if at == from {
-            digits[from - 1] = 49;
+            digits[from - 1] = b'1';
             return from - 1;
         }
         at -= 1;

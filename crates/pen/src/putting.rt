@@ -1,16 +1,15 @@
 // Lines put into a lent buffer. The digits of a line's number are those that are kept, and a line of an accepted call ends in constant octets.
 ghost use Rattle.std.specs.Prelude.{◌≡◌, [], ◌∷◌, ◌++◌, ℕ, ◌+◌, ◌≤◌, length, take, drop, None};
-ghost use Rattle.octets.specs.Writing.{over};
 ghost use Rattle.pen.specs.Decimals.{decimal};
 ghost use Rattle.pen.specs.Lines.{spelled, placed, line_of};
-ghost use Rattle.pen.specs.Numerals.{numeral_room, Spells};
-ghost use Rattle.pen.specs.CodeTerms.Putting.{OctetsPut, piece, PiecesPut, LinePut};
-ghost use Rattle.pen.specs.Rooms.{line_room, most_letters};
+ghost use Rattle.pen.specs.Numerals.{numeral_end, numeral_room, Spells};
+ghost use Rattle.pen.specs.CodeTerms.Putting.{OctetsPut, PiecesPut, LinePut};
+ghost use Rattle.pen.specs.Rooms.{line_room, most_letters, offset_room};
 
+use crate::numeral;
 use crate::words::Word;
-use crate::{numeral, words};
 
-// So many octets are loaded and stored as one.
+// So many octets are loaded and stored as one where they are copied together.
 const PIECE: usize = 8;
 
 // The octets, from a place on, and where they end.
@@ -18,35 +17,9 @@ pub fn put(octets: &[u8], out: &mut [u8], at: usize) -> usize
     requires { at + length octets.now ≤ length out.old }
     ensures { OctetsPut octets.now at out.old result out.new }
 {
-    let mut i = 0;
-    while i < octets.len() {
-        out[at + i] = octets[i];
-        i += 1;
-    }
-    at + octets.len()
-}
-
-// One piece. All of it is loaded before any of it is stored, so that the compiler can make one load and one store of them.
-fn put_piece(octets: &[u8], from: usize, out: &mut [u8], at: usize)
-    requires { (from + piece ≤ length octets.now) × (at + piece ≤ length out.old) }
-    ensures { out.new ≡ over out.old at (take piece (drop from octets.now)) }
-{
-    let first = octets[from];
-    let second = octets[from + 1];
-    let third = octets[from + 2];
-    let fourth = octets[from + 3];
-    let fifth = octets[from + 4];
-    let sixth = octets[from + 5];
-    let seventh = octets[from + 6];
-    let eighth = octets[from + 7];
-    out[at] = first;
-    out[at + 1] = second;
-    out[at + 2] = third;
-    out[at + 3] = fourth;
-    out[at + 4] = fifth;
-    out[at + 5] = sixth;
-    out[at + 6] = seventh;
-    out[at + 7] = eighth;
+    let end = at + octets.len();
+    out[at..end].copy_from_slice(octets);
+    end
 }
 
 // The digits, and where they end: the first of them in a whole piece, which is quicker than one by one, and few numbers have more. What comes along after
@@ -57,7 +30,7 @@ fn put_digits(digits: &[u8], from: usize, out: &mut [u8], at: usize) -> usize
     ensures { (n : ℕ) → Spells n digits.now from → PiecesPut (decimal n) at out.old result out.new }
 {
     let count = numeral::END - from;
-    put_piece(digits, from, out, at);
+    put(&digits[from..from + PIECE], out, at);
     if PIECE < count {
         put(&digits[from + PIECE..numeral::END], out, at + PIECE);
     }
@@ -69,11 +42,8 @@ fn put_word(word: Word, out: &mut [u8], at: usize) -> usize
     requires { at + most_letters + 2 ≤ length out.old }
     ensures { OctetsPut ((32 ∷ []) ++ (spelled word ++ (32 ∷ []))) at out.old result out.new }
 {
-    let letters = words::spelled(word);
-    let octets = letters.octets;
-    let count = letters.count;
     let spaced = put(b" ", out, at);
-    let worded = put(&octets[..count], out, spaced);
+    let worded = put(word.letters(), out, spaced);
     put(b" ", out, worded)
 }
 
@@ -90,8 +60,9 @@ pub fn put_accepted(digits: &[u8], from: usize, word: Word, out: &mut [u8], at: 
 
 // A number in decimal, and where it ends.
 pub fn put_number(number: u64, out: &mut [u8], at: usize) -> usize
-    requires { at + length (decimal number) ≤ length out.old }
-    ensures { OctetsPut (decimal number) at out.old result out.new }
+    requires { at + numeral_end ≤ length out.old }
+    ensures put { OctetsPut (decimal number) at out.old result out.new }
+    ensures short { length (decimal number) ≤ numeral_end }
 {
     let mut digits = [0; numeral::ROOM];
     let from = numeral::spell(number, &mut digits);
@@ -100,20 +71,21 @@ pub fn put_number(number: u64, out: &mut [u8], at: usize) -> usize
 
 // The answer in decimal, and where it ends. Most have one digit, which needs no spelling.
 fn put_answer(answer: u8, out: &mut [u8], at: usize) -> usize
-    requires { at + length (decimal answer) ≤ length out.old }
+    requires { at + numeral_end ≤ length out.old }
     ensures { OctetsPut (decimal answer) at out.old result out.new }
 {
     if answer < 10 {
-        out[at] = 48 + answer;
+        out[at] = b'0' + answer;
         return at + 1;
     }
-    put_number(answer as u64, out, at)
+    put_number(u64::from(answer), out, at)
 }
 
 // The offset of the octet at fault, if there is one, and where it ends.
 fn put_offset(offset: Option<usize>, out: &mut [u8], at: usize) -> usize
-    requires { at + length (placed offset) ≤ length out.old }
-    ensures { OctetsPut (placed offset) at out.old result out.new }
+    requires { at + offset_room ≤ length out.old }
+    ensures put { OctetsPut (placed offset) at out.old result out.new }
+    ensures short { length (placed offset) ≤ offset_room }
 {
     match offset {
         None => at,

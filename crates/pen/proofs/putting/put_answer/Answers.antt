@@ -3,11 +3,8 @@
 use Rattle.std.proofs.Common.{[], ap, arith, length, sym, ◌+◌, ◌∙◌, ◌∷◌}
 use lib.Seq.{sets-eq}
 use Rattle.octets.specs.Writing.{over}
-use Rattle.pen.proofs.Spelling.{one_alone, some_digits}
+use Rattle.pen.proofs.Spelling.{one_alone}
 use Rattle.pen.proofs.putting.put_answer.Goals as goal
-
-pub bounds-out-at : goal.bounds-out-at
-bounds-out-at c = omega (arith, c.requires, some_digits c.args.answer)
 
 pub returns-then-answer-lt10 : goal.returns-then-answer-lt10
 returns-then-answer-lt10 c =

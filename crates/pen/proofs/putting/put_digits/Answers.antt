@@ -17,8 +17,11 @@ within digits from p = omega (arith, p.1.room, placed_digits p.1)
 pub overflow_sub-count : goal.overflow_sub-count
 overflow_sub-count c = omega (arith, within _ _ c.requires.by_index)
 
-pub put_piece-requires : goal.put_piece-requires
-put_piece-requires c = omega (arith, within _ _ c.requires.by_index)
+pub overflow_add-from : goal.overflow_add-from
+overflow_add-from c = omega (arith, within _ _ c.requires.by_index)
+
+pub slice_bounds-put-end : goal.slice_bounds-put-end
+slice_bounds-put-end c = omega (arith, within _ _ c.requires.by_index)
 
 -- All digits stand in the buffer, and after them fewer octets than a piece.
 pub returns : goal.returns
@@ -28,6 +31,9 @@ returns c =
     let s = a.digits.now in
     let out = a.out.now in
     let exit = c.if-count-gt-PIECE.out in
+    let first : take (a.from + piece - a.from) (drop a.from s) ≡ take piece (drop a.from s) =
+    ap (λ (k : ℕ). take k (drop a.from s)) (let e : a.from + piece - a.from ≡ piece = omega arith in e) in
+    let stands = c.put.ensures.stands ∙ ap (over out a.at) first in
     let rest : ℕ = numeral_end - (a.from + piece) in
     let following : List ℕ = take rest (drop (a.from + piece) s) in
     λ n p.
@@ -35,10 +41,10 @@ returns c =
       | then-count-gt-PIECE w ↦
           pieces_put p (piece + rest) (omega arith) (omega arith) out exit a.at
           (w.out-is
-          ∙ w.put.ensures.stands
-          ∙ ap (λ (b : List ℕ). over b (a.at + piece) following) c.put_piece.ensures
+          ∙ w.put-then-count-gt-PIECE.ensures.stands
+          ∙ ap (λ (b : List ℕ). over b (a.at + piece) following) stands
           ∙ more_put s out a.from a.at rest (omega arith) (omega arith))
       | else-count-gt-PIECE w ↦
           pieces_put p piece (omega arith) (omega arith) out exit a.at
-          (w.out-is ∙ c.put_piece.ensures)
+          (w.out-is ∙ stands)
     ]

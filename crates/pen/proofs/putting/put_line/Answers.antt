@@ -2,7 +2,6 @@
 -- Assumes nothing.
 use Rattle.std.proofs.Common.{arith, length, ℕ, ◌<◌, ◌^◌, ◌≤◌}
 use Rattle.pen.specs.Decimals.{decimal}
-use Rattle.pen.proofs.Lengths.{offset_short}
 use Rattle.pen.proofs.Spelling.{few_digits}
 use Rattle.pen.proofs.WholeLines.{number_ends, word_ends, parts_put}
 use Rattle.pen.proofs.putting.put_line.Goals as goal
@@ -30,7 +29,7 @@ put_offset-ended-requires c =
     let number_put = c.put_digits-numbered.ensures p.0 p.1 in
     let at_word = word_ends p.1 number_put c.args.word c.put_word-worded.ensures in
     let few = answer_short c.args.answer c.ranges.answer.fits in
-    omega (arith, offset_short c.args.offset c.well_formed.1.1.1.1.0)
+    omega arith
 
 pub put-requires : goal.put-requires
 put-requires c =
@@ -38,14 +37,13 @@ put-requires c =
     let number_put = c.put_digits-numbered.ensures p.0 p.1 in
     let at_word = word_ends p.1 number_put c.args.word c.put_word-worded.ensures in
     let few = answer_short c.args.answer c.ranges.answer.fits in
-    omega (arith, offset_short c.args.offset c.well_formed.1.1.1.1.0)
+    omega arith
 
 pub returns : goal.returns
 returns c =
     let x = c.args in
     let few = answer_short x.answer c.ranges.answer.fits in
-    let short = offset_short x.offset c.well_formed.1.1.1.1.0 in
     λ n e.
-    parts_put e c.requires.line_room_in_bounds x.word x.answer x.offset few short (omega arith)
+    parts_put e c.requires.line_room_in_bounds x.word x.answer x.offset few c.put_offset-ended.ensures.short (omega arith)
     (c.put_digits-numbered.ensures n e) c.put_word-worded.ensures c.put_answer-answered.ensures
-    c.put_offset-ended.ensures c.put.ensures
+    c.put_offset-ended.ensures.put c.put.ensures
