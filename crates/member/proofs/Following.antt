@@ -13,7 +13,6 @@ use Rattle.answer.specs.Faults.{Placed, fault_nowhere, Verdict}
 use Rattle.answer.specs.declared.Refusal.{Refusal}
 use Rattle.beacon.specs.Beacons.{Told}
 use Rattle.beacon.specs.Laid.{dfs_fields}
-use Rattle.beacon.specs.Notices.{has_switch}
 use Rattle.element.specs.IbssDfs.{Dfs}
 use Rattle.frame.specs.Actions.{requests, reports, tpc_request, tpc_report, switch}
 use Rattle.frame.specs.Announcements.{announcement_in}
@@ -40,7 +39,7 @@ use Rattle.member.specs.declared.taking.Taken.{Taken}
 
 -- ---- what was read of each kind
 
-announces_as : (k : Kind) → announces (Ok (frame_of k)) ≡ has_switch (announcement_in k)
+announces_as : (k : Kind) → announces (Ok (frame_of k)) ≡ is_some (announcement_in k)
 announces_as (beacon t) = refl
 announces_as (probe_response t) = refl
 announces_as (action (requests token rs)) = refl

@@ -1,9 +1,8 @@
 -- A station of an IBSS (02, Five): document 01's station, whose AP is the BSSID, and the DFS owner that it follows.
-use Rattle.std.specs.Prelude.{Bool, not, ◌&&◌, List, [], ◌∷◌, ℕ, Ok, Err, Some, None, Option}
+use Rattle.std.specs.Prelude.{Bool, not, ◌&&◌, List, [], ◌∷◌, ℕ, Ok, Err, Some, None, Option, is_some}
 use Rattle.answer.specs.Checks.{Outcome, ◌⇒◌, checked, and_then}
 use Rattle.answer.specs.Faults.{Placed, fault_nowhere}
 use Rattle.answer.specs.declared.Refusal.{Refusal}
-use Rattle.beacon.specs.Notices.{has_switch}
 use Rattle.frame.specs.Announcements.{announcement_in}
 use Rattle.frame.specs.Frames.{Kind, beacon, probe_response, action}
 use Rattle.frame.specs.IbssFrames.{SentInIbss, ibss_frame_means}
@@ -42,7 +41,7 @@ heard_by o sender (action body) = o
 
 -- an announcement by any but this owner, if it is known at all
 abbrev pub foreign_announcement : Owner → SentInIbss → Bool
-foreign_announcement o x = has_switch (announcement_in x.sent.kind) && not (is_owner o x.sender)
+foreign_announcement o x = is_some (announcement_in x.sent.kind) && not (is_owner o x.sender)
 
 -- a frame that is accepted but for this: 23 comes last, and element 41 comes before the announcement of its own beacon
 abbrev pub follows : Member → SentInIbss → Placed Member
