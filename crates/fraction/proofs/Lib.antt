@@ -1,4 +1,4 @@
 pub mod Ceilings
-pub mod Filling
+pub mod Mapped
 pub mod Possible
 pub mod SumBound

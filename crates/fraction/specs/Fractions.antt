@@ -1,10 +1,9 @@
 -- Busy fraction and densities (01, "Replies", its last paragraph): the ceiling of 255 times a time in µs over 1,024 times the
 -- duration in TU. Duration 0, or times whose sum is over 1,024 times the duration: 16.
-use Rattle.std.specs.Prelude.{Bool, not, ◌&&◌, List, [], ◌∷◌, map, ℕ, ◌+◌, ◌-◌, ◌*◌, ◌/◌, replicate, leb, eqb, Ok, Err}
+use Rattle.std.specs.Prelude.{Bool, not, ◌&&◌, List, [], ◌∷◌, map, ℕ, ◌+◌, ◌-◌, ◌*◌, ◌/◌, leb, eqb}
 use Rattle.answer.specs.Checks.{Outcome, ◌⇒◌, judged}
 use Rattle.octets.specs.Sums.{sum_of}
 use Rattle.answer.specs.declared.Refusal.{Refusal}
-use Rattle.fraction.specs.declared.Densities.{Densities}
 
 -- the least number that times d is n or more, for d over 0
 unfoldable pub ceiling : ℕ → ℕ → ℕ

@@ -1,36 +1,36 @@
 // The busy fraction and the eight RPI densities (document 01, "Replies"; 802.11h 7.3.2.22.2 and 7.3.2.22.3).
 #![tactic(auto)]
 
-ghost use Rattle.std.specs.Prelude.{◌≡◌, ◌*◌, ◌<◌, ◌≤◌, IfOk};
+ghost use Rattle.std.specs.Prelude.{◌≡◌, ℕ, ◌*◌, ◌<◌, ◌≤◌, IfOk, map, get_or};
 ghost use Rattle.octets.specs.Sums.{sum_of};
 ghost use Rattle.fraction.specs.Fractions.{possible, fraction_of, busy_of, densities_of};
 
 use answer::Refusal;
 
 // Whether times of this sum can have been measured within a duration.
+#[tactic(auto, unfolding(crate::specs::Fractions::possible))]
 fn is_possible(sum: u64, duration: u16) -> bool
     ensures { result ≡ possible duration sum }
 {
-    if duration == 0 {
-        return false;
-    }
-    sum <= 1024 * (duration as u64)
+    duration > 0 && sum <= 1024 * u64::from(duration)
 }
 
 // The ceiling of 255 times a time over a duration.
+#[tactic(auto, unfolding(crate::specs::Fractions::ceiling, crate::specs::Fractions::fraction_of))]
 fn share(time: u32, duration: u16) -> u8
     requires { (0 < duration) × (time ≤ 1024 * duration) }
     ensures { result ≡ fraction_of duration time }
 {
-    let whole = 1024 * (duration as u64);
-    ((255 * (time as u64) + (whole - 1)) / whole) as u8
+    let whole = 1024 * u64::from(duration);
+    (255 * u64::from(time)).div_ceil(whole) as u8
 }
 
 // The busy fraction of a time in µs within a duration in TU.
+#[tactic(auto, unfolding(crate::specs::Fractions::possible, crate::specs::Fractions::busy_of, answer::specs::Checks::checked))]
 pub fn busy_fraction(time: u32, duration: u16) -> Result<u8, Refusal>
     ensures { result ≡ busy_of duration time }
 {
-    if !is_possible(time as u64, duration) {
+    if !is_possible(u64::from(time), duration) {
         return Err(Refusal::Impossible);
     }
     Ok(share(time, duration))
@@ -40,16 +40,19 @@ pub fn busy_fraction(time: u32, duration: u16) -> Result<u8, Refusal>
 fn total(times: [u32; 8]) -> u64
     ensures { result ≡ sum_of times }
 {
-    let mut sum: u64 = 0;
-    let mut i = 0;
-    while i < 8 {
-        sum += times[i] as u64;
-        i += 1;
-    }
-    sum
+    times.iter().map(|time| u64::from(*time)).sum()
+}
+
+// The share of each of the times.
+fn shares(times: [u32; 8], duration: u16) -> [u8; 8]
+    requires { (0 < duration) × ((i : ℕ) → get_or times i 0 ≤ 1024 * duration) }
+    ensures { result ≡ map (fraction_of duration) times }
+{
+    times.map(|time| share(time, duration))
 }
 
 // The eight densities together, of eight times in µs within a duration in TU.
+#[tactic(auto, unfolding(crate::specs::Fractions::possible, crate::specs::Fractions::densities_of, answer::specs::Checks::checked), using(crate::proofs::SumBound::sum_of_eight, octets::proofs::SumLaws::entry_in_sum))]
 pub fn rpi_densities(times: [u32; 8], duration: u16) -> Result<[u8; 8], Refusal>
     ensures value { result ≡ densities_of duration times }
     ensures values_bound { IfOk result (λ values. sum_of values ≤ 262) }
@@ -57,11 +60,5 @@ pub fn rpi_densities(times: [u32; 8], duration: u16) -> Result<[u8; 8], Refusal>
     if !is_possible(total(times), duration) {
         return Err(Refusal::Impossible);
     }
-    let mut values = [0u8; 8];
-    let mut i = 0;
-    while i < 8 {
-        values[i] = share(times[i], duration);
-        i += 1;
-    }
-    Ok(values)
+    Ok(shares(times, duration))
 }

@@ -1,17 +1,15 @@
--- Comparing addresses, three octets at a time, and with all ones two at a time. Assumes nothing.
+-- Comparing addresses, and telling all ones by two numbers. Assumes nothing.
 use mathlib.Core.Path.{◌≡◌, refl, sym, ap, ap₂, ◌∙◌}
-use mathlib.Core.Bool.{Bool, true, false, ◌&&◌, and-true, and_assoc}
+use mathlib.Core.Bool.{Bool, true, ◌&&◌, and-true, and_assoc}
 use mathlib.Core.List.{List, [], ◌∷◌}
-use mathlib.Core.Logic.{⊎_elim}
-use Prim.Native.Nat.{ℕ, ◌+◌, ◌*◌, ◌<◌}
-use native.Mathlib.Nat.{add_assoc}
+use Prim.Native.Nat.{ℕ, zero, suc, ◌+◌, ◌*◌, ◌<◌}
 use native.Mathlib.Omega.{arith}
-use borrow.Author.Tests.{eq-eqb, ne_eqb, eqb-true, eqb-false}
+use borrow.Author.Tests.{eq-eqb, eqb-true}
+use Rattle.std.proofs.lemmas.Bool.Decides.{nat_tests}
 use lib.Dec.{eqb}
-use lib.ListN.{length}
-use Rattle.octets.specs.Numbers.{octet, octets_from}
-use Rattle.octets.proofs.JoinSplit.{all_from}
-use Rattle.answer.proofs.Booleans.{clash, either, both, and_go, and_stop}
+use lib.ListN.{replicate}
+use Rattle.octets.specs.Numbers.{Octets, octet, octets_from, number}
+use Rattle.answer.proofs.Booleans.{clash, both, and_go}
 use Rattle.header.specs.Headers.{same, to_all}
 
 -- addresses compare as the same exactly if they are
@@ -25,34 +23,22 @@ same_is [] (y ∷ ys) e = clash (sym e)
 same_is (x ∷ xs) [] e = clash (sym e)
 same_is (x ∷ xs) (y ∷ ys) e = let w = both (eqb x y) (same xs ys) e in ap₂ (λ z zs. z ∷ zs) (eqb-true x y w.0) (same_is xs ys w.1)
 
-pub three : (f : List ℕ) (at x y z : ℕ)
-    → same (octets_from 3 at f) (x ∷ y ∷ z ∷ []) ≡ (eqb (octet at f) x && (eqb (octet (at + 1) f) y && eqb (octet (at + 2) f) z))
-three f at x y z = simp (add_assoc, and-true)
+-- octets are all ones where the number that they hold is the highest
+abbrev highest : ℕ → ℕ
+highest zero = 0
+highest (suc k) = 255 + 256 * highest k
 
-pub six : (f : List ℕ) (at : ℕ) (ys : List ℕ) → length ys ≡ 6
-    → same (octets_from 6 at f) ys ≡ (same (octets_from 3 at f) (octets_from 3 0 ys) && same (octets_from 3 (at + 3) f) (octets_from 3 3 ys))
-six f at ys e = ap (same (octets_from 6 at f)) (sym (all_from 6 ys e)) ∙ simp (add_assoc, and-true, and_assoc)
+both_highest : (o j m : ℕ) → o < 256 → eqb (o + 256 * j) (255 + 256 * m) ≡ (eqb o 255 && eqb j m)
+both_highest o j m h = grind (arith, nat_tests)
 
--- two octets are ones where the number that they make is the highest
-pub two_ones : (x y : ℕ) → x < 256 → y < 256 → eqb (x + 256 * y) 65535 ≡ (eqb x 255 && eqb y 255)
-two_ones x y h k =
-    ⊎_elim
-    (λ (p : eqb x 255 ≡ true).
-    ⊎_elim
-    (λ (q : eqb y 255 ≡ true). eq-eqb (x + 256 * y) 65535 (omega (arith, eqb-true x 255 p, eqb-true y 255 q)) ∙ sym (and_go _ p ∙ q))
-    (λ (q : eqb y 255 ≡ false).
-    ne_eqb (x + 256 * y) 65535 (λ (e : x + 256 * y ≡ 65535). eqb-false y 255 q (omega (arith, eqb-true x 255 p))) ∙ sym (and_go _ p ∙ q))
-    (either (eqb y 255)))
-    (λ (p : eqb x 255 ≡ false).
-    ne_eqb (x + 256 * y) 65535 (λ (e : x + 256 * y ≡ 65535). eqb-false x 255 p (omega arith)) ∙ sym (and_stop _ _ p))
-    (either (eqb x 255))
+ones_from : (f : List ℕ) → Octets f → (k at : ℕ) → same (octets_from k at f) (replicate k 255) ≡ eqb (number k at f) (highest k)
+ones_from f fit zero at = refl
+ones_from f fit (suc k) at =
+    ap (λ (b : Bool). eqb (octet at f) 255 && b) (ones_from f fit k (at + 1)) ∙ sym (both_highest (octet at f) (number k (at + 1) f) (highest k) (fit at))
 
-abbrev pub ones : ℕ → List ℕ → Bool
-ones at f = same (octets_from 2 at f) (255 ∷ 255 ∷ [])
-
-pub two : (f : List ℕ) (at : ℕ) → ones at f ≡ (eqb (octet at f) 255 && eqb (octet (at + 1) f) 255)
-two f at = simp and-true
-
-pub six_ones : (f : List ℕ) → to_all f ≡ (ones 4 f && (ones 6 f && ones 8 f))
+six_ones : (f : List ℕ) → to_all f ≡ (same (octets_from 4 4 f) (replicate 4 255) && same (octets_from 2 8 f) (replicate 2 255))
 unfolding to_all
 six_ones f = simp (and-true, and_assoc)
+
+pub two_highest : (f : List ℕ) → Octets f → to_all f ≡ (eqb (number 4 4 f) 4294967295 && eqb (number 2 8 f) 65535)
+two_highest f fit = six_ones f ∙ ap₂ (λ a b. a && b) (ones_from f fit 4 4) (ones_from f fit 2 8)

@@ -1,4 +1,3 @@
 pub mod Addresses
 pub mod Heard
-pub mod SameAddresses
 pub mod SentBy

@@ -1,6 +1,6 @@
 -- The header (01, "Octets": octet 0 is version in bits 0-1, type in 2-3, subtype in 4-7; then flags, duration (2), DA, SA, BSSID,
 -- sequence control (2)) and what is refused of it, in 01's order: 1, 2, 3, 4. `own` is the station's address, `bss` the BSSID of its cell.
-use Rattle.std.specs.Prelude.{Bool, true, false, not, ◌&&◌, ◌||◌, List, [], ◌∷◌, ◌++◌, ℕ, ◌/◌, ◌%◌, ltb, eqb, length, take, drop, replicate, Ok, Err}
+use Rattle.std.specs.Prelude.{Bool, true, false, not, ◌&&◌, ◌||◌, List, [], ◌∷◌, ◌++◌, ℕ, ◌/◌, ◌%◌, ltb, eqb, length, take, drop, replicate, Ok}
 use Rattle.answer.specs.Checks.{Outcome, pick, ◌⇒◌, judged, and_then}
 use Rattle.answer.specs.declared.Refusal.{Refusal}
 use Rattle.octets.specs.Numbers.{octet, octets_from, bit}
@@ -58,6 +58,10 @@ is_read n = eqb n 5 || (eqb n 8 || eqb n 13)
 abbrev pub subtype_of : ℕ → Subtype
 subtype_of n = pick (eqb n 5) Subtype.ProbeResponse (pick (eqb n 8) Subtype.Beacon Subtype.Action)
 
+-- which of the frames that are read has this number
+abbrev pub subtype_in : ℕ → Outcome Subtype
+subtype_in n = judged (not (is_read n) ⇒ Refusal.ForeignHeader ∷ []) (subtype_of n)
+
 -- To DS, From DS, More Fragments, Protected
 abbrev pub has_foreign_flag : ℕ → Bool
 has_foreign_flag o = bit 0 o || (bit 1 o || (bit 2 o || bit 6 o))
@@ -67,6 +71,10 @@ unfoldable pub foreign_header : List ℕ → Bool
 foreign_header f =
     not (eqb (version f) 0) ||
     (not (eqb (type f) 0) || (not (is_read (subtype f)) || (has_foreign_flag (flags f) || not (eqb (fragment f) 0))))
+
+-- the same but for the subtype
+unfoldable pub foreign_but_for_subtype : List ℕ → Bool
+foreign_but_for_subtype f = not (eqb (version f) 0) || (not (eqb (type f) 0) || (has_foreign_flag (flags f) || not (eqb (fragment f) 0)))
 
 -- sent to all ones
 unfoldable pub to_all : List ℕ → Bool

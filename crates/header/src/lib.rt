@@ -21,6 +21,7 @@ pub struct Head {
 }
 
 // The header of a frame that a station hears in its cell: from its AP, or from a member of its IBSS.
+#[tactic(auto, unfolding(crate::specs::Headers::header_means))]
 pub fn read(frame: &[u8], cell: Cell, own: [u8; 6], bssid: [u8; 6]) -> Result<Head, Refusal>
     ensures { result ≡ header_means cell own bssid frame.now }
 {

@@ -8,9 +8,5 @@ use crate::management::LENGTH;
 pub fn body(frame: &[u8]) -> &[u8]
     ensures { result.now ≡ body_of frame.now }
 {
-    if frame.len() < LENGTH {
-        let end = frame.len();
-        return &frame[end..];
-    }
-    &frame[LENGTH..]
+    &frame[LENGTH.min(frame.len())..]
 }

@@ -1,14 +1,13 @@
 // The report that is owed for an element of a Measurement Request (document 01, "Replies").
 #![tactic(auto)]
 
-ghost use Rattle.std.specs.Prelude.{◌≡◌, Ok};
-ghost use Rattle.measurement_element.specs.MeasurementReport.{report_laid};
+ghost use Rattle.std.specs.Prelude.{◌≡◌};
 ghost use Rattle.measured_report.specs.Reports.{plain, map_report, busy_report, rpi_report, found_report, measured_report, report_for};
 
 use answer::Refusal;
 use measurement_element::measurement_report::{Matter, Reason, Report};
-use measurement_element::measurement_request::Request;
-use measurement_element::{Found, Span, measurement_report, measurement_request};
+use measurement_element::measurement_request::{Matter as Asked, Request};
+use measurement_element::{Found, Span};
 
 // What the caller has found, or that it refuses to measure: a map, a busy time in µs, or eight times in µs, which stand beside it.
 #[derive(Clone, Copy)]
@@ -26,126 +25,90 @@ pub struct Readings {
 }
 
 // A report with no densities beside it.
-fn plain(token: u8, kind: u8, matter: Matter) -> measurement_report::Reading
-    ensures { result ≡ report_laid (Ok (plain token kind matter)) }
+fn plain(request: Request, matter: Matter) -> Report
+    ensures { result ≡ plain request.token request.kind matter }
 {
-    let report = Report {
-        token,
-        kind,
+    Report {
+        token: request.token,
+        kind: request.kind,
         matter,
         densities: [0; 8],
-    };
-    let answer = Ok(());
-    measurement_report::Reading { answer, report }
+    }
 }
 
 // A map answers type 0.
-fn map_report(token: u8, kind: u8, span: Span, map: u8) -> measurement_report::Reading
-    ensures { result ≡ report_laid (map_report token kind span map) }
+fn map_report(request: Request, span: Span, map: u8) -> Result<Report, Refusal>
+    ensures { result ≡ map_report request.token request.kind span map }
 {
-    if kind != 0 {
-        return measurement_report::refused(Refusal::Impossible);
+    if request.kind != 0 {
+        return Err(Refusal::Impossible);
     }
     let found = Found::Map(map);
-    plain(token, kind, Matter::Measured { span, found })
+    Ok(plain(request, Matter::Measured { span, found }))
 }
 
 // A busy time answers type 1.
-fn busy_report(token: u8, kind: u8, span: Span, time: u32) -> measurement_report::Reading
-    ensures { result ≡ report_laid (busy_report token kind span time) }
+fn busy_report(request: Request, span: Span, time: u32) -> Result<Report, Refusal>
+    ensures { result ≡ busy_report request.token request.kind span time }
 {
-    if kind != 1 {
-        return measurement_report::refused(Refusal::Impossible);
+    if request.kind != 1 {
+        return Err(Refusal::Impossible);
     }
-    match fraction::busy_fraction(time, span.duration) {
-        Err(refusal) => measurement_report::refused(refusal),
-        Ok(busy) => {
-            let found = Found::Busy(busy);
-            plain(token, kind, Matter::Measured { span, found })
-        }
-    }
+    let found = Found::Busy(fraction::busy_fraction(time, span.duration)?);
+    Ok(plain(request, Matter::Measured { span, found }))
 }
 
 // Eight times answer type 2.
-fn rpi_report(token: u8, kind: u8, span: Span, times: [u32; 8]) -> measurement_report::Reading
-    ensures { result ≡ report_laid (rpi_report token kind span times) }
+fn rpi_report(request: Request, span: Span, times: [u32; 8]) -> Result<Report, Refusal>
+    ensures { result ≡ rpi_report request.token request.kind span times }
 {
-    if kind != 2 {
-        return measurement_report::refused(Refusal::Impossible);
+    if request.kind != 2 {
+        return Err(Refusal::Impossible);
     }
-    let found = fraction::rpi_densities(times, span.duration);
-    let answer = found.answer;
-    let densities = found.values;
-    match answer {
-        Err(refusal) => measurement_report::refused(refusal),
-        Ok(()) => {
-            let found = Found::Densities;
-            let matter = Matter::Measured { span, found };
-            let report = Report {
-                token,
-                kind,
-                matter,
-                densities,
-            };
-            measurement_report::Reading { answer, report }
-        }
-    }
+    let densities = fraction::rpi_densities(times, span.duration)?;
+    let found = Found::Densities;
+    Ok(Report {
+        densities,
+        ..plain(request, Matter::Measured { span, found })
+    })
 }
 
 // The caller's own refusal or readings, as the type asks.
-fn found_report(token: u8, kind: u8, span: Span, readings: Readings) -> measurement_report::Reading
-    ensures { result ≡ report_laid (found_report token kind span readings) }
+fn found_report(request: Request, span: Span, readings: Readings) -> Result<Report, Refusal>
+    ensures { result ≡ found_report request.token request.kind span readings }
 {
-    let finding = readings.finding;
-    let times = readings.times;
-    match finding {
-        Finding::Refused => plain(token, kind, Matter::NotMeasured(Reason::Refused)),
-        Finding::Map(map) => map_report(token, kind, span, map),
-        Finding::Busy(time) => busy_report(token, kind, span, time),
-        Finding::Times => rpi_report(token, kind, span, times),
+    match readings.finding {
+        Finding::Refused => Ok(plain(request, Matter::NotMeasured(Reason::Refused))),
+        Finding::Map(map) => map_report(request, span, map),
+        Finding::Busy(time) => busy_report(request, span, time),
+        Finding::Times => rpi_report(request, span, readings.times),
     }
 }
 
 // A start that is not 0 and lies before the clock is late; one of 0 is now. The timing is in µs, 1,024 of them a TU.
 fn measured_report(
-    token: u8,
-    kind: u8,
+    request: Request,
     span: Span,
     clock: u32,
     readings: Readings,
-) -> measurement_report::Reading
-    ensures { result ≡ report_laid (measured_report token kind span clock readings) }
+) -> Result<Report, Refusal>
+    ensures { result ≡ measured_report request.token request.kind span clock readings }
 {
-    let now = (clock as u64) * 1024;
-    if span.start == 0 {
-        let begun = Span { start: now, ..span };
-        return found_report(token, kind, begun, readings);
+    let now = u64::from(clock) * 1024;
+    if span.start != 0 && span.start < now {
+        return Ok(plain(request, Matter::NotMeasured(Reason::Late)));
     }
-    if span.start < now {
-        return plain(token, kind, Matter::NotMeasured(Reason::Late));
-    }
-    found_report(token, kind, span, readings)
+    let start = if span.start == 0 { now } else { span.start };
+    found_report(request, Span { start, ..span }, readings)
 }
 
 // An Enable element gets no reply, and a type over 2 cannot be measured.
-pub fn report_for(request: Request, clock: u32, readings: Readings) -> measurement_report::Reading
-    ensures { result ≡ report_laid (report_for clock readings request) }
+pub fn report_for(request: Request, clock: u32, readings: Readings) -> Result<Report, Refusal>
+    ensures { result ≡ report_for clock readings request }
 {
-    let token = request.token;
-    let kind = request.kind;
-    let matter = request.matter;
-    match matter {
-        measurement_request::Matter::Enable {
-            request: _,
-            report: _,
-        } => measurement_report::refused(Refusal::NoReplyDue),
-        measurement_request::Matter::Uninterpreted => plain(
-            token,
-            kind,
-            Matter::NotMeasured(Reason::Incapable),
-        ),
-        measurement_request::Matter::Measure(span) => measured_report(
-            token, kind, span, clock, readings,
-        ),
+    match request.matter {
+        Asked::Enable { .. } => Err(Refusal::NoReplyDue),
+        Asked::Measure(span) => measured_report(request, span, clock, readings),
+        Asked::Uninterpreted => Ok(plain(request, Matter::NotMeasured(Reason::Incapable))),
     }
 }

@@ -1,7 +1,7 @@
 -- Element 39, Measurement Report (01, "Octets"; 7.3.2.22): token, mode, type. Mode bits 0 Late, 1 Incapable, 2 Refused; more than
 -- one, at length 3 or more: 9; exactly one: length 3. With none, types 0 and 1 have length 15 and type 2 has 22: channel, start
 -- (8), duration (2), then what was found; other types have 3 or more.
-use Rattle.std.specs.Prelude.{Bool, true, false, not, ◌&&◌, ◌||◌, List, [], ◌∷◌, ◌++◌, ◌≡◌, ℕ, ◌+◌, ◌/◌, ◌%◌, length, replicate, ltb, eqb, Ok, Err}
+use Rattle.std.specs.Prelude.{Bool, true, false, not, ◌&&◌, ◌||◌, List, [], ◌∷◌, ◌++◌, ◌≡◌, ℕ, ◌+◌, ◌/◌, ◌%◌, length, replicate, ltb, eqb}
 use Rattle.answer.specs.Checks.{Outcome, pick, ◌⇒◌, judged}
 use Rattle.answer.specs.declared.Refusal.{Refusal}
 use Rattle.octets.specs.Elements.{element}
@@ -10,7 +10,6 @@ use Rattle.octets.specs.Sums.{sum_of}
 use Rattle.measurement_element.specs.Found.{found_by, found_size, found_forbids, found_agrees, found_clear, found_octets, has_densities}
 use Rattle.measurement_element.specs.Span.{span_in, span_octets, span_forbids, SpanFits}
 use Rattle.measurement_element.specs.declared.measurement_report.Matter.{Matter}
-use Rattle.measurement_element.specs.declared.measurement_report.Reading.{Reading}
 use Rattle.measurement_element.specs.declared.measurement_report.Reason.{Reason}
 use Rattle.measurement_element.specs.declared.measurement_report.Report.{Report}
 
@@ -81,15 +80,6 @@ report_means c =
     ∷ report_forbids (report_in c).matter ⇒ Refusal.ForbiddenValue
     ∷ [])
     (report_in c)
-
--- what stands beside a refusal
-abbrev pub no_report : Report
-no_report = record { token = 0; kind = 0; matter = Matter.Uninterpreted; densities = no_densities }
-
--- the answer with its report beside it
-abbrev pub report_laid : Outcome Report → Reading
-report_laid (Err r) = record { answer = Err r; report = no_report }
-report_laid (Ok p) = record { answer = Ok tt; report = p }
 
 -- ---- written
 

@@ -1,6 +1,6 @@
 -- Element 38, Measurement Request (01, "Octets"; 7.3.2.21): token, mode, type. Mode bit 1 is Enable; with it the length is 3 and
 -- bits 2 and 3 are Request and Report. Without it types 0 basic, 1 CCA and 2 RPI have length 14, and others 3 or more.
-use Rattle.std.specs.Prelude.{Bool, true, false, not, ◌&&◌, ◌||◌, List, [], ◌∷◌, ◌++◌, ℕ, ◌+◌, ◌%◌, length, ltb, leb, eqb, Ok, Err}
+use Rattle.std.specs.Prelude.{Bool, true, false, not, ◌&&◌, ◌||◌, List, [], ◌∷◌, ◌++◌, ℕ, ◌+◌, ◌%◌, length, ltb, leb, eqb}
 use Rattle.answer.specs.Checks.{Outcome, pick, ◌⇒◌, judged}
 use Rattle.answer.specs.declared.Refusal.{Refusal}
 use Rattle.octets.specs.Numbers.{octet, bit}

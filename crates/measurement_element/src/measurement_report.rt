@@ -2,11 +2,10 @@
 ghost use Rattle.std.specs.Prelude.{◌≡◌, ◌≤◌, length, take};
 ghost use Rattle.octets.specs.Writing.{Written};
 ghost use Rattle.measurement_element.specs.CodeTerms.Built.{report_span, report_last, report_built};
-ghost use Rattle.measurement_element.specs.MeasurementReport.{report_flags, report_measured, report_matter_in, is_histogram, densities_in, report_in, matter_interpreted, report_size, report_misfits, report_forbids, report_means, no_report, report_laid, reason_mode, report_mode, report_agrees, silent, report_may, report_octets, report_interpreted, map_clear, report_clear};
+ghost use Rattle.measurement_element.specs.MeasurementReport.{report_flags, report_measured, report_matter_in, is_histogram, densities_in, report_in, matter_interpreted, report_size, report_misfits, report_forbids, report_means, report_mode, report_agrees, silent, report_may, report_octets, report_interpreted, map_clear, report_clear};
 
-use crate::found::Found;
+use crate::found::{Found, HIGHEST_KIND};
 use crate::span::Span;
-use crate::{found, span};
 use answer::Refusal;
 
 pub const ID: u8 = 39;
@@ -36,12 +35,7 @@ pub struct Report {
     pub densities: [u8; 8],
 }
 
-// A refusal leaves the report blank.
-#[derive(Clone, Copy)]
-pub struct Reading {
-    pub answer: Result<(), Refusal>,
-    pub report: Report,
-}
+const NO_DENSITIES: [u8; 8] = [0; 8];
 
 // How many of Late, Incapable and Refused are set.
 fn flags_in(mode: u8) -> u8
@@ -54,12 +48,13 @@ fn flags_in(mode: u8) -> u8
 fn measured_in(contents: &[u8], kind: u8) -> Matter
     ensures { result ≡ report_measured kind contents.now }
 {
-    if 2 < kind {
+    if HIGHEST_KIND < kind {
         return Matter::Uninterpreted;
     }
-    let span = span::read(contents);
-    let found = found::by(kind, octets::octet_at(contents, 14));
-    Matter::Measured { span, found }
+    Matter::Measured {
+        span: Span::read(contents),
+        found: Found::by(kind, octets::octet_at(contents, 14)),
+    }
 }
 
 // Mode bits 0 to 2 are Late, Incapable and Refused.
@@ -82,11 +77,13 @@ fn matter_in(contents: &[u8], mode: u8, kind: u8) -> Matter
 fn is_histogram(matter: Matter) -> bool
     ensures { result ≡ is_histogram matter }
 {
-    match matter {
-        Matter::NotMeasured(_) => false,
-        Matter::Measured { span: _, found } => found::has_densities(found),
-        Matter::Uninterpreted => false,
-    }
+    matches!(
+        matter,
+        Matter::Measured {
+            found: Found::Densities,
+            ..
+        }
+    )
 }
 
 // The eight densities after the span.
@@ -94,18 +91,9 @@ fn densities_in(contents: &[u8], matter: Matter) -> [u8; 8]
     ensures { result ≡ densities_in matter contents.now }
 {
     if !is_histogram(matter) {
-        return [0u8; 8];
+        return NO_DENSITIES;
     }
-    [
-        octets::octet_at(contents, 14),
-        octets::octet_at(contents, 15),
-        octets::octet_at(contents, 16),
-        octets::octet_at(contents, 17),
-        octets::octet_at(contents, 18),
-        octets::octet_at(contents, 19),
-        octets::octet_at(contents, 20),
-        octets::octet_at(contents, 21),
-    ]
+    std::array::from_fn(|i| octets::octet_at(contents, 14 + i))
 }
 
 fn report_in(contents: &[u8]) -> Report
@@ -128,11 +116,7 @@ fn report_in(contents: &[u8]) -> Report
 fn is_matter_interpreted(matter: Matter) -> bool
     ensures { result ≡ matter_interpreted matter }
 {
-    match matter {
-        Matter::NotMeasured(_) => true,
-        Matter::Measured { span: _, found: _ } => true,
-        Matter::Uninterpreted => false,
-    }
+    !matches!(matter, Matter::Uninterpreted)
 }
 
 // How many octets the contents have.
@@ -140,9 +124,8 @@ fn size_of(matter: Matter) -> u8
     ensures { result ≡ report_size matter }
 {
     match matter {
-        Matter::NotMeasured(_) => 3,
-        Matter::Measured { span: _, found } => found::size(found),
-        Matter::Uninterpreted => 3,
+        Matter::Measured { found, .. } => found.size(),
+        _ => 3,
     }
 }
 
@@ -150,11 +133,7 @@ fn size_of(matter: Matter) -> u8
 fn is_misfit(matter: Matter, length: usize) -> bool
     ensures { result ≡ report_misfits matter length }
 {
-    if !is_matter_interpreted(matter) {
-        return false;
-    }
-    let size = size_of(matter) as usize;
-    length != size
+    is_matter_interpreted(matter) && length != size_of(matter) as usize
 }
 
 // The channel is over 200, or the map says of what was not measured what it showed.
@@ -162,55 +141,32 @@ fn is_forbidden(matter: Matter) -> bool
     ensures { result ≡ report_forbids matter }
 {
     match matter {
-        Matter::NotMeasured(_) => false,
-        Matter::Measured { span, found } => {
-            if span::is_forbidden(span) {
-                return true;
-            }
-            found::is_forbidden(found)
-        }
-        Matter::Uninterpreted => false,
+        Matter::Measured { span, found } => span.is_forbidden() || found.is_forbidden(),
+        _ => false,
     }
-}
-
-pub fn refused(refusal: Refusal) -> Reading
-    ensures { result ≡ record { answer = Answer.Refused refusal; report = no_report } }
-{
-    let densities = [0u8; 8];
-    let report = Report {
-        token: 0,
-        kind: 0,
-        matter: Matter::Uninterpreted,
-        densities,
-    };
-    let answer = Err(refusal);
-    Reading { answer, report }
 }
 
 // At most so many of Late, Incapable and Refused are set.
 const MOST_FLAGS: u8 = 1;
 
-pub fn read(contents: &[u8]) -> Reading
-    ensures { result ≡ report_laid (report_means contents.now) }
+#[tactic(auto, unfolding(crate::specs::MeasurementReport::report_means, answer::specs::Checks::checked))]
+pub fn read(contents: &[u8]) -> Result<Report, Refusal>
+    ensures { result ≡ report_means contents.now }
 {
     if contents.len() < 3 {
-        return refused(Refusal::WrongLength);
+        return Err(Refusal::WrongLength);
     }
     if MOST_FLAGS < flags_in(contents[1]) {
-        return refused(Refusal::ForbiddenValue);
+        return Err(Refusal::ForbiddenValue);
     }
     let report = report_in(contents);
-    let matter = report.matter;
-    if is_misfit(matter, contents.len()) {
-        return refused(Refusal::WrongLength);
+    if is_misfit(report.matter, contents.len()) {
+        return Err(Refusal::WrongLength);
     }
-    if is_forbidden(matter) {
-        return refused(Refusal::ForbiddenValue);
+    if is_forbidden(report.matter) {
+        return Err(Refusal::ForbiddenValue);
     }
-    Reading {
-        answer: Ok(()),
-        report,
-    }
+    Ok(report)
 }
 
 // Whether an octet after the span has no reserved bit set.
@@ -218,9 +174,8 @@ fn is_map_clear(matter: Matter, octet: u8) -> bool
     ensures { result ≡ map_clear matter octet }
 {
     match matter {
-        Matter::NotMeasured(_) => true,
-        Matter::Measured { span: _, found } => found::is_clear(found, octet),
-        Matter::Uninterpreted => true,
+        Matter::Measured { found, .. } => found.is_clear(octet),
+        _ => true,
     }
 }
 
@@ -229,31 +184,15 @@ pub fn is_clear(contents: &[u8]) -> bool
     ensures { result ≡ report_clear contents.now }
 {
     let mode = octets::octet_at(contents, 1);
-    if mode < 8 {
-        let kind = octets::octet_at(contents, 2);
-        let matter = matter_in(contents, mode, kind);
-        let last = octets::octet_at(contents, 14);
-        return is_map_clear(matter, last);
-    }
-    false
+    let matter = matter_in(contents, mode, octets::octet_at(contents, 2));
+    mode < 8 && is_map_clear(matter, octets::octet_at(contents, 14))
 }
 
 // Whether nothing in the report is uninterpreted.
 pub fn is_interpreted(report: Report) -> bool
     ensures { result ≡ report_interpreted report }
 {
-    let matter = report.matter;
-    is_matter_interpreted(matter)
-}
-
-fn mode_for(reason: Reason) -> u8
-    ensures { result ≡ reason_mode reason }
-{
-    match reason {
-        Reason::Late => 1,
-        Reason::Incapable => 2,
-        Reason::Refused => 4,
-    }
+    is_matter_interpreted(report.matter)
 }
 
 // The mode, with every reserved bit 0.
@@ -261,9 +200,10 @@ fn mode_of(matter: Matter) -> u8
     ensures { result ≡ report_mode matter }
 {
     match matter {
-        Matter::NotMeasured(reason) => mode_for(reason),
-        Matter::Measured { span: _, found: _ } => 0,
-        Matter::Uninterpreted => 0,
+        Matter::NotMeasured(Reason::Late) => 1,
+        Matter::NotMeasured(Reason::Incapable) => 2,
+        Matter::NotMeasured(Reason::Refused) => 4,
+        _ => 0,
     }
 }
 
@@ -272,9 +212,8 @@ fn span_of(matter: Matter) -> Span
     ensures { result ≡ report_span matter }
 {
     match matter {
-        Matter::NotMeasured(_) => Span::none(),
-        Matter::Measured { span, found: _ } => span,
-        Matter::Uninterpreted => Span::none(),
+        Matter::Measured { span, .. } => span,
+        _ => Span::none(),
     }
 }
 
@@ -283,9 +222,8 @@ fn last_of(matter: Matter, density: u8) -> u8
     ensures { result ≡ report_last matter density }
 {
     match matter {
-        Matter::NotMeasured(_) => 0,
-        Matter::Measured { span: _, found } => found::octet(found, density),
-        Matter::Uninterpreted => 0,
+        Matter::Measured { found, .. } => found.octet(density),
+        _ => 0,
     }
 }
 
@@ -295,57 +233,40 @@ fn agrees(matter: Matter, kind: u8) -> bool
 {
     match matter {
         Matter::NotMeasured(_) => true,
-        Matter::Measured { span: _, found } => found::agrees(found, kind),
+        Matter::Measured { found, .. } => found.agrees(kind),
         Matter::Uninterpreted => false,
     }
 }
 
 // Whether there are densities only where there is a histogram.
+#[tactic(auto, using(crate::proofs::Silence::none_of_eight))]
 fn is_silent(matter: Matter, densities: [u8; 8]) -> bool
     ensures { result ≡ silent matter densities }
 {
-    if is_histogram(matter) {
-        return true;
-    }
-    let mut sum: u32 = 0;
-    let mut i = 0;
-    while i < 8 {
-        sum += densities[i] as u32;
-        i += 1;
-    }
-    sum == 0
+    is_histogram(matter) || densities == NO_DENSITIES
 }
 
 // Whether the reader would take the report back, and nothing in it is uninterpreted.
+#[tactic(auto, unfolding(crate::specs::MeasurementReport::report_may))]
 pub fn may_write(report: Report) -> bool
     ensures { result ≡ report_may report }
 {
-    let matter = report.matter;
-    if is_forbidden(matter) {
-        return false;
-    }
-    if agrees(matter, report.kind) {
-        let densities = report.densities;
-        return is_silent(matter, densities);
-    }
-    false
+    !is_forbidden(report.matter)
+        && agrees(report.matter, report.kind)
+        && is_silent(report.matter, report.densities)
 }
 
 // The element's octets, and after those of a shorter report some that are not written.
 pub fn to_octets(report: Report) -> [u8; 24]
     ensures { (length result ≡ 24) × (take (length (report_octets report)) result ≡ report_octets report) × (result ≡ report_built report) }
 {
-    let matter = report.matter;
     let d = report.densities;
-    let size = size_of(matter);
-    let mode = mode_of(matter);
-    let s = span_of(matter).to_octets();
-    let last = last_of(matter, d[0]);
+    let s = span_of(report.matter).to_octets();
     [
         ID,
-        size,
+        size_of(report.matter),
         report.token,
-        mode,
+        mode_of(report.matter),
         report.kind,
         s[0],
         s[1],
@@ -358,7 +279,7 @@ pub fn to_octets(report: Report) -> [u8; 24]
         s[8],
         s[9],
         s[10],
-        last,
+        last_of(report.matter, d[0]),
         d[1],
         d[2],
         d[3],
@@ -373,15 +294,14 @@ pub fn to_octets(report: Report) -> [u8; 24]
 pub fn octet_count(report: Report) -> usize
     ensures { (result ≡ length (report_octets report)) × (result ≤ 24) }
 {
-    let matter = report.matter;
-    2 + (size_of(matter) as usize)
+    2 + (size_of(report.matter) as usize)
 }
 
+#[tactic(auto, using(octets::proofs::Overwriting::written_as))]
 pub fn write(report: Report, buffer: &mut [u8], at: usize) -> Result<usize, Refusal>
     ensures { Written (report_may report) (report_octets report) at buffer.old result buffer.new }
 {
-    let matter = report.matter;
-    let count = 2 + (size_of(matter) as usize);
     let bytes = to_octets(report);
+    let count = octet_count(report);
     octets::put(may_write(report), &bytes[..count], buffer, at)
 }

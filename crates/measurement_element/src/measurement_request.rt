@@ -4,7 +4,7 @@ ghost use Rattle.octets.specs.Writing.{Written};
 ghost use Rattle.measurement_element.specs.CodeTerms.Built.{request_span, request_built};
 ghost use Rattle.measurement_element.specs.MeasurementRequest.{request_matter_in, request_in, request_misfits, request_forbids, request_means, request_mode, request_size, request_agrees, request_may, request_octets, request_interpreted, request_clear};
 
-use crate::span;
+use crate::found::HIGHEST_KIND;
 use crate::span::Span;
 use answer::Refusal;
 
@@ -29,20 +29,15 @@ pub struct Request {
 fn matter_in(contents: &[u8], mode: u8, kind: u8) -> Matter
     ensures { result ≡ request_matter_in mode kind contents.now }
 {
+    let is_known = kind <= HIGHEST_KIND;
     if mode / 2 % 2 == 1 {
-        if 2 < kind {
-            return Matter::Enable {
-                request: false,
-                report: false,
-            };
-        }
         return Matter::Enable {
-            request: mode / 4 % 2 == 1,
-            report: mode / 8 % 2 == 1,
+            request: is_known && mode / 4 % 2 == 1,
+            report: is_known && mode / 8 % 2 == 1,
         };
     }
-    if kind <= 2 {
-        return Matter::Measure(span::read(contents));
+    if is_known {
+        return Matter::Measure(Span::read(contents));
     }
     Matter::Uninterpreted
 }
@@ -66,10 +61,7 @@ fn is_misfit(matter: Matter, length: usize) -> bool
     ensures { result ≡ request_misfits matter length }
 {
     match matter {
-        Matter::Enable {
-            request: _,
-            report: _,
-        } => length != 3,
+        Matter::Enable { .. } => length != 3,
         Matter::Measure(_) => length != 14,
         Matter::Uninterpreted => false,
     }
@@ -79,20 +71,14 @@ fn is_misfit(matter: Matter, length: usize) -> bool
 fn is_forbidden(request: Request) -> bool
     ensures { result ≡ request_forbids request }
 {
-    if request.token == 0 {
-        return true;
-    }
-    let matter = request.matter;
-    match matter {
-        Matter::Enable {
-            request: _,
-            report: _,
-        } => false,
-        Matter::Measure(span) => span::is_forbidden(span),
-        Matter::Uninterpreted => false,
-    }
+    let forbids_matter = match request.matter {
+        Matter::Measure(span) => span.is_forbidden(),
+        _ => false,
+    };
+    request.token == 0 || forbids_matter
 }
 
+#[tactic(auto, unfolding(crate::specs::MeasurementRequest::request_means, answer::specs::Checks::checked))]
 pub fn read(contents: &[u8]) -> Result<Request, Refusal>
     ensures { result ≡ request_means contents.now }
 {
@@ -100,8 +86,7 @@ pub fn read(contents: &[u8]) -> Result<Request, Refusal>
         return Err(Refusal::WrongLength);
     }
     let request = request_in(contents);
-    let matter = request.matter;
-    if is_misfit(matter, contents.len()) {
+    if is_misfit(request.matter, contents.len()) {
         return Err(Refusal::WrongLength);
     }
     if is_forbidden(request) {
@@ -116,47 +101,20 @@ pub fn is_clear(contents: &[u8]) -> bool
 {
     let mode = octets::octet_at(contents, 1);
     let kind = octets::octet_at(contents, 2);
-    if mode / 2 % 2 == 1 {
-        if 2 < kind {
-            return mode == 2;
-        }
-        if mode % 2 == 0 {
-            return mode < 16;
-        }
-        return false;
+    if mode / 2 % 2 == 0 {
+        return mode == 0;
     }
-    mode == 0
+    if HIGHEST_KIND < kind {
+        return mode == 2;
+    }
+    mode % 2 == 0 && mode < 16
 }
 
 // Whether nothing in the request is uninterpreted.
 pub fn is_interpreted(request: Request) -> bool
     ensures { result ≡ request_interpreted request }
 {
-    let matter = request.matter;
-    match matter {
-        Matter::Enable {
-            request: _,
-            report: _,
-        } => true,
-        Matter::Measure(_) => true,
-        Matter::Uninterpreted => false,
-    }
-}
-
-// Enable, with Request (4) and Report (8) as they are given.
-fn enable_mode(request: bool, report: bool) -> u8
-    ensures { result ≡ request_mode (Matter.Enable request report) }
-{
-    if request {
-        if report {
-            return 14;
-        }
-        return 6;
-    }
-    if report {
-        return 10;
-    }
-    2
+    !matches!(request.matter, Matter::Uninterpreted)
 }
 
 // The mode, with every reserved bit 0.
@@ -164,9 +122,8 @@ fn mode_of(matter: Matter) -> u8
     ensures { result ≡ request_mode matter }
 {
     match matter {
-        Matter::Enable { request, report } => enable_mode(request, report),
-        Matter::Measure(_) => 0,
-        Matter::Uninterpreted => 0,
+        Matter::Enable { request, report } => 2 + 4 * u8::from(request) + 8 * u8::from(report),
+        _ => 0,
     }
 }
 
@@ -175,12 +132,8 @@ fn span_of(matter: Matter) -> Span
     ensures { result ≡ request_span matter }
 {
     match matter {
-        Matter::Enable {
-            request: _,
-            report: _,
-        } => Span::none(),
         Matter::Measure(span) => span,
-        Matter::Uninterpreted => Span::none(),
+        _ => Span::none(),
     }
 }
 
@@ -189,12 +142,8 @@ fn size_of(matter: Matter) -> u8
     ensures { result ≡ request_size matter }
 {
     match matter {
-        Matter::Enable {
-            request: _,
-            report: _,
-        } => 3,
         Matter::Measure(_) => 14,
-        Matter::Uninterpreted => 3,
+        _ => 3,
     }
 }
 
@@ -203,44 +152,30 @@ fn agrees(matter: Matter, kind: u8) -> bool
     ensures { result ≡ request_agrees matter kind }
 {
     match matter {
-        Matter::Enable { request, report } => {
-            if kind <= 2 {
-                return true;
-            }
-            if request {
-                return false;
-            }
-            !report
-        }
-        Matter::Measure(_) => kind <= 2,
+        Matter::Enable { request, report } => kind <= HIGHEST_KIND || !(request || report),
+        Matter::Measure(_) => kind <= HIGHEST_KIND,
         Matter::Uninterpreted => false,
     }
 }
 
 // Whether the reader would take the request back, and nothing in it is uninterpreted.
+#[tactic(auto, unfolding(crate::specs::MeasurementRequest::request_may))]
 pub fn may_write(request: Request) -> bool
     ensures { result ≡ request_may request }
 {
-    if is_forbidden(request) {
-        return false;
-    }
-    let matter = request.matter;
-    agrees(matter, request.kind)
+    !is_forbidden(request) && agrees(request.matter, request.kind)
 }
 
 // The element's octets, and after those of an Enable element some that are not written.
 pub fn to_octets(request: Request) -> [u8; 16]
     ensures { (length result ≡ 16) × (take (length (request_octets request)) result ≡ request_octets request) × (result ≡ request_built request) }
 {
-    let matter = request.matter;
-    let size = size_of(matter);
-    let mode = mode_of(matter);
-    let s = span_of(matter).to_octets();
+    let s = span_of(request.matter).to_octets();
     [
         ID,
-        size,
+        size_of(request.matter),
         request.token,
-        mode,
+        mode_of(request.matter),
         request.kind,
         s[0],
         s[1],
@@ -260,15 +195,14 @@ pub fn to_octets(request: Request) -> [u8; 16]
 pub fn octet_count(request: Request) -> usize
     ensures { (result ≡ length (request_octets request)) × (result ≤ 16) }
 {
-    let matter = request.matter;
-    2 + (size_of(matter) as usize)
+    2 + (size_of(request.matter) as usize)
 }
 
+#[tactic(auto, using(octets::proofs::Overwriting::written_as))]
 pub fn write(request: Request, buffer: &mut [u8], at: usize) -> Result<usize, Refusal>
     ensures { Written (request_may request) (request_octets request) at buffer.old result buffer.new }
 {
-    let matter = request.matter;
-    let count = 2 + (size_of(matter) as usize);
     let bytes = to_octets(request);
+    let count = octet_count(request);
     octets::put(may_write(request), &bytes[..count], buffer, at)
 }

@@ -42,22 +42,22 @@ impl Span {
             d[1],
         ]
     }
-}
 
-// The span after the token, the mode and the type.
-pub fn read(contents: &[u8]) -> Span
-    ensures { result ≡ span_in contents.now }
-{
-    Span {
-        channel: octets::octet_at(contents, 3),
-        start: octets::number64(contents, 4),
-        duration: octets::number16(contents, 12),
+    // The span after the token, the mode and the type.
+    pub(crate) fn read(contents: &[u8]) -> Span
+        ensures { result ≡ span_in contents.now }
+    {
+        Span {
+            channel: octets::octet_at(contents, 3),
+            start: octets::number64(contents, 4),
+            duration: octets::number16(contents, 12),
+        }
     }
-}
 
-// The channel is over 200: there is none.
-pub fn is_forbidden(span: Span) -> bool
-    ensures { result ≡ span_forbids span }
-{
-    channel::HIGHEST < span.channel
+    // The channel is over 200: there is none.
+    pub(crate) fn is_forbidden(self) -> bool
+        ensures { result ≡ span_forbids self }
+    {
+        channel::HIGHEST < self.channel
+    }
 }

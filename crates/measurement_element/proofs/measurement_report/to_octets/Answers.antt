@@ -8,8 +8,8 @@ returns c =
     let r = c.args.report in
     let eight : length r.densities ≡ 8 = search rules in (
       refl,
-      rw (c.last_of-last.ensures, c.to_octets-s.ensures, c.span_of.ensures, c.mode_of-mode.ensures, c.size_of-size.ensures)
+      rw (c.last_of.ensures, c.to_octets-s.ensures, c.span_of.ensures, c.mode_of.ensures, c.size_of.ensures)
           (laid_out r.token r.kind r.densities eight r.matter),
-      built_of r.token r.kind r.matter r.densities c.size_of-size.ensures
-          c.mode_of-mode.ensures c.span_of.ensures c.to_octets-s.ensures c.last_of-last.ensures,
+      built_of r.token r.kind r.matter r.densities c.size_of.ensures
+          c.mode_of.ensures c.span_of.ensures c.to_octets-s.ensures c.last_of.ensures,
     )

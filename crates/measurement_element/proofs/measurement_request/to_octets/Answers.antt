@@ -7,7 +7,7 @@ pub returns : goal.returns
 returns c =
     let r = c.args.request in (
       refl,
-      rw (c.to_octets-s.ensures, c.span_of.ensures, c.mode_of-mode.ensures, c.size_of-size.ensures)
+      rw (c.to_octets-s.ensures, c.span_of.ensures, c.mode_of.ensures, c.size_of.ensures)
           (laid_out r.matter r.token r.kind),
-      rw (c.to_octets-s.ensures, c.span_of.ensures, c.mode_of-mode.ensures, c.size_of-size.ensures),
+      rw (c.to_octets-s.ensures, c.span_of.ensures, c.mode_of.ensures, c.size_of.ensures),
     )
