@@ -1,4 +1,5 @@
 pub mod Allowing
+pub mod GoingUp
 pub mod HeldLengths
 pub mod InIbss
 pub mod NamedDfs

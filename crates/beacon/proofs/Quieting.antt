@@ -1,5 +1,6 @@
 -- Laws of a Quiet element that is looked for at a place: where it stands, where none does, and what it adds. Assumes nothing.
-use Rattle.std.specs.Prelude.{Ok, Err}
+use Rattle.std.specs.Prelude.{Ok, Err, Option}
+use Rattle.std.specs.Result.{result_ok}
 use mathlib.Core.Path.{◌≡◌, refl, sym, ap, ◌∙◌}
 use mathlib.Core.Bool.{Bool, true, false}
 use mathlib.Core.List.{List, [], ◌∷◌, ◌++◌}
@@ -27,7 +28,7 @@ use Rattle.walk.proofs.Walking.{at_whole}
 use Rattle.beacon.specs.Beacons.{tells, quiet_limit, element_means, adds, takes}
 use Rattle.beacon.specs.CodeTerms.Adding.{Slotless, SlotlessIn}
 use Rattle.beacon.specs.CodeTerms.Naming.{reads_dfs}
-use Rattle.beacon.specs.CodeTerms.Quieting.{QuietHere}
+use Rattle.beacon.specs.CodeTerms.Quieting.{QuietAt, QuietHere}
 use Rattle.beacon.specs.declared.Notice.{Notice}
 use Rattle.beacon.specs.declared.elements.Element.{Element}
 use Rattle.beacon.proofs.Saying.{is_quiet}
@@ -74,11 +75,11 @@ module _ (run : List ℕ) (at b : ℕ) where
     pub other_header : (n : ℕ) → n ≡ number 2 at run → (n ≡ 1576 → ⊥) → A
     other_header n r h = absurd (h (r ∙ (seen c es q e m).header))
 
-    pub bad_contents : (r : Refusal) → Err r ≡ quiet_means b six_past → A
+    bad_contents : (r : Refusal) → Err r ≡ quiet_means b six_past → A
     bad_contents r f = absurd (never (f ∙ ap (quiet_means b) (seen c es q e m).same ∙ m))
 
   -- and one is where none of these holds: the header's number has one split into octets
-  pub stands : Octets run → (n : ℕ) → n ≡ number 2 at run → n ≡ 1576 → 8 ≤ length run - at → (q : Quiet) → Ok q ≡ quiet_means b six_past → QuietHere run at b q
+  stands : Octets run → (n : ℕ) → n ≡ number 2 at run → n ≡ 1576 → 8 ≤ length run - at → (q : Quiet) → Ok q ≡ quiet_means b six_past → QuietHere run at b q
   stands o n r f h q m =
       let id : octet at run ≡ 40 = omega (arith, o at, o (at + 1), r, f) in
       let size : 6 ≡ octet (at + 1) run = omega (arith, o at, o (at + 1), r, f) in
@@ -93,6 +94,15 @@ module _ (run : List ℕ) (at b : ℕ) where
         inside = omega arith;
         means = sym m;
       }
+
+  -- so what is read of the six octets says whether one stands there that finds a slot
+  module _ (o : Octets run) (n count : ℕ) (r : n ≡ number 2 at run) (f : n ≡ 1576) (long : 8 ≤ length run - at) (free : count < quiet_limit) where
+    pub read_here : {read : Outcome Quiet} {found : Option Quiet} → read ≡ quiet_means b six_past → found ≡ result_ok read → QuietAt run at count b found
+    read_here {read} e same = rw same (by read e)
+      where
+        by : (x : Outcome Quiet) → x ≡ quiet_means b six_past → QuietAt run at count b (result_ok x)
+        by (Err z) g = λ c es q h m. bad_contents c es q h m z g
+        by (Ok q) g = (stands o n r f long q g, free)
 
 -- ---- what one adds
 

@@ -1,4 +1,4 @@
--- Laws of what a body says: an element by its ID, and the elements after the fixed fields. Assumes nothing.
+-- Laws of what a body says: a Quiet element, and the elements after the fixed fields. Assumes nothing.
 use Rattle.std.specs.Prelude.{Ok, Err}
 use mathlib.Core.Path.{◌≡◌, sym, ap, ◌∙◌}
 use mathlib.Core.List.{List}
@@ -9,42 +9,16 @@ use Rattle.answer.specs.Checks.{Outcome, and_then}
 use Rattle.answer.specs.Faults.{fault_at, fault_nowhere, placed_at}
 use Rattle.answer.specs.declared.Refusal.{Refusal}
 use Rattle.answer.proofs.Judged.{past, stop, through}
-use Rattle.element.specs.ChannelSwitch.{switch_means}
-use Rattle.element.specs.PowerConstraint.{power_means}
 use Rattle.element.specs.Quiet.{quiet_means}
-use Rattle.element.specs.TpcReport.{tpc_report_means}
 use Rattle.octets.specs.Numbers.{number}
 use Rattle.walk.specs.Elements.{Elements, more, elements_in, past_element}
-use Rattle.beacon.specs.Beacons.{fixed_length, interval_field, without_margin, element_means, says, body_means}
+use Rattle.beacon.specs.Beacons.{fixed_length, interval_field, element_means, says, body_means}
 use Rattle.beacon.specs.declared.elements.Element.{Element}
 
--- ---- an element by its ID
-
--- an arm: the case of what its reader handed out tells what the reader means
-pub arm : {R A B : Type 0} (told : R → Outcome A) (f : A → Outcome B) {means : Outcome A} {whole : Outcome B} → and_then means f ≡ whole
-    → {r case : R} → told r ≡ means → r ≡ case → and_then (told case) f ≡ whole
-arm {A = A} told f h means is = ap (λ (o : Outcome A). and_then o f) (ap told (sym is) ∙ means) ∙ h
-
-module _ (b id : ℕ) (c : List ℕ) where
-  pub is_power : id ≡ 32 → and_then (power_means c) (λ p. Ok (Element.Power p)) ≡ element_means b id c
-  unfolding element_means
-  is_power e = rw e
-
-  pub is_report : id ≡ 35 → and_then (tpc_report_means c) (λ t. Ok (Element.Report (without_margin t))) ≡ element_means b id c
-  unfolding element_means
-  is_report e = rw e
-
-  pub is_switch : id ≡ 37 → and_then (switch_means c) (λ s. Ok (Element.Switch s)) ≡ element_means b id c
-  unfolding element_means
-  is_switch e = rw e
-
-  pub is_quiet : id ≡ 40 → and_then (quiet_means b c) (λ q. Ok (Element.Quiet q)) ≡ element_means b id c
-  unfolding element_means
-  is_quiet e = rw e
-
-  pub is_other : (id ≡ 32 → ⊥) → (id ≡ 35 → ⊥) → (id ≡ 37 → ⊥) → (id ≡ 40 → ⊥) → Ok Element.Other ≡ element_means b id c
-  unfolding element_means
-  is_other p r s q = simp (ne_eqb id 32 p, ne_eqb id 35 r, ne_eqb id 37 s, ne_eqb id 40 q)
+-- a Quiet element, by its ID
+pub is_quiet : (b id : ℕ) (c : List ℕ) → id ≡ 40 → and_then (quiet_means b c) (λ q. Ok (Element.Quiet q)) ≡ element_means b id c
+unfolding element_means
+is_quiet b id c e = rw e
 
 -- ---- all elements
 

@@ -1,8 +1,9 @@
 -- The walk over a body's elements: what was said up to a place, and its ways on. Assumes nothing.
-use Rattle.std.specs.Prelude.{Ok, Err, Some, None}
+use Rattle.std.specs.Prelude.{Ok, Err, Some, None, Option, is_some, option_map}
 use mathlib.Core.Path.{◌≡◌, refl, sym, ap, ◌∙◌}
 use mathlib.Core.Bool.{Bool, true, false}
 use mathlib.Core.List.{List}
+use mathlib.Core.Logic.{◌⊎◌, inl, inr}
 use Prim.Native.Nat.{ℕ, ◌+◌, ◌<◌}
 use native.Mathlib.Omega.{arith}
 use lib.ListN.{length, drop, set}
@@ -11,18 +12,19 @@ use Rattle.answer.specs.Faults.{fault_at, Placed}
 use Rattle.answer.specs.declared.Refusal.{Refusal}
 use Rattle.element.specs.IbssDfs.{Dfs}
 use Rattle.element.specs.declared.quiet.Quiet.{Quiet}
-use Rattle.walk.specs.Elements.{Elements, end, cut_header, cut_contents, more, elements_in, past_element}
+use Rattle.walk.specs.CodeTerms.Found.{follow}
+use Rattle.walk.specs.Elements.{Elements, more, elements_in, past_element}
+use Rattle.walk.specs.declared.Found.{Found}
 use Rattle.beacon.specs.Allowed.{Allowed}
 use Rattle.beacon.specs.Beacons.{Told, tells, quiet_limit, takes, says}
 use Rattle.beacon.specs.CodeTerms.Adding.{added_told, SlotlessIn}
 use Rattle.beacon.specs.CodeTerms.Naming.{reads_dfs, takes_where, first_dfs, naming_laid}
 use Rattle.beacon.specs.CodeTerms.Quieting.{QuietAt}
-use Rattle.beacon.specs.IbssBeacons.{MaybeDfs, is, has_dfs, ToldInIbss, tells_in_ibss, told_where}
+use Rattle.beacon.specs.IbssBeacons.{ToldInIbss, tells_in_ibss, told_where}
 use Rattle.beacon.specs.Laid.{no_quiet, slots, dfs_heard, laid}
 use Rattle.beacon.specs.declared.Heard.{Heard}
 use Rattle.beacon.specs.declared.HeardDfs.{HeardDfs}
 use Rattle.beacon.specs.declared.Notice.{Notice}
-use Rattle.beacon.specs.declared.naming.Naming.{Naming}
 use Rattle.beacon.proofs.Allowing.{allowed_takes}
 use Rattle.beacon.proofs.NamedDfs.{named_with, naming_refused, naming_accepted}
 use Rattle.beacon.proofs.Quieting.{not_dfs, quiet_taken}
@@ -30,21 +32,21 @@ use Rattle.beacon.proofs.Saying.{says_more}
 use Rattle.beacon.proofs.Slots.{one_more, next_slot}
 
 -- what is handed out for an accepted body
-abbrev pub heard_in : Notice → List Quiet → ℕ → HeardDfs → Heard
-heard_in notice slots count dfs = record { verdict = Ok tt; notice = notice; quiets = slots; count = count; dfs = dfs }
+abbrev pub heard_in : Notice → List Quiet → ℕ → Option HeardDfs → Heard
+heard_in notice slots count dfs = record { notice = notice; quiets = slots; count = count; dfs = dfs }
 
 module _ (ibss : Bool) (b index : ℕ) (body : List ℕ) where
   -- what was said before a place, all of it allowed; what the elements from there on add to it is what the body says
-  pub record Walked (at : ℕ) (notice : Notice) (filled : List Quiet) (count : ℕ) (dfs : HeardDfs) : Type 0 where
+  pub record Walked (at : ℕ) (notice : Notice) (filled : List Quiet) (count : ℕ) (dfs : Option HeardDfs) : Type 0 where
     pub quiets : List Quiet
     pub kept_quiets : filled ≡ slots quiets
     pub kept_count : count ≡ length quiets
-    pub named : MaybeDfs
-    pub kept_dfs : dfs ≡ dfs_heard index named
+    pub named : Option Dfs
+    pub kept_dfs : dfs ≡ option_map (dfs_heard index) named
     pub allowed : Allowed b (tells notice quiets)
     pub rest : says (takes_where ibss b) at (elements_in (drop at body)) (tells_in_ibss (tells notice quiets) named) ≡ told_where ibss b body
 
-  module _ (at : ℕ) (notice : Notice) (filled : List Quiet) (count : ℕ) (dfs : HeardDfs) (w : Walked at notice filled count dfs) where
+  module _ (at : ℕ) (notice : Notice) (filled : List Quiet) (count : ℕ) (dfs : Option HeardDfs) (w : Walked at notice filled count dfs) where
     abbrev told : Told
     told = tells notice w.quiets
 
@@ -54,17 +56,17 @@ module _ (ibss : Bool) (b index : ℕ) (body : List ℕ) where
     from_here : {es : Elements} {o : Placed ToldInIbss} → elements_in (drop at body) ≡ es → says (takes_where ibss b) at es before ≡ o → o ≡ told_where ibss b body
     from_here {es} {o} e f = sym (ap (λ (x : Elements). says (takes_where ibss b) at x before) e ∙ f) ∙ w.rest
 
-    pub at_end : elements_in (drop at body) ≡ end → heard_in notice filled count dfs ≡ laid index (told_where ibss b body)
-    unfolding says
-    at_end e = rw (w.kept_quiets, w.kept_count, w.kept_dfs) (ap (laid index) (from_here e refl))
+    -- ---- no whole element
 
-    pub at_cut_header : (o : ℕ) → elements_in (drop at body) ≡ cut_header o → Err (fault_at at Refusal.ElementCut) ≡ told_where ibss b body
-    unfolding says
-    at_cut_header o e = from_here e refl
+    module _ (f : Found) (r : elements_in (drop at body) ≡ follow body f) where
+      pub at_end : f ≡ Found.End → Ok (heard_in notice filled count dfs) ≡ laid index (told_where ibss b body)
+      unfolding says
+      at_end e = rw (w.kept_quiets, w.kept_count, w.kept_dfs) (ap (laid index) (from_here (r ∙ ap (follow body) e) refl))
 
-    pub at_cut_contents : (id : ℕ) → elements_in (drop at body) ≡ cut_contents id → Err (fault_at at Refusal.ElementCut) ≡ told_where ibss b body
-    unfolding says
-    at_cut_contents id e = from_here e refl
+      pub at_cut : ((x : ℕ) × (f ≡ Found.CutHeader x)) ⊎ ((x : ℕ) × (f ≡ Found.CutContents x)) → Err (fault_at at Refusal.ElementCut) ≡ told_where ibss b body
+      unfolding says
+      at_cut (inl e) = from_here (r ∙ ap (follow body) e.1) refl
+      at_cut (inr e) = from_here (r ∙ ap (follow body) e.1) refl
 
     -- ---- a whole element, by what it comes to
 
@@ -72,8 +74,8 @@ module _ (ibss : Bool) (b index : ℕ) (body : List ℕ) where
       stops : (r : Refusal) → takes_where ibss b id c before ≡ Err r → Err (fault_at at r) ≡ told_where ibss b body
       stops r t = from_here e (says_more (takes_where ibss b) at id c (elements_in (drop stop body)) before t)
 
-      goes_on : (n : Notice) (qs : List Quiet) (d : MaybeDfs) → takes_where ibss b id c before ≡ Ok (tells_in_ibss (tells n qs) d) → Allowed b (tells n qs)
-          → {slots' : List Quiet} {count' : ℕ} {dfs' : HeardDfs} → slots' ≡ slots qs → count' ≡ length qs → dfs' ≡ dfs_heard index d → Walked stop n slots' count' dfs'
+      goes_on : (n : Notice) (qs : List Quiet) (d : Option Dfs) → takes_where ibss b id c before ≡ Ok (tells_in_ibss (tells n qs) d) → Allowed b (tells n qs)
+          → {slots' : List Quiet} {count' : ℕ} {dfs' : Option HeardDfs} → slots' ≡ slots qs → count' ≡ length qs → dfs' ≡ option_map (dfs_heard index) d → Walked stop n slots' count' dfs'
       goes_on n qs d t a eq en ed =
           record {
             quiets = qs;
@@ -89,21 +91,26 @@ module _ (ibss : Bool) (b index : ℕ) (body : List ℕ) where
 
       -- ---- element 41, by how it was read
 
-      module _ (reads : reads_dfs ibss id ≡ true) (v : Naming) (l : v ≡ naming_laid index (first_dfs dfs.names c)) where
-        first : v ≡ naming_laid index (first_dfs (has_dfs w.named) c)
-        first = l ∙ ap (λ (d : HeardDfs). naming_laid index (first_dfs d.names c)) w.kept_dfs
+      module _ (reads : reads_dfs ibss id ≡ true) (v : Outcome HeardDfs) (l : v ≡ naming_laid index (first_dfs (is_some dfs) c)) where
+        -- one was handed out where one was named
+        same_named : (d : Option Dfs) → is_some (option_map (dfs_heard index) d) ≡ is_some d
+        same_named None = refl
+        same_named (Some d) = refl
 
-        named_as : {o : Outcome Dfs} → first_dfs (has_dfs w.named) c ≡ o → takes_where ibss b id c before ≡ and_then o (λ d. Ok (tells_in_ibss told (is d)))
+        first : v ≡ naming_laid index (first_dfs (is_some w.named) c)
+        first = l ∙ ap (λ (t : Bool). naming_laid index (first_dfs t c)) (ap is_some w.kept_dfs ∙ same_named w.named)
+
+        named_as : {o : Outcome Dfs} → first_dfs (is_some w.named) c ≡ o → takes_where ibss b id c before ≡ and_then o (λ d. Ok (tells_in_ibss told (Some d)))
         unfolding takes_where
-        named_as f = rw reads (named_with c told w.named) ∙ ap (λ (o : Outcome Dfs). and_then o (λ d. Ok (tells_in_ibss told (is d)))) f
+        named_as f = rw reads (named_with c told w.named) ∙ ap (λ (o : Outcome Dfs). and_then o (λ d. Ok (tells_in_ibss told (Some d)))) f
 
-        pub at_bad_dfs : (r : Refusal) → v.answer ≡ Err r → Err (fault_at at r) ≡ told_where ibss b body
-        at_bad_dfs r a = stops r (named_as (naming_refused index _ v first r a))
+        pub at_bad_dfs : (r : Refusal) → v ≡ Err r → Err (fault_at at r) ≡ told_where ibss b body
+        at_bad_dfs r a = stops r (named_as (naming_refused index _ r (sym a ∙ first)))
 
-        pub at_dfs : v.answer ≡ Ok tt → Walked stop notice filled count v.dfs
-        at_dfs a =
-            let q = naming_accepted index _ v first a in
-            goes_on notice w.quiets (is q.0) (named_as q.1) w.allowed w.kept_quiets w.kept_count q.2
+        pub at_dfs : (h : HeardDfs) → v ≡ Ok h → Walked stop notice filled count (Some h)
+        at_dfs h a =
+            let q = naming_accepted index _ h (sym a ∙ first) in
+            goes_on notice w.quiets (Some q.0) (named_as q.1) w.allowed w.kept_quiets w.kept_count (ap Some q.2)
 
       -- ---- any other, by what was added
 

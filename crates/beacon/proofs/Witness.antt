@@ -1,5 +1,5 @@
 -- What the definitions say of single bodies. Assumes nothing.
-use Rattle.std.specs.Prelude.{Ok, Err}
+use Rattle.std.specs.Prelude.{Ok, Err, Some, None}
 use mathlib.Core.Path.{◌≡◌, refl, ap}
 use mathlib.Core.Bool.{false}
 use mathlib.Core.List.{List, [], ◌∷◌, ◌++◌}
@@ -15,7 +15,7 @@ use Rattle.element.specs.Quiet.{quiet_means, quiet_octets}
 use Rattle.element.specs.declared.quiet.Quiet.{Quiet}
 use Rattle.walk.specs.Elements.{elements_after, elements_in}
 use Rattle.beacon.specs.Beacons.{Told, tells, element_means, takes, says, beacon_means}
-use Rattle.beacon.specs.IbssBeacons.{absent, is, tells_in_ibss, takes_in_ibss, ibss_beacon_means, besides, told_where, pair_in}
+use Rattle.beacon.specs.IbssBeacons.{tells_in_ibss, takes_in_ibss, ibss_beacon_means, besides, told_where, pair_in}
 use Rattle.beacon.specs.Laid.{no_quiet, laid}
 use Rattle.beacon.specs.Notices.{elementless}
 use Rattle.beacon.specs.declared.Heard.{Heard}
@@ -60,8 +60,9 @@ unfolding beacon_means checked says takes element_means elements_in elements_aft
 two_quiets = refl
 
 -- as the reader hands them out
-pub two_slots : (laid 0 (told_where false 100 (body 1 (octets_of (quiet_in 3 ∷ quiet_in 5 ∷ []))))).quiets ≡ quiet_in 3 ∷ quiet_in 5 ∷ replicate 6 no_quiet
-two_slots = ap (λ (o : Placed Told). (laid 0 (besides absent o)).quiets) two_quiets
+pub two_slots : laid 0 (told_where false 100 (body 1 (octets_of (quiet_in 3 ∷ quiet_in 5 ∷ []))))
+    ≡ Ok (record { notice = elementless 0 1; quiets = quiet_in 3 ∷ quiet_in 5 ∷ replicate 6 no_quiet; count = 2; dfs = None })
+two_slots = ap (λ (o : Placed Told). laid 0 (besides None o)) two_quiets
 
 -- eight are kept
 pub eight_quiets : beacon_means 100 (body 1 (octets_of (several 8))) ≡ Ok (quietly (several 8))
@@ -74,10 +75,14 @@ unfolding beacon_means checked says takes element_means elements_in elements_aft
 nine_quiets = refl
 
 -- bodies that differ in one octet of the capability are told apart
+abbrev capability : Placed Heard → ℕ
+capability (Err x) = 0
+capability (Ok h) = h.notice.capability
+
 pub capability_counts : laid 0 (told_where false 100 (body 0 [])) ≡ laid 0 (told_where false 100 (body 1 [])) → ⊥
 unfolding beacon_means checked says elements_in elements_after
 capability_counts e =
-    let z : ◌≡◌ {A = ℕ} 0 1 = ap (λ (h : Heard). h.notice.capability) e in
+    let z : ◌≡◌ {A = ℕ} 0 1 = ap capability e in
     omega arith
 
 -- ---- in an IBSS
@@ -89,15 +94,15 @@ naming recovery = 41 ∷ 9 ∷ 2 ∷ 0 ∷ 0 ∷ 0 ∷ 0 ∷ 1 ∷ recovery ∷ 
 abbrev dfs : Dfs
 dfs = record { owner = 2 ∷ 0 ∷ 0 ∷ 0 ∷ 0 ∷ 1 ∷ []; recovery = 3; pairs = 36 ∷ 5 ∷ [] }
 
-pub an_owner : ibss_beacon_means 100 (body 1 (naming 3 ++ quiet_octets (quiet_in 3))) ≡ Ok (tells_in_ibss (quietly (quiet_in 3 ∷ [])) (is dfs))
+pub an_owner : ibss_beacon_means 100 (body 1 (naming 3 ++ quiet_octets (quiet_in 3))) ≡ Ok (tells_in_ibss (quietly (quiet_in 3 ∷ [])) (Some dfs))
 unfolding ibss_beacon_means checked says takes_in_ibss takes element_means elements_in elements_after dfs_means quiet_means fixed quiet_octets
 an_owner = refl
 
-pub its_pair : pair_in 0 (is dfs) ≡ Ok (record { channel = 36; map = 5 })
+pub its_pair : pair_in 0 (Some dfs) ≡ Ok (record { channel = 36; map = 5 })
 unfolding checked
 its_pair = refl
 
-pub no_pair_more : pair_in 1 (is dfs) ≡ Err Refusal.Impossible
+pub no_pair_more : pair_in 1 (Some dfs) ≡ Err Refusal.Impossible
 unfolding checked
 no_pair_more = refl
 

@@ -1,7 +1,7 @@
 -- Beacon and Probe Response bodies (01, "Order": timestamp 8, interval 2, capability 2, any missing 1, interval not B 12,
 -- elements). Whole elements but 32, 35, 37 and 40 are skipped; a second 32, 35 or 37 is 10, and a ninth Quiet element 11. The place of
 -- an element's fault is its ID octet, and that of another interval its field (02, One).
-use Rattle.std.specs.Prelude.{not, List, [], ◌∷◌, ◌++◌, ℕ, ltb, leb, eqb, pos, length, drop, Ok, Err}
+use Rattle.std.specs.Prelude.{not, List, [], ◌∷◌, ◌++◌, ℕ, ltb, leb, eqb, pos, length, drop, is_some, Ok, Err}
 use Rattle.answer.specs.Checks.{Outcome, pick, ◌⇒◌, checked, judged, and_then}
 use Rattle.answer.specs.Faults.{fault_at, fault_nowhere, Placed, placed_at}
 use Rattle.answer.specs.declared.Refusal.{Refusal}
@@ -13,7 +13,7 @@ use Rattle.element.specs.declared.quiet.Quiet.{Quiet}
 use Rattle.element.specs.declared.tpc_report.TpcReport.{TpcReport}
 use Rattle.octets.specs.Numbers.{number}
 use Rattle.walk.specs.Elements.{Elements, end, cut_header, cut_contents, more, elements_in, past_element}
-use Rattle.beacon.specs.Notices.{elementless, with_power, with_report, with_switch, has_power, has_report, has_switch}
+use Rattle.beacon.specs.Notices.{elementless, with_power, with_report, with_switch}
 use Rattle.beacon.specs.declared.Notice.{Notice}
 use Rattle.beacon.specs.declared.elements.Element.{Element}
 
@@ -51,9 +51,9 @@ element_means b id c =
 
 -- what was said, and one element more: a repeat (10 or 11), or what is said with it
 abbrev pub adds : Told → Element → Outcome Told
-adds t (Element.Power p) = judged (has_power t.notice.power ⇒ Refusal.Repeated ∷ []) (tells (with_power t.notice p) t.quiets)
-adds t (Element.Report r) = judged (has_report t.notice.report ⇒ Refusal.Repeated ∷ []) (tells (with_report t.notice r) t.quiets)
-adds t (Element.Switch s) = judged (has_switch t.notice.switch ⇒ Refusal.Repeated ∷ []) (tells (with_switch t.notice s) t.quiets)
+adds t (Element.Power p) = judged (is_some t.notice.power ⇒ Refusal.Repeated ∷ []) (tells (with_power t.notice p) t.quiets)
+adds t (Element.Report r) = judged (is_some t.notice.report ⇒ Refusal.Repeated ∷ []) (tells (with_report t.notice r) t.quiets)
+adds t (Element.Switch s) = judged (is_some t.notice.switch ⇒ Refusal.Repeated ∷ []) (tells (with_switch t.notice s) t.quiets)
 adds t (Element.Quiet q) = judged (leb quiet_limit (length t.quiets) ⇒ Refusal.TooManyQuiets ∷ []) (tells t.notice (t.quiets ++ (q ∷ [])))
 adds t Element.Other = Ok t
 

@@ -1,6 +1,6 @@
 -- What a beacon or a probe response says, but for its Quiet elements (01, "Octets"): its fixed fields, and the elements 32, 35 and 37
 -- that it has.
-use Rattle.std.specs.Prelude.{Bool, true, false, List, [], ◌∷◌, ℕ, Some, None, Option}
+use Rattle.std.specs.Prelude.{List, [], ◌∷◌, ℕ, Some, None, Option}
 use Rattle.element.specs.PowerConstraint.{power_contents}
 use Rattle.element.specs.declared.channel_switch.ChannelSwitch.{ChannelSwitch}
 use Rattle.element.specs.declared.power_constraint.PowerConstraint.{PowerConstraint}
@@ -32,20 +32,6 @@ with_report n t = record { timestamp = n.timestamp; capability = n.capability; p
 
 abbrev pub with_switch : Notice → ChannelSwitch → Notice
 with_switch n s = record { timestamp = n.timestamp; capability = n.capability; power = n.power; report = n.report; switch = Some s }
-
--- ---- whether there is one
-
-abbrev pub has_power : Option PowerConstraint → Bool
-has_power None = false
-has_power (Some p) = true
-
-abbrev pub has_report : Option TpcReport → Bool
-has_report None = false
-has_report (Some t) = true
-
-abbrev pub has_switch : Option ChannelSwitch → Bool
-has_switch None = false
-has_switch (Some s) = true
 
 -- ---- what may be absent, as octets: 1 and its contents where it is there, and zeros where it is not
 

@@ -8,7 +8,6 @@ use element::power_constraint::PowerConstraint;
 use element::quiet::Quiet;
 use element::tpc_report::TpcReport;
 use element::{channel_switch, power_constraint, quiet, tpc_report};
-use pending::Switch;
 
 #[derive(Clone, Copy)]
 pub enum Element {
@@ -30,26 +29,15 @@ fn without_margin(report: TpcReport) -> TpcReport
     }
 }
 
+#[tactic(auto, unfolding(crate::specs::Beacons::element_means))]
 pub fn element_of(id: u8, contents: &[u8], interval: u16) -> Result<Element, Refusal>
     ensures { result ≡ element_means interval id contents.now }
 {
     match id {
-        power_constraint::ID => match power_constraint::read(contents) {
-            Err(refusal) => Err(refusal),
-            Ok(power) => Ok(Element::Power(power)),
-        },
-        tpc_report::ID => match tpc_report::read(contents) {
-            Err(refusal) => Err(refusal),
-            Ok(report) => Ok(Element::Report(without_margin(report))),
-        },
-        channel_switch::ID => match channel_switch::read(contents) {
-            Err(refusal) => Err(refusal),
-            Ok(switch) => Ok(Element::Switch(switch)),
-        },
-        quiet::ID => match quiet::read(contents, interval) {
-            Err(refusal) => Err(refusal),
-            Ok(quiet) => Ok(Element::Quiet(quiet)),
-        },
+        power_constraint::ID => Ok(Element::Power(power_constraint::read(contents)?)),
+        tpc_report::ID => Ok(Element::Report(without_margin(tpc_report::read(contents)?))),
+        channel_switch::ID => Ok(Element::Switch(channel_switch::read(contents)?)),
+        quiet::ID => Ok(Element::Quiet(quiet::read(contents, interval)?)),
         _ => Ok(Element::Other),
     }
 }

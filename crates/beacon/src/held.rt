@@ -4,14 +4,11 @@ ghost use Rattle.beacon.specs.Notices.{held_power};
 
 use element::power_constraint::PowerConstraint;
 
-
-impl Option<PowerConstraint> {
-    pub fn to_octets(self) -> [u8; 2]
-        ensures { result ≡ held_power self }
-    {
-        match self {
-            None => [0, 0],
-            Some(constraint) => [1, constraint.decibels],
-        }
+pub fn held_power(power: Option<PowerConstraint>) -> [u8; 2]
+    ensures { result ≡ held_power power }
+{
+    match power {
+        None => [0, 0],
+        Some(constraint) => [1, constraint.decibels],
     }
 }

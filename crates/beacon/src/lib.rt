@@ -7,20 +7,18 @@ mod held;
 mod naming;
 mod quiets;
 
-ghost use Rattle.std.specs.Prelude.{◌≡◌, Err};
-ghost use Rattle.answer.specs.Faults.{fault_at};
+ghost use Rattle.std.specs.Prelude.{◌≡◌};
 ghost use Rattle.beacon.specs.IbssBeacons.{told_where};
 ghost use Rattle.beacon.specs.Laid.{laid};
 
 use answer::{Fault, Refusal};
 use element::channel_switch::ChannelSwitch;
-use element::ibss_dfs;
-use element::ibss_dfs::IbssDfs;
+use element::ibss_dfs::{ChannelMap, IbssDfs};
 use element::power_constraint::PowerConstraint;
 use element::quiet::Quiet;
 use element::tpc_report::TpcReport;
+pub use held::held_power;
 use walk::Found;
-use element::ibss_dfs::ChannelMap;
 
 // How many Quiet elements a frame may have.
 pub const QUIETS: usize = 8;
@@ -51,32 +49,21 @@ impl Notice {
     };
 }
 
-// Whether a beacon has an element 41, what that says, and its pair at an index: 16 past the last, and where there is no element 41.
+// What an element 41 says, and its pair at an index: 16 past the last.
 #[derive(Clone, Copy)]
 pub struct HeardDfs {
-    pub names: bool,
     pub dfs: IbssDfs,
     pub pair: Result<ChannelMap, Refusal>,
 }
 
-impl HeardDfs {
-    // No element 41 was read.
-    pub const NONE: HeardDfs = HeardDfs {
-        names: false,
-        dfs: ibss_dfs::NONE,
-        pair: Err(Refusal::Impossible),
-    };
-}
-
-// The verdict, the notice, and the Quiet elements beside it: the first `count` slots in the order of the frame, the others blank.
-// Element 41 is read where it is asked for, and else skipped. A refusal leaves everything blank.
+// The notice, and the Quiet elements beside it: the first `count` slots in the order of the frame, the others blank.
+// Element 41 is read where it is asked for, and else skipped.
 #[derive(Clone, Copy)]
 pub struct Heard {
-    pub verdict: Result<(), Fault>,
     pub notice: Notice,
     pub quiets: [Quiet; QUIETS],
     pub count: usize,
-    pub dfs: HeardDfs,
+    pub dfs: Option<HeardDfs>,
 }
 
 // What a slot holds that is not in use.
@@ -87,39 +74,16 @@ pub const NO_QUIET: Quiet = Quiet {
     offset: 0,
 };
 
-fn refused(fault: Fault) -> Heard
-    ensures { result ≡ laid 0 (Err fault) }
-{
-    let verdict = Err(fault);
-    let notice = Notice::NOTHING;
-    let quiets = [NO_QUIET; QUIETS];
-    let dfs = HeardDfs::NONE;
-    Heard {
-        verdict,
-        notice,
-        quiets,
-        count: 0,
-        dfs,
-    }
-}
-
-// The same at an octet of the body, which has so many before it.
-fn refused_at(refusal: Refusal, at: usize) -> Heard
-    ensures { result ≡ laid 0 (Err (fault_at at refusal)) }
-{
-    refused(Fault::at(refusal, at))
-}
-
 // A body of a beacon or a probe response, heard by a station whose beacon interval is `interval`. In an IBSS a beacon's element 41 is read too, with its pair
 // at the index.
-pub fn read(body: &[u8], interval: u16, ibss: bool, index: usize) -> Heard
+pub fn read(body: &[u8], interval: u16, ibss: bool, index: usize) -> Result<Heard, Fault>
     ensures { result ≡ laid index (told_where ibss interval body.now) }
 {
     if body.len() < FIXED_LENGTH {
-        return refused(Fault::nowhere(Refusal::TooShort));
+        return Err(Fault::nowhere(Refusal::TooShort));
     }
     if octets::number16(body, INTERVAL) != interval {
-        return refused_at(Refusal::OtherInterval, INTERVAL);
+        return Err(Fault::at(Refusal::OtherInterval, INTERVAL));
     }
     let mut notice = Notice {
         timestamp: octets::number64(body, 0),
@@ -128,7 +92,7 @@ pub fn read(body: &[u8], interval: u16, ibss: bool, index: usize) -> Heard
     };
     let mut quiets = [NO_QUIET; QUIETS];
     let mut count = 0;
-    let mut dfs = HeardDfs::NONE;
+    let mut dfs = None;
     let mut at = FIXED_LENGTH;
     loop {
         match quiets::quiet_at(body, at, count, interval) {
@@ -139,42 +103,25 @@ pub fn read(body: &[u8], interval: u16, ibss: bool, index: usize) -> Heard
             }
             None => match walk::element_at(body, at) {
                 Found::End => {
-                    return Heard {
-                        verdict: Ok(()),
+                    return Ok(Heard {
                         notice,
                         quiets,
                         count,
                         dfs,
-                    };
+                    });
                 }
-                Found::CutHeader(_) => {
-                    return refused_at(Refusal::ElementCut, at);
-                }
-                Found::CutContents(_) => {
-                    return refused_at(Refusal::ElementCut, at);
+                Found::CutHeader(_) | Found::CutContents(_) => {
+                    return Err(Fault::at(Refusal::ElementCut, at));
                 }
                 Found::Whole { id, start, end } => {
+                    let contents = &body[start..end];
+                    let placed = |refusal| Fault::at(refusal, at);
                     if naming::reads_dfs(ibss, id) {
-                        let naming = naming::read_dfs(&body[start..end], dfs.names, index);
-                        let answer = naming.answer;
-                        match answer {
-                            Err(reason) => {
-                                return refused_at(reason, at);
-                            }
-                            Ok(()) => {
-                                let next = naming.dfs;
-                                dfs = next;
-                            }
-                        }
+                        let next = naming::read_dfs(contents, dfs.is_some(), index);
+                        dfs = Some(next.map_err(placed)?);
                     } else {
-                        match adding::add_element(notice, id, &body[start..end], interval) {
-                            Err(refusal) => {
-                                return refused_at(refusal, at);
-                            }
-                            Ok(next) => {
-                                notice = next;
-                            }
-                        }
+                        let next = adding::add_element(notice, id, contents, interval);
+                        notice = next.map_err(placed)?;
                     }
                     at = end;
                 }

@@ -16,13 +16,7 @@ const HEADER: u16 = 1576;
 pub fn quiet_at(body: &[u8], at: usize, count: usize, interval: u16) -> Option<Quiet>
     ensures { QuietAt body.now at count interval result }
 {
-    if QUIETS <= count {
-        return None;
-    }
-    if body.len() < LENGTH {
-        return None;
-    }
-    if body.len() - LENGTH < at {
+    if QUIETS <= count || body.len() < LENGTH || body.len() - LENGTH < at {
         return None;
     }
     if octets::number16(body, at) != HEADER {
@@ -30,8 +24,5 @@ pub fn quiet_at(body: &[u8], at: usize, count: usize, interval: u16) -> Option<Q
     }
     let start = at + 2;
     let end = at + LENGTH;
-    match quiet::read(&body[start..end], interval) {
-        Err(_) => None,
-        Ok(quiet) => Some(quiet),
-    }
+    quiet::read(&body[start..end], interval).ok()
 }

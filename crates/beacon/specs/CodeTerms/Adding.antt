@@ -4,6 +4,7 @@ use Rattle.answer.specs.Checks.{Outcome}
 use Rattle.element.specs.Quiet.{quiet_means}
 use Rattle.element.specs.declared.quiet.Quiet.{Quiet}
 use Rattle.beacon.specs.Beacons.{Told, tells, quiet_limit}
+use Rattle.beacon.specs.declared.Notice.{Notice}
 use Rattle.beacon.specs.declared.elements.Element.{Element}
 
 -- what is said with what was added to a notice, beside these Quiet elements

@@ -3,9 +3,9 @@ use Rattle.std.specs.Prelude.{Bool, ◌&&◌, List, [], ◌∷◌, ℕ, eqb, Ok,
 use Rattle.answer.specs.Checks.{Outcome, pick, ◌⇒◌, judged, and_then}
 use Rattle.answer.specs.declared.Refusal.{Refusal}
 use Rattle.element.specs.IbssDfs.{Dfs, dfs_means}
-use Rattle.beacon.specs.IbssBeacons.{absent, is, ToldInIbss, takes_dfs, takes_too}
+use Rattle.beacon.specs.IbssBeacons.{ToldInIbss, takes_dfs, takes_too}
 use Rattle.beacon.specs.Laid.{dfs_heard}
-use Rattle.beacon.specs.declared.naming.Naming.{Naming}
+use Rattle.beacon.specs.declared.HeardDfs.{HeardDfs}
 
 -- whether an element is read as element 41
 abbrev pub reads_dfs : Bool → ℕ → Bool
@@ -19,6 +19,7 @@ takes_where ibss b id c t = pick (reads_dfs ibss id) (takes_dfs c t) (takes_too 
 abbrev pub first_dfs : Bool → List ℕ → Outcome Dfs
 first_dfs names c = and_then (dfs_means c) (λ d. judged (names ⇒ Refusal.Repeated ∷ []) d)
 
-abbrev pub naming_laid : ℕ → Outcome Dfs → Naming
-naming_laid i (Err r) = record { answer = Err r; dfs = dfs_heard i absent }
-naming_laid i (Ok d) = record { answer = Ok tt; dfs = dfs_heard i (is d) }
+-- as it is handed out, with the pair at an index
+abbrev pub naming_laid : ℕ → Outcome Dfs → Outcome HeardDfs
+naming_laid i (Err r) = Err r
+naming_laid i (Ok d) = Ok (dfs_heard i d)
