@@ -82,6 +82,7 @@ module _ (body : List ℕ) (i : ℕ) where
 
     pub measured : (k : Measurements.Kind) (t : ℕ) {o : Placed Surveyed} → o ≡ surveyed (sort_of k) i t body
         → and_then o (λ v. Ok (placed k token v.count v.place)) ≡ located i body (after_opening body (Opening.Token (sort_of k).action token))
+    unfolding made
     measured k t e =
         ap (λ (o : Placed Surveyed). and_then o (λ v. Ok (placed k token v.count v.place))) e
         ∙ by k (measurements_in (sort_of k) (drop fixed_fields body))
@@ -89,7 +90,6 @@ module _ (body : List ℕ) (i : ℕ) where
       where
         by : (k : Measurements.Kind) (o : Placed (List (Measurement k)))
             → and_then (surveyed_as (sort_of k) i t body o) (λ v. Ok (placed k token v.count v.place)) ≡ located i body (and_then o (λ xs. Ok (made k xs)))
-        unfolding made
         by k (Err x) = refl
         by Measurements.Kind.Requests (Ok xs) = refl
         by Measurements.Kind.Reports (Ok xs) = refl
@@ -135,16 +135,14 @@ module _ (body : List ℕ) (i : ℕ) where
       let same : body_located i body p.0 ≡ l = cc p.2 in
       subst (λ (x : Located). PlaceWithin body x.request) same (in_body p.0 p.1).request_within
 
+  abbrev with_request : Located → Placed Asked
+  with_request l = Ok (record { frame = l.frame; request = means_at request_means body l.request })
+
   -- and the request there
-  pub asked : {o : Placed Located} → o ≡ located i body (action_means body)
-      → and_then o (λ l. Ok (record { frame = l.frame; request = means_at request_means body l.request })) ≡ asked_of i (action_means body)
+  pub asked : {o : Placed Located} → o ≡ located i body (action_means body) → and_then o with_request ≡ asked_of i (action_means body)
   asked e = ap (λ (o : Placed Located). and_then o with_request) e ∙ by (action_means body) refl
     where
-      with_request : Located → Placed Asked
-      with_request l = Ok (record { frame = l.frame; request = means_at request_means body l.request })
-
       by : (o : Placed Body) → action_means body ≡ o → and_then (located i body o) with_request ≡ asked_of i o
-      unfolding with_request
       by (Err x) g = refl
       by (Ok (requests t rs)) g = ap (λ (q : Outcome Request). Ok (record { frame = Frame.MeasurementRequest t (length rs); request = q })) (in_body (requests t rs) g).request_is
       by (Ok (reports t rs)) g = refl
@@ -243,6 +241,7 @@ module _ (own ap' : List ℕ) (b : ℕ) (f : List ℕ) where
   -- what was found in the frame, and its body as it is lent
   pub found_there : (i : ℕ) {body : List ℕ} {l : Located} → body ≡ body_of f → Ok l ≡ located_in i (body_of f) (kind_means own ap' b f)
       → There body i l (element_of request_in i (frame_means own ap' b f)) (element_of report_in i (frame_means own ap' b f))
+  unfolding kind_means
   found_there i {body} {l} e g =
       subst (λ (x : List ℕ). There x i l (element_of request_in i (frame_means own ap' b f)) (element_of report_in i (frame_means own ap' b f))) (sym e) inside
     where
@@ -251,7 +250,6 @@ module _ (own ap' : List ℕ) (b : ℕ) (f : List ℕ) where
       kind = followed (kind_means own ap' b f) _ l (sym g)
 
       of_body : There (body_of f) i (kind_located i (body_of f) kind.0) (of_kind request_in i kind.0) (of_kind report_in i kind.0)
-      unfolding kind_means
       of_body =
           let p = followed (nowhere (header_means Cell.Ap own ap' f)) kind_in kind.0 kind.1 in
           in_kind (body_of f) i b p.0.subtype kind.0 (past_value header_length (kind_of b p.0.subtype (body_of f)) p.2)

@@ -1,6 +1,6 @@
 -- From a body's outcome to the frame of an IBSS that is handed out. Assumes nothing.
 use Rattle.std.specs.Prelude.{Ok, Err, Some, None, Option, option_map}
-use mathlib.Core.Bool.{Bool}
+use mathlib.Core.Bool.{Bool, true, false}
 use mathlib.Core.List.{List}
 use mathlib.Core.Path.{◌≡◌, refl, sym, ap, ap₂, ◌∙◌}
 use Prim.Native.Nat.{ℕ}

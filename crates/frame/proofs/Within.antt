@@ -57,7 +57,7 @@ module _ {size : ℕ} (body : List ℕ) (h : length body ≤ size) where
   heard_within ibss b i = by (told_where ibss b body) (told_lies ibss b)
     where
       by : (o : Placed ToldInIbss) → Refuses (Lies size) o → Refuses (Lies size) (laid i o)
-      by (Err x) h = h
+      by (Err x) h = by_refusal (Lies size) (h x refl)
       by (Ok t) h = by_value (Lies size) _
 
   action_lies : Refuses (Lies size) (action_means body)

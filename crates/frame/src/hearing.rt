@@ -12,10 +12,10 @@ ghost use Rattle.measurement_body.specs.Bodies.{longest_body};
 use crate::{BodyKind, Frame, places};
 use answer::Fault;
 use beacon::{NO_QUIET, Notice, QUIETS};
+use element::channel_switch::ChannelSwitch;
+use element::power_constraint::PowerConstraint;
 use element::quiet::Quiet;
 use header::Cell;
-use element::power_constraint::PowerConstraint;
-use element::channel_switch::ChannelSwitch;
 
 // Whether the Quiet elements of a frame replace all schedules, its Power Constraint, and its announcement.
 #[derive(Clone, Copy)]
