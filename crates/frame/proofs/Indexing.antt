@@ -12,6 +12,7 @@ use Rattle.answer.proofs.Placing.{past_value}
 use Rattle.answer.specs.Checks.{Outcome, and_then}
 use Rattle.answer.specs.Faults.{Placed, nowhere, without_place, placed_past}
 use Rattle.answer.specs.declared.Fault.{Fault}
+use Rattle.answer.specs.declared.Refusal.{Refusal}
 use Rattle.beacon.specs.Beacons.{Told, beacon_means}
 use Rattle.header.specs.Headers.{header_length, body_of, header_means}
 use Rattle.header.specs.declared.Head.{Head}
@@ -246,7 +247,7 @@ module _ (own ap' : List ℕ) (b : ℕ) (f : List ℕ) where
       subst (λ (x : List ℕ). There x i l (element_of request_in i (frame_means own ap' b f)) (element_of report_in i (frame_means own ap' b f))) (sym e) inside
     where
       -- the kind that was found
-      kind : (k : Kind) × (kind_means own ap' b f ≡ Ok k) × (Ok (kind_located i (body_of f) k) ≡ Ok l)
+      kind : (k : Kind) × (kind_means own ap' b f ≡ Ok k) × (◌≡◌ {A = Placed Located} (Ok (kind_located i (body_of f) k)) (Ok l))
       kind = followed (kind_means own ap' b f) _ l (sym g)
 
       of_body : There (body_of f) i (kind_located i (body_of f) kind.0) (of_kind request_in i kind.0) (of_kind report_in i kind.0)

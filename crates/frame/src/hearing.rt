@@ -93,11 +93,14 @@ fn hear_notice(body: &[u8], interval: u16) -> Result<Hearing, Fault>
 {
     match beacon::read(body, interval, false, 0) {
         Err(fault) => Err(places::fault_in_frame(fault)),
-        Ok(heard) => Ok(Hearing {
-            change: Change::by_notice(heard.notice),
-            quiets: heard.quiets,
-            count: heard.count,
-        }),
+        Ok(heard) => {
+            let quiets = heard.quiets;
+            Ok(Hearing {
+                change: Change::by_notice(heard.notice),
+                quiets,
+                count: heard.count,
+            })
+        }
     }
 }
 

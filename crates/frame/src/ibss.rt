@@ -88,6 +88,7 @@ fn hear(
 pub fn read_in_ibss(frame: &[u8], own: [u8; 6], bssid: [u8; 6], interval: u16) -> ReceivedInIbss
     ensures { result ≡ ibss_laid (ibss_frame_means own bssid interval frame.now) }
 {
+    let sender = header::sender(frame);
     match hear(frame, own, bssid, interval, 0) {
         Err(fault) => ReceivedInIbss {
             received: Err(fault),
@@ -96,7 +97,7 @@ pub fn read_in_ibss(frame: &[u8], own: [u8; 6], bssid: [u8; 6], interval: u16) -
         },
         Ok(heard) => ReceivedInIbss {
             received: Ok(heard.received),
-            sender: header::sender(frame),
+            sender,
             dfs: heard.dfs.map(|named| named.dfs),
         },
     }
