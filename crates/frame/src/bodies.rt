@@ -12,10 +12,10 @@ ghost use Rattle.walk.specs.Handed.{handed_in};
 
 use crate::Frame;
 use action::Opening;
+use answer::Fault;
 use measurement_body::Kind;
 use single_body::Single;
 use walk::Contents;
-use answer::Fault;
 
 // A body that was read, and where the contents of its request or its report at an index lie: absent past the last, and in a body of
 // another kind.

@@ -71,10 +71,11 @@ fn notice_frame(heard: Heard, probe: bool, broadcast: bool) -> Received
     } else {
         Frame::Beacon(heard.notice)
     };
+    let quiets = heard.quiets;
     Received {
         frame,
         broadcast,
-        quiets: heard.quiets,
+        quiets,
         count: heard.count,
     }
 }

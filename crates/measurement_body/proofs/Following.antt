@@ -18,7 +18,7 @@ use Rattle.octets.proofs.Storing.{room_left}
 use Rattle.octets.specs.Writing.{Written, left}
 use Rattle.walk.specs.Handed.{handed_in}
 use Rattle.measurement_body.specs.Bodies.{longest_body, opening, begins, may_open, joins, appended, may_append}
-use Rattle.measurement_body.specs.CodeTerms.Appending.{Fronts, longest_element, may_follow, following}
+use Rattle.measurement_body.specs.CodeTerms.Appending.{Fronts, longest_element, may_join, may_follow, following}
 use Rattle.measurement_body.specs.Lists.{Sort, used, measurements_in, all_clear, all_interpreted}
 use Rattle.measurement_body.specs.Surveys.{surveyed_as, surveyed}
 use Rattle.measurement_body.proofs.Conjunctions.{and-false, and_assoc}
@@ -38,11 +38,11 @@ module _ {A : Type 0} (s : Sort A) (token : ℕ) (a : A) (there : List ℕ) wher
 
   -- what the survey says of a record that is to join those that are there
   joined : (all_clear s (handed_in (drop fixed_fields there)) && joins s a (measurements_in s (drop fixed_fields there)))
-      ≡ ((surveyed s 0 (s.token a) there).plain && not (s.once && (surveyed s 0 (s.token a) there).hit))
+      ≡ may_join s.once (surveyed s 0 (s.token a) there)
   joined = by (measurements_in s (drop fixed_fields there))
     where
       by : (o : Placed (List A)) → (all_clear s (handed_in (drop fixed_fields there)) && joins s a o)
-          ≡ ((surveyed_as s 0 (s.token a) there o).plain && not (s.once && (surveyed_as s 0 (s.token a) there o).hit))
+          ≡ may_join s.once (surveyed_as s 0 (s.token a) there o)
       by (Err r) = and-false (all_clear s (handed_in (drop fixed_fields there)))
       by (Ok l) = and_assoc (all_clear s (handed_in (drop fixed_fields there))) (all_interpreted s l) (not (s.once && used s (s.token a) l))
 

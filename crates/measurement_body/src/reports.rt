@@ -6,9 +6,9 @@ ghost use Rattle.measurement_body.specs.Reports.{report_sort};
 
 use crate::bodies;
 use crate::kinds::Kind;
+use answer::Refusal;
 use measurement_element::measurement_report;
 use measurement_element::measurement_report::Report;
-use answer::Refusal;
 
 // Writes a report after the first `used` octets of the buffer; with none used it starts a body with this token.
 pub fn append(buffer: &mut [u8], used: usize, token: u8, report: Report) -> Result<usize, Refusal>

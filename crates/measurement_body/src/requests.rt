@@ -6,9 +6,9 @@ ghost use Rattle.measurement_body.specs.Requests.{request_sort};
 
 use crate::bodies;
 use crate::kinds::Kind;
+use answer::Refusal;
 use measurement_element::measurement_request;
 use measurement_element::measurement_request::Request;
-use answer::Refusal;
 
 // Writes a request after the first `used` octets of the buffer; with none used it starts a body with this token.
 pub fn append(buffer: &mut [u8], used: usize, token: u8, request: Request) -> Result<usize, Refusal>
