@@ -5,7 +5,7 @@ use mathlib.Core.Bool.{Bool, true, false}
 use mathlib.Core.List.{List}
 use Prim.Native.Nat.{ℕ}
 use lib.ListN.{length, drop}
-use Rattle.action.specs.Openings.{fixed_fields}
+use Rattle.action.specs.Openings.{fixed_fields, switch_fixed_fields}
 use Rattle.action.specs.declared.Opening.{Opening}
 use Rattle.answer.proofs.Judged.{never, followed}
 use Rattle.answer.proofs.Placing.{past_value}
@@ -14,6 +14,9 @@ use Rattle.answer.specs.Faults.{Placed, nowhere, without_place, placed_past}
 use Rattle.answer.specs.declared.Fault.{Fault}
 use Rattle.answer.specs.declared.Refusal.{Refusal}
 use Rattle.beacon.specs.Beacons.{Told, beacon_means}
+use Rattle.element.specs.ChannelSwitch.{switch_means}
+use Rattle.element.specs.TpcReport.{tpc_report_means}
+use Rattle.element.specs.TpcRequest.{tpc_request_means}
 use Rattle.header.specs.Headers.{header_length, body_of, header_means}
 use Rattle.header.specs.declared.Head.{Head}
 use Rattle.header.specs.declared.address.Cell.{Cell}
@@ -33,11 +36,13 @@ use Rattle.measurement_element.specs.declared.measurement_report.Report.{Report}
 use Rattle.measurement_element.specs.declared.measurement_request.Request.{Request}
 use Rattle.single_body.proofs.Singling as Singling
 use Rattle.single_body.specs.Singles.{single}
+use Rattle.single_body.specs.Kinds.{contents_mean, id_of, fields_before}
+use Rattle.single_body.specs.declared.kinds.Kind as Singles
 use Rattle.single_body.specs.declared.kinds.Single.{Single}
-use Rattle.walk.specs.Handed.{Handed}
+use Rattle.walk.specs.Handed.{Handed, handed_in}
 use Rattle.frame.specs.Actions.{Body, requests, reports, tpc_request, tpc_report, switch, after_opening, action_means}
 use Rattle.frame.specs.CodeTerms.Located.{unplaced, placed, body_located, located, kind_located, located_in, kind_means, PlaceWithin, means_at, asked_of}
-use Rattle.frame.specs.CodeTerms.SingleFrames.{single_frame, single_located}
+use Rattle.frame.specs.CodeTerms.SingleFrames.{single_frame, single_opening}
 use Rattle.frame.specs.Frames.{Kind, beacon, probe_response, action, kind_of, sent, frame_means, request_in, report_in, of_kind, element_of}
 use Rattle.frame.specs.Laid.{body_frame, frame_laid, notice_subtype}
 use Rattle.frame.specs.declared.Received.{Received}
@@ -59,15 +64,30 @@ module _ (body : List ℕ) (i : ℕ) where
   located_frame (Ok (switch s)) = refl
 
   -- a body of one element has no place
-  pub one_element : {X : Type 0} (n id : ℕ) (means : List ℕ → Outcome X) (es : Handed) (token : ℕ) (says : X → Single) (make : X → Body)
+  one_element : {X : Type 0} (n id : ℕ) (means : List ℕ → Outcome X) (es : Handed) (token : ℕ) (says : X → Single) (make : X → Body)
       → ((a : X) → unplaced (single_frame token (says a)) ≡ body_located i body (make a))
-      → single_located token (single n id (λ c. and_then (means c) (λ a. Ok (says a))) es)
+      → and_then (single n id (λ c. and_then (means c) (λ a. Ok (says a))) es) (λ s. Ok (unplaced (single_frame token s)))
       ≡ located i body (and_then (single n id means es) (λ a. Ok (make a)))
-  one_element n id means es token says make none = ap (single_located token) (Singling.made n id means says es) ∙ by (single n id means es)
+  one_element n id means es token says make none =
+      ap (λ (o : Placed Single). and_then o (λ s. Ok (unplaced (single_frame token s)))) (Singling.made n id means says es) ∙ by (single n id means es)
     where
-      by : (o : Placed _) → single_located token (and_then o (λ a. Ok (says a))) ≡ located i body (and_then o (λ a. Ok (make a)))
+      by : (o : Placed _) → and_then (and_then o (λ a. Ok (says a))) (λ s. Ok (unplaced (single_frame token s))) ≡ located i body (and_then o (λ a. Ok (make a)))
       by (Err r) = refl
       by (Ok a) = ap Ok (none a)
+
+  pub found_alone : (k : Singles.Kind) (token : ℕ) {o : Placed Single} → o ≡ single (fields_before k) (id_of k) (contents_mean k) (handed_in (drop (fields_before k) body))
+      → and_then o (λ s. Ok (unplaced (single_frame token s))) ≡ located i body (after_opening body (single_opening k token))
+  found_alone k token e = ap (λ (o : Placed Single). and_then o (λ s. Ok (unplaced (single_frame token s)))) e ∙ by k
+    where
+      by : (k : Singles.Kind)
+          → and_then (single (fields_before k) (id_of k) (contents_mean k) (handed_in (drop (fields_before k) body))) (λ s. Ok (unplaced (single_frame token s)))
+          ≡ located i body (after_opening body (single_opening k token))
+      by Singles.Kind.TpcRequest =
+          one_element fixed_fields 34 tpc_request_means (handed_in (drop fixed_fields body)) token (λ u. Single.TpcRequest) (λ u. tpc_request token) (λ u. refl)
+      by Singles.Kind.TpcReport =
+          one_element fixed_fields 35 tpc_report_means (handed_in (drop fixed_fields body)) token Single.TpcReport (tpc_report token) (λ t. refl)
+      by Singles.Kind.ChannelSwitch =
+          one_element switch_fixed_fields 37 switch_means (handed_in (drop switch_fixed_fields body)) token Single.ChannelSwitch switch (λ s. refl)
 
   -- a body of measurement elements has those of its survey
   module _ (token : ℕ) where

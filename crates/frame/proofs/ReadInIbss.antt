@@ -28,7 +28,6 @@ use Rattle.frame.specs.IbssLaid.{ibss_laid}
 use Rattle.frame.specs.Laid.{frame_laid, received, frame_of, quiets_of}
 use Rattle.frame.specs.declared.Received.{Received}
 use Rattle.frame.specs.declared.ibss.HeardInIbss.{HeardInIbss}
-use Rattle.frame.specs.declared.ibss.ReceivedInIbss.{ReceivedInIbss}
 use Rattle.frame.proofs.FromAp.{its_sender}
 
 -- ---- a body, with its sender

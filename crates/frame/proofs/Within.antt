@@ -1,6 +1,6 @@
 -- A fault of a body, or of a frame, lies in it or at its end. Assumes nothing.
-use Rattle.std.specs.Prelude.{Ok, Err, Some, None, Option}
-use mathlib.Core.Path.{◌≡◌, refl, sym, ap, subst, ◌∙◌}
+use Rattle.std.specs.Prelude.{Ok, Err, Some, None, Option, IfOk}
+use mathlib.Core.Path.{◌≡◌, refl, sym, ap, subst}
 use mathlib.Core.Bool.{Bool, true, false}
 use mathlib.Core.List.{List}
 use Prim.Native.Nat.{ℕ, ◌+◌, ◌≤◌}
@@ -91,6 +91,13 @@ module _ {size : ℕ} (body : List ℕ) (h : length body ≤ size) where
 pub body_short : (cell : Cell) (own bss f : List ℕ) (h : Head) → Ok h ≡ header_means cell own bss f → {body : List ℕ} → body ≡ body_of f → length body ≤ longest_body
 body_short cell own bss f h e {body} g =
     omega (arith, ap length g, length-drop header_length f, has_header cell own bss f h (sym e), not_too_long cell own bss f h (sym e))
+
+pub head_short : (cell : Cell) (own bss f : List ℕ) {o : Placed Head} → o ≡ nowhere (header_means cell own bss f) → IfOk o (λ h. length (body_of f) ≤ longest_body)
+head_short cell own bss f {o} e = by o e
+  where
+    by : (o : Placed Head) → o ≡ nowhere (header_means cell own bss f) → IfOk o (λ h. length (body_of f) ≤ longest_body)
+    by (Err x) g = tt
+    by (Ok h) g = body_short cell own bss f h (sym (nowhere_value (header_means cell own bss f) (sym g))) refl
 
 -- ---- a frame's
 

@@ -117,10 +117,11 @@ fn hear_action(body: &[u8]) -> Result<Hearing, Fault>
 
 // What a station hears of a frame: what `read` would hand out of it, as a hearing. `own` is the station's address, `ap` its AP's, `interval` its beacon
 // interval.
+#[tactic(auto, unfolding(crate::specs::Frames::frame_means))]
 pub fn hear(frame: &[u8], own: [u8; 6], ap: [u8; 6], interval: u16) -> Result<Hearing, Fault>
     ensures { result ≡ hearing_of (frame_laid (frame_means own ap interval frame.now)) }
 {
-    let head = header::read(frame, Cell::Ap, own, ap).map_err(Fault::nowhere)?;
+    let head = places::read_head(frame, Cell::Ap, own, ap)?;
     let body = header::body(frame);
     match crate::body_kind(head.subtype) {
         BodyKind::Notice { probe: _ } => hear_notice(body, interval),

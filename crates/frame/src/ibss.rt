@@ -60,6 +60,7 @@ fn nameless(received: Received) -> HeardInIbss
 }
 
 // A frame, with the pair at an index of its element 41.
+#[tactic(auto, unfolding(crate::specs::IbssFrames::ibss_frame_means))]
 fn hear(
     frame: &[u8],
     own: [u8; 6],
@@ -69,7 +70,7 @@ fn hear(
 ) -> Result<HeardInIbss, Fault>
     ensures { result ≡ heard_laid index (ibss_frame_means own bssid interval frame.now) }
 {
-    let head = header::read(frame, Cell::Ibss, own, bssid).map_err(Fault::nowhere)?;
+    let head = places::read_head(frame, Cell::Ibss, own, bssid)?;
     let body = header::body(frame);
     match head.subtype {
         Subtype::Beacon => read_beacon(body, interval, head.to_all, index),

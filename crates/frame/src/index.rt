@@ -51,6 +51,7 @@ fn report_there(body: &[u8], place: Option<Contents>) -> Result<Report, Refusal>
 }
 
 // An action body and its request at an index, in one walk.
+#[tactic(auto, using(crate::proofs::Indexing::request_inside, crate::proofs::Indexing::asked))]
 pub fn read_request(body: &[u8], index: usize) -> Result<Asked, Fault>
     ensures { result ≡ asked_of index (action_means body.now) }
 {
@@ -83,6 +84,7 @@ fn locate_action(body: &[u8], index: usize) -> Result<Located, Fault>
 }
 
 // A frame, and where in its body the element at an index lies: beacons and probe responses have none.
+#[tactic(auto, unfolding(crate::specs::CodeTerms::Located::kind_means))]
 fn locate(
     frame: &[u8],
     own: [u8; 6],
@@ -92,7 +94,7 @@ fn locate(
 ) -> Result<Located, Fault>
     ensures { result ≡ located_in index (body_of frame.now) (kind_means own ap interval frame.now) }
 {
-    let head = header::read(frame, Cell::Ap, own, ap).map_err(Fault::nowhere)?;
+    let head = places::read_head(frame, Cell::Ap, own, ap)?;
     let body = header::body(frame);
     match crate::body_kind(head.subtype) {
         BodyKind::Action => locate_action(body, index),
