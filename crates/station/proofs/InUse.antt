@@ -8,7 +8,7 @@ use native.Mathlib.Numerals.{add-one}
 use native.Mathlib.Omega.{arith}
 use borrow.Author.Tests.{lt-ltb, le-ltb}
 use lib.Dec.{ltb}
-use lib.ListN.{length, take, drop, get_or, replicate, drop_of_length-le, length-take, take-append-drop}
+use lib.ListN.{length, take, drop, get_or, replicate, drop_of_length-le, take-append-drop}
 use lib.Seq.{drop-cons, get_or-take, length-take-le}
 use Rattle.answer.proofs.Booleans.{or_go, or_stop}
 use Rattle.beacon.specs.Beacons.{quiet_limit}

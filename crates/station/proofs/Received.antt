@@ -1,7 +1,7 @@
 -- From what `frame::read` hands out to what the frame means to the station, which stays valid. Assumes nothing.
 use Rattle.std.specs.Prelude.{Ok, Err}
 use mathlib.Core.List.{List}
-use mathlib.Core.Path.{◌≡◌, refl, ap, ◌∙◌}
+use mathlib.Core.Path.{◌≡◌, refl, sym, ap, ◌∙◌, subst}
 use Prim.Native.Nat.{ℕ}
 use lib.ListN.{take}
 use lib.Seq.{take_at}
@@ -44,6 +44,12 @@ module _ (s : Station) where
   valid_heard v (Err x) allowed = v
   valid_heard v (Ok r) allowed = valid_changed s r.frame (take r.count r.quiets) v allowed
 
+  pub still_valid : (x : Station) (v : Received) (o : Placed Received) → Valid s → o ≡ Ok v → x ≡ changed s (by_frame v.frame) (take v.count v.quiets)
+      → ReceivedAllowed s.interval o → Valid x
+  still_valid x v o valid e is allowed =
+      subst Valid (sym (is ∙ by_frame_lem v.frame (take v.count v.quiets)))
+      (valid_changed s v.frame (take v.count v.quiets) valid (subst (ReceivedAllowed s.interval) e allowed))
+
   -- what a reader hands out of an outcome
   pub laid_means : (o : Placed Sent) → heard_means s (frame_laid o) ≡ and_then o (λ sent. Ok (heard s sent.kind))
   unfolding heard_means
@@ -54,3 +60,5 @@ module _ (s : Station) where
   pub read_means : (f : List ℕ) (o : Placed Received) → o ≡ frame_laid (frame_means s.own s.ap s.interval f) → heard_means s o ≡ take_means s f
   unfolding take_means
   read_means f o e = ap (heard_means s) e ∙ laid_means (frame_means s.own s.ap s.interval f)
+
+pub ruleset heard_ways = (by_frame_lem, still_valid)

@@ -16,11 +16,11 @@ ghost use Rattle.station.specs.Rests.{rest_of};
 pub use asking::Permission;
 pub use changing::{Rest, is_at_once};
 pub use clock::{Advanced, Stepped, advance_clock};
+use element::power_constraint::PowerConstraint;
+use pending::Switch;
 pub use replacing::later;
 use schedule::Schedule;
 pub use taking::Taken;
-use element::power_constraint::PowerConstraint;
-use pending::Switch;
 
 // What one station keeps between calls. The first `count` slots are the quiet schedules in use, the others are blank. Before `until` it is quiet by
 // what had begun of schedules that were replaced: the latest end counts, and 0 says that nothing runs on (document 02, Two).

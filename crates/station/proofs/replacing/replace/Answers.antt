@@ -1,9 +1,8 @@
 -- `replace` meets its contract. The invariant: the first i slots are the new schedules', and the latest end so far and those from i on give the latest
 -- of all. Assumes nothing.
-use Rattle.std.proofs.Common.{List, ap, arith, get_or, length, rules, sym, take, ℕ, ◌/◌, ◌<◌, ◌∙◌, ◌≡◌}
+use Rattle.std.proofs.Common.{List, ap, arith, get_or, length, rules, sym, take, ◌/◌, ◌<◌, ◌∙◌, ◌≡◌}
 use Rattle.beacon.specs.Beacons.{quiet_limit}
 use Rattle.schedule.specs.declared.Schedule.{Schedule}
-use Rattle.station.specs.CodeTerms.Changing.{overlaid}
 use Rattle.station.specs.Stations.{no_schedule, slotted}
 use Rattle.station.specs.Taking.{schedules_of}
 use Rattle.station.proofs.SlotBySlot.{not_yet, all_slots, slot_replaced, counted_here, all_counted}
