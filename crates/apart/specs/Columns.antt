@@ -6,10 +6,6 @@ use Rattle.apart.specs.declared.columns.Columns.{Columns}
 abbrev pub columns : List ℕ → List ℕ → List ℕ → Columns
 columns ss ps ds = record { starts = ss; periods = ps; durations = ds }
 
--- a row for each of these schedules, and no other
-abbrev pub columns_of : List Schedule → Columns
-columns_of xs = columns (map (λ x. x.start) xs) (map (λ x. x.period) xs) (map (λ x. x.duration) xs)
-
 abbrev pub schedule_at : Columns → ℕ → Schedule
 schedule_at c i = record { start = get_or c.starts i 0; period = get_or c.periods i 0; duration = get_or c.durations i 0 }
 

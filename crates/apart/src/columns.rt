@@ -1,9 +1,9 @@
 // Quiet schedules in columns of numbers, which are lent and changed where they are: a station is long to copy, and most of it is its schedules.
-ghost use Rattle.std.specs.Prelude.{◌≡◌, ◌<◌, ◌≤◌, ◌/◌, take};
+ghost use Rattle.std.specs.Prelude.{◌≡◌, ℕ, ◌<◌, ◌≤◌, ◌/◌, take};
 ghost use Rattle.beacon.specs.Beacons.{quiet_limit};
 ghost use Rattle.station.specs.Stations.{slotted};
 ghost use Rattle.station.specs.Taking.{schedules_of, latest_end};
-ghost use Rattle.apart.specs.Columns.{columns_of, schedule_at, schedules_in, with_row, rows_over};
+ghost use Rattle.apart.specs.Columns.{schedule_at, schedules_in, with_row, rows_over};
 
 use beacon::QUIETS;
 use element::quiet::Quiet;
@@ -49,11 +49,12 @@ impl Columns {
 
     // All schedules go into the columns.
     pub(crate) fn hold(&mut self, schedules: [Schedule; QUIETS])
-        ensures { self.new ≡ columns_of schedules }
+        ensures schedules { (n : ℕ) → n ≤ quiet_limit → schedules_in n self.new ≡ take n schedules }
+        ensures rows { self.new ≡ rows_over schedules self.old }
     {
-        self.starts = schedules.map(|schedule| schedule.start);
-        self.periods = schedules.map(|schedule| schedule.period);
-        self.durations = schedules.map(|schedule| schedule.duration);
+        for row in 0..QUIETS {
+            self.put(row, schedules[row]);
+        }
     }
 
     // The schedules of the first rows, so many, in their slots.

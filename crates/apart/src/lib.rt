@@ -14,7 +14,7 @@ ghost use Rattle.station.specs.Stations.{with_until};
 ghost use Rattle.station.specs.Taking.{schedules_of, outlasting, rescheduled, constrained, announced_if};
 ghost use Rattle.station.specs.Validity.{Valid};
 ghost use Rattle.apart.specs.Apart.{apart_of, whole_of, HoldsSchedules, rows_heard, HeardAs};
-ghost use Rattle.apart.specs.Columns.{columns_of, rows_over};
+ghost use Rattle.apart.specs.Columns.{rows_over};
 ghost use Rattle.apart.specs.declared.columns.Columns.{Columns};
 
 use answer::Fault;
@@ -57,9 +57,11 @@ impl Apart {
     fn beside(station: Station) -> Apart
         ensures { result ≡ apart_of station }
     {
+        let own = station.own;
+        let ap = station.ap;
         Apart {
-            own: station.own,
-            ap: station.ap,
+            own,
+            ap,
             rest: station.rest(station.until),
             count: station.count,
         }
@@ -76,7 +78,7 @@ impl Apart {
     pub fn of(station: Station, columns: &mut Columns) -> Apart
         ensures value { result ≡ apart_of station }
         ensures holds_schedules { HoldsSchedules station columns.new }
-        ensures columns_after { columns.new ≡ columns_of station.schedules }
+        ensures rows { columns.new ≡ rows_over station.schedules columns.old }
     {
         columns.hold(station.schedules);
         Apart::beside(station)
@@ -87,18 +89,21 @@ impl Apart {
         requires { self.count ≤ quiet_limit }
         ensures { result ≡ whole_of self columns.now }
     {
+        let own = self.own;
+        let ap = self.ap;
         let rest = self.rest;
         let power = rest.power;
         let pending = rest.pending;
+        let schedules = columns.gather(self.count);
         Station {
-            own: self.own,
-            ap: self.ap,
+            own,
+            ap,
             interval: rest.interval,
             clock: rest.clock,
             channel: rest.channel,
             power,
             pending,
-            schedules: columns.gather(self.count),
+            schedules,
             count: self.count,
             until: rest.until,
         }
