@@ -1,6 +1,6 @@
 -- An announcement that a station of an IBSS obeys comes from the address that the latest accepted beacon with element 41 names, that of its own frame first (02, Five). Assumes
 -- nothing.
-use Rattle.std.specs.Prelude.{Ok, Some, Option}
+use Rattle.std.specs.Prelude.{Ok, Some, Option, is_some}
 use mathlib.Core.Bool.{Bool, true, false, not, ◌&&◌}
 use mathlib.Core.List.{List, ◌∷◌}
 use mathlib.Core.Path.{◌≡◌, refl, sym, ap, ◌∙◌, subst}
@@ -9,7 +9,6 @@ use native.Mathlib.Omega.{arith}
 use borrow.Author.Tests.{not-false}
 use Rattle.answer.specs.Checks.{pick}
 use Rattle.beacon.specs.Beacons.{Told}
-use Rattle.beacon.specs.Notices.{has_switch}
 use Rattle.capture_record.specs.declared.entry.Settings.{Settings}
 use Rattle.element.specs.declared.channel_switch.ChannelSwitch.{ChannelSwitch}
 use Rattle.frame.specs.Announcements.{announcement_in}
@@ -49,7 +48,7 @@ module _ (s : Settings) (f : List ℕ) (h : History) (x : SentInIbss) (e : read_
   -- its sender is the owner once its own element 41 is applied
   sender_owns : owns (naming_at t x.dfs v) x.sender ≡ true
   sender_owns =
-      not-false _ (sym (ap (λ (b : Bool). b && not (owns (naming_at t x.dfs v) x.sender)) (ap has_switch announces)) ∙ ours)
+      not-false _ (sym (ap (λ (b : Bool). b && not (owns (naming_at t x.dfs v) x.sender)) (ap is_some announces)) ∙ ours)
 
   -- any other frame than a beacon names nobody
   unnamed : (k : Kind) → x.sent.kind ≡ k → ((told : Told) → k ≡ beacon told → ⊥) → owns v x.sender ≡ true

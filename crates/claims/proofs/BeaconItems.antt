@@ -1,6 +1,6 @@
 -- Bodies of beacons and probe responses over the plain list of their elements (01, "Octets": whole elements but 32, 35, 37 and 40 are skipped;
 -- "Wrong programs that look right": only the first, or only the last, Quiet element is kept). Assumes nothing.
-use Rattle.std.specs.Prelude.{Ok, Err, Some, Option}
+use Rattle.std.specs.Prelude.{Ok, Err, Some, Option, is_some}
 use mathlib.Core.Bool.{Bool, true, false}
 use mathlib.Core.List.{List, [], ◌∷◌, ◌++◌}
 use mathlib.Core.Logic.{◌↔◌}
@@ -17,7 +17,6 @@ use Rattle.answer.proofs.Placing.{placed_value}
 use Rattle.answer.proofs.Judged.{never, passed, stands, kept, followed, past, through}
 use Rattle.beacon.proofs.Allowing.{beacon_allowed}
 use Rattle.beacon.specs.Beacons.{Told, opening, fixed_length, quiet_limit, without_margin, element_means, adds, takes, says, beacon_means}
-use Rattle.beacon.specs.Notices.{has_power, has_report, has_switch}
 use Rattle.beacon.specs.declared.elements.Element.{Element}
 use Rattle.element.specs.ChannelSwitch.{switch_means}
 use Rattle.element.specs.PowerConstraint.{power_means}
@@ -108,12 +107,12 @@ module _ (b : ℕ) where
         let p = made (power_means c) _ _ next e in
         let q = passed _ _ _ p.2 in
         let s' = from q.1 s in
-        other_power before _ _ (the_one power_means any_power has_power one_power (item 32 c) (of_id 32 xs) before.notice.power q.0 p.1 s'.power) s'
+        other_power before _ _ (the_one power_means any_power is_some one_power (item 32 c) (of_id 32 xs) before.notice.power q.0 p.1 s'.power) s'
 
     power_then : Then 32 → Fore 32
     unfolding takes element_means of_id checked
     power_then s =
-        let p = was_the_one power_means any_power has_power one_power (item 32 c) (of_id 32 xs) before.notice.power after.notice.power s.power in
+        let p = was_the_one power_means any_power is_some one_power (item 32 c) (of_id 32 xs) before.notice.power after.notice.power s.power in
         (power_as before (Some p.1.0), simp (p.1.1, p.0), other_power before _ _ p.1.2 s)
 
     -- its margin is ignored before it is added, or after
@@ -133,12 +132,12 @@ module _ (b : ℕ) where
         let p = made (notice_report_means c) _ _ next (sym report_taken ∙ e) in
         let q = passed _ _ _ p.2 in
         let s' = from q.1 s in
-        other_report before _ _ (the_one notice_report_means any_report has_report one_report (item 35 c) (of_id 35 xs) before.notice.report q.0 p.1 s'.report) s'
+        other_report before _ _ (the_one notice_report_means any_report is_some one_report (item 35 c) (of_id 35 xs) before.notice.report q.0 p.1 s'.report) s'
 
     report_then : Then 35 → Fore 35
     unfolding takes element_means of_id checked
     report_then s =
-        let p = was_the_one notice_report_means any_report has_report one_report (item 35 c) (of_id 35 xs) before.notice.report after.notice.report s.report in
+        let p = was_the_one notice_report_means any_report is_some one_report (item 35 c) (of_id 35 xs) before.notice.report after.notice.report s.report in
         (report_as before (Some p.1.0), report_taken ∙ simp (p.1.1, p.0), other_report before _ _ p.1.2 s)
 
     switch_fore : Fore 37 → Then 37
@@ -147,12 +146,12 @@ module _ (b : ℕ) where
         let p = made (switch_means c) _ _ next e in
         let q = passed _ _ _ p.2 in
         let s' = from q.1 s in
-        other_switch before _ _ (the_one switch_means any_switch has_switch one_switch (item 37 c) (of_id 37 xs) before.notice.switch q.0 p.1 s'.switch) s'
+        other_switch before _ _ (the_one switch_means any_switch is_some one_switch (item 37 c) (of_id 37 xs) before.notice.switch q.0 p.1 s'.switch) s'
 
     switch_then : Then 37 → Fore 37
     unfolding takes element_means of_id checked
     switch_then s =
-        let p = was_the_one switch_means any_switch has_switch one_switch (item 37 c) (of_id 37 xs) before.notice.switch after.notice.switch s.switch in
+        let p = was_the_one switch_means any_switch is_some one_switch (item 37 c) (of_id 37 xs) before.notice.switch after.notice.switch s.switch in
         (switch_as before (Some p.1.0), simp (p.1.1, p.0), other_switch before _ _ p.1.2 s)
 
     quiet_fore : Fore 40 → Then 40

@@ -1,6 +1,6 @@
 -- A station of an IBSS hears what its reader accepts, but for announcements by any but the owner; its record follows what it hears, and its owner what the history
 -- tells (02, Five). Assumes nothing.
-use Rattle.std.specs.Prelude.{Ok, Err, Some, None, Option}
+use Rattle.std.specs.Prelude.{Ok, Err, Some, None, Option, is_some}
 use mathlib.Core.Bool.{Bool, true, false, not, ◌&&◌}
 use mathlib.Core.List.{List, [], ◌∷◌}
 use mathlib.Core.Logic.{◌⊎◌, inl, inr}
@@ -14,7 +14,6 @@ use Rattle.answer.specs.Checks.{Outcome, pick, ◌⇒◌, checked, and_then}
 use Rattle.answer.specs.Faults.{Placed, fault_nowhere}
 use Rattle.answer.specs.declared.Refusal.{Refusal}
 use Rattle.beacon.specs.Beacons.{Told}
-use Rattle.beacon.specs.Notices.{has_switch}
 use Rattle.capture_record.specs.declared.entry.Settings.{Settings}
 use Rattle.frame.specs.Announcements.{announcement_in}
 use Rattle.frame.specs.Allowed.{KindAllowed}
@@ -205,12 +204,12 @@ module _ (s : Settings) where
     module _ (x : SentInIbss) (e : read_as s f ≡ Ok x) where
       -- the owner by which the announcement is judged, and whether it is foreign
       named_as : named_by m.owner x.dfs ≡ owner_told s.interval (clock_after h) (naming_at (clock_after h) x.dfs w)
-      named_as = ap (λ (o : Owner). named_by o x.dfs) t.owner ∙ sym (naming_told s.interval (clock_after h) w x.dfs)
+      named_as = ap (λ (o : Option Owner). named_by o x.dfs) t.owner ∙ sym (naming_told s.interval (clock_after h) w x.dfs)
 
       same_test : foreign_announcement (named_by m.owner x.dfs) x ≡ foreign_to (clock_after h) w x
       same_test =
-          ap (λ (o : Owner). foreign_announcement o x) named_as
-          ∙ ap (λ (b : Bool). has_switch (announcement_in x.sent.kind) && not b) (sym (owns_told s.interval (clock_after h) (naming_at (clock_after h) x.dfs w) x.sender))
+          ap (λ (o : Option Owner). foreign_announcement o x) named_as
+          ∙ ap (λ (b : Bool). is_some (announcement_in x.sent.kind) && not b) (sym (owns_told s.interval (clock_after h) (naming_at (clock_after h) x.dfs w) x.sender))
 
       heard_as : (foreign : Bool) → foreign_to (clock_after h) w x ≡ foreign → member_after s (frame f ∷ h) ≡ hearing m x foreign
       heard_as foreign y = taken_as_lem (Ok x) e ∙ leaves_read m x ∙ ap (hearing m x) (same_test ∙ y)
@@ -232,7 +231,7 @@ module _ (s : Settings) where
         kind_owner : (k : Kind) → x.sent.kind ≡ k
             → heard_by (named_by m.owner x.dfs) x.sender k ≡ owner_told s.interval (clock_after h) (after_kind (clock_after h) x k w)
         kind_owner (beacon told) y =
-            ap (λ (o : Owner). heard_from o x.sender) named_as
+            ap (λ (o : Option Owner). heard_from o x.sender) named_as
             ∙ sym (heard_told s.interval (clock_after h) (naming_at (clock_after h) x.dfs w) x.sender)
         kind_owner (probe_response told) y =
             ap (named_by m.owner) (beacons_only (probe_response told) y (λ u z. let q : ◌≡◌ {A = ℕ} 0 1 = cc in omega arith)) ∙ t.owner

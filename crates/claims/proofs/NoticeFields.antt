@@ -1,5 +1,5 @@
 -- What a beacon or a probe response says, field by field. Assumes nothing.
-use Rattle.std.specs.Prelude.{Some, None, Option}
+use Rattle.std.specs.Prelude.{Some, None, Option, is_some}
 use mathlib.Core.List.{List}
 use mathlib.Core.Path.{◌≡◌, refl, ap}
 use Prim.Native.Nat.{ℕ}
@@ -7,7 +7,6 @@ use native.Mathlib.Omega.{arith}
 use lib.ListN.{length}
 use Rattle.answer.specs.Checks.{pick}
 use Rattle.beacon.specs.Beacons.{Told, tells}
-use Rattle.beacon.specs.Notices.{has_power, has_report, has_switch}
 use Rattle.element.specs.declared.quiet.Quiet.{Quiet}
 use Rattle.claims.specs.FilteredFrames.{any_power, any_report, any_switch}
 use Rattle.element.specs.declared.power_constraint.PowerConstraint.{PowerConstraint}
@@ -15,15 +14,15 @@ use Rattle.element.specs.declared.tpc_report.TpcReport.{TpcReport}
 use Rattle.element.specs.declared.channel_switch.ChannelSwitch.{ChannelSwitch}
 
 -- what there may be one of is a list of none or one, by whether it is there
-pub one_power : (m : Option PowerConstraint) → length (any_power m) ≡ pick (has_power m) 1 0
+pub one_power : (m : Option PowerConstraint) → length (any_power m) ≡ pick (is_some m) 1 0
 one_power None = refl
 one_power (Some p) = refl
 
-pub one_report : (m : Option TpcReport) → length (any_report m) ≡ pick (has_report m) 1 0
+pub one_report : (m : Option TpcReport) → length (any_report m) ≡ pick (is_some m) 1 0
 one_report None = refl
 one_report (Some t) = refl
 
-pub one_switch : (m : Option ChannelSwitch) → length (any_switch m) ≡ pick (has_switch m) 1 0
+pub one_switch : (m : Option ChannelSwitch) → length (any_switch m) ≡ pick (is_some m) 1 0
 one_switch None = refl
 one_switch (Some s) = refl
 

@@ -1,6 +1,6 @@
 -- Where all frames come from one address and each announcement stands in a beacon that names it as the owner, a station of an IBSS answers as document 01's station does,
 -- given the same bodies (02, Five). Assumes nothing.
-use Rattle.std.specs.Prelude.{Ok, Err, Some, Option}
+use Rattle.std.specs.Prelude.{Ok, Err, Some, Option, is_some}
 use mathlib.Core.Bool.{Bool, true, false, not, ◌&&◌}
 use mathlib.Core.List.{List, [], ◌∷◌}
 use mathlib.Core.Path.{◌≡◌, refl, sym, ap, ap₂, ◌∙◌, subst}
@@ -10,7 +10,6 @@ use Rattle.answer.proofs.Judged.{never}
 use Rattle.answer.specs.Checks.{Outcome, pick, and_then, Answer}
 use Rattle.answer.specs.Faults.{Placed, fault_nowhere, Verdict}
 use Rattle.answer.specs.declared.Refusal.{Refusal}
-use Rattle.beacon.specs.Notices.{has_switch}
 use Rattle.capture_record.specs.declared.entry.Settings.{Settings}
 use Rattle.element.specs.IbssDfs.{Dfs}
 use Rattle.frame.proofs.FromAp.{sound_from_ap}
@@ -99,9 +98,9 @@ module _ (s : Settings) where
 
       -- it is never foreign
       ours : (t : ℕ) (w : Reigning) (x : Sent) → by_ap f ≡ Ok x → foreign_to t w (sent_by x) ≡ false
-      ours t w x e = by (has_switch (announcement_in x.kind)) refl
+      ours t w x e = by (is_some (announcement_in x.kind)) refl
         where
-          by : (b : Bool) → has_switch (announcement_in x.kind) ≡ b → (b && not (owns (naming_at t one.dfs w) (sa f))) ≡ false
+          by : (b : Bool) → is_some (announcement_in x.kind) ≡ b → (b && not (owns (naming_at t one.dfs w) (sa f))) ≡ false
           by false g = refl
           by true g =
               let n = one.names_itself x e g in

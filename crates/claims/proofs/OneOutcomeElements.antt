@@ -1,7 +1,4 @@
 -- Each promise of the elements' readers and writers leaves one outcome. Assumes nothing.
-use Rattle.std.specs.Prelude.{Ok, Err}
-use mathlib.Core.Path.{◌≡◌, refl}
-use Rattle.answer.specs.Checks.{Outcome}
 use Rattle.element.proofs.channel_switch.read as SwitchRead
 use Rattle.element.proofs.channel_switch.write as SwitchWrite
 use Rattle.element.proofs.ibss_dfs.pair_at as DfsPairAt
@@ -19,19 +16,6 @@ use Rattle.element.proofs.tpc_report.read as TpcReportRead
 use Rattle.element.proofs.tpc_report.write as TpcReportWrite
 use Rattle.element.proofs.tpc_request.read as TpcRequestRead
 use Rattle.element.proofs.tpc_request.write as TpcRequestWrite
-use Rattle.element.specs.declared.channel_switch.ChannelSwitch.{ChannelSwitch}
-use Rattle.element.specs.declared.channel_switch.Reading as SwitchReading
-use Rattle.element.specs.declared.ibss_dfs.ChannelMap.{ChannelMap}
-use Rattle.element.specs.declared.ibss_dfs.Pair as DfsPair
-use Rattle.measurement_element.specs.declared.measurement_request.Reading as RequestReading
-use Rattle.measurement_element.specs.declared.measurement_request.Request.{Request}
-use Rattle.element.specs.declared.power_constraint.PowerConstraint.{PowerConstraint}
-use Rattle.element.specs.declared.power_constraint.Reading as PowerReading
-use Rattle.element.specs.declared.quiet.Quiet.{Quiet}
-use Rattle.element.specs.declared.quiet.Reading as QuietReading
-use Rattle.element.specs.declared.tpc_report.Reading as TpcReportReading
-use Rattle.element.specs.declared.tpc_report.TpcReport.{TpcReport}
-use Rattle.element.specs.declared.tpc_request.Reading as TpcRequestReading
 use Rattle.element.proofs.channel_switch.may_write as SwitchMayWrite
 use Rattle.measurement_element.proofs.measurement_request.is_clear as RequestIsClear
 use Rattle.measurement_element.proofs.measurement_request.is_interpreted as RequestIsInterpreted
@@ -45,66 +29,29 @@ use Rattle.measurement_element.proofs.measurement_report.octet_count as ReportOc
 use Rattle.measurement_element.proofs.measurement_report.to_octets as ReportToOctets
 use Rattle.measurement_element.proofs.span.Span.none as SpanNone
 use Rattle.measurement_element.proofs.span.Span.to_octets as SpanToOctets
-use Rattle.measurement_element.proofs.measurement_report.refused as ReportRefused
 use Rattle.answer.specs.Outcomes.{OneResult, OneOutcome}
-use Rattle.claims.proofs.Same.{once, told_once, written_once}
-
-power_of : Outcome PowerConstraint → PowerReading.Reading
-power_of (Err r) = PowerReading.Reading.Refused r
-power_of (Ok p) = PowerReading.Reading.Is p
-
-power_told_lem : (x : PowerReading.Reading) → power_of (x) ≡ x
-unfolding power_of
-power_told_lem (PowerReading.Reading.Refused r) = refl
-power_told_lem (PowerReading.Reading.Is p) = refl
+use Rattle.claims.proofs.Same.{once, written_once}
 
 pub power_read : OneResult 1 PowerRead.Kinds.ps PowerRead.Kinds.r PowerRead.Reads.Post
-power_read κs a e f x y p q = told_once power_of power_told_lem p q
+power_read κs a e f x y p q = once p q
 
 pub power_write : OneOutcome 1 PowerWrite.Kinds.ps PowerWrite.Kinds.r PowerWrite.Reads.Post (λ κs e. e.1.0.now)
 power_write κs a e f x y p q = written_once p q
 
-tpc_request_of : Outcome (Unit {0}) → TpcRequestReading.Reading
-tpc_request_of (Err r) = TpcRequestReading.Reading.Refused r
-tpc_request_of (Ok u) = TpcRequestReading.Reading.Is
-
-tpc_request_told_lem : (x : TpcRequestReading.Reading) → tpc_request_of (x) ≡ x
-unfolding tpc_request_of
-tpc_request_told_lem (TpcRequestReading.Reading.Refused r) = refl
-tpc_request_told_lem TpcRequestReading.Reading.Is = refl
-
 pub tpc_request_read : OneResult 1 TpcRequestRead.Kinds.ps TpcRequestRead.Kinds.r TpcRequestRead.Reads.Post
-tpc_request_read κs a e f x y p q = told_once tpc_request_of tpc_request_told_lem p q
+tpc_request_read κs a e f x y p q = once p q
 
 pub tpc_request_write : OneOutcome 1 TpcRequestWrite.Kinds.ps TpcRequestWrite.Kinds.r TpcRequestWrite.Reads.Post (λ κs e. e.0.now)
 tpc_request_write κs a e f x y p q = written_once p q
 
-tpc_report_of : Outcome TpcReport → TpcReportReading.Reading
-tpc_report_of (Err r) = TpcReportReading.Reading.Refused r
-tpc_report_of (Ok t) = TpcReportReading.Reading.Is t
-
-tpc_report_told_lem : (x : TpcReportReading.Reading) → tpc_report_of (x) ≡ x
-unfolding tpc_report_of
-tpc_report_told_lem (TpcReportReading.Reading.Refused r) = refl
-tpc_report_told_lem (TpcReportReading.Reading.Is t) = refl
-
 pub tpc_report_read : OneResult 1 TpcReportRead.Kinds.ps TpcReportRead.Kinds.r TpcReportRead.Reads.Post
-tpc_report_read κs a e f x y p q = told_once tpc_report_of tpc_report_told_lem p q
+tpc_report_read κs a e f x y p q = once p q
 
 pub tpc_report_write : OneOutcome 1 TpcReportWrite.Kinds.ps TpcReportWrite.Kinds.r TpcReportWrite.Reads.Post (λ κs e. e.1.0.now)
 tpc_report_write κs a e f x y p q = written_once p q
 
-switch_of_lem : Outcome ChannelSwitch → SwitchReading.Reading
-switch_of_lem (Err r) = SwitchReading.Reading.Refused r
-switch_of_lem (Ok s) = SwitchReading.Reading.Is s
-
-switch_told_lem : (x : SwitchReading.Reading) → switch_of_lem (x) ≡ x
-unfolding switch_of_lem
-switch_told_lem (SwitchReading.Reading.Refused r) = refl
-switch_told_lem (SwitchReading.Reading.Is s) = refl
-
 pub switch_read : OneResult 1 SwitchRead.Kinds.ps SwitchRead.Kinds.r SwitchRead.Reads.Post
-switch_read κs a e f x y p q = told_once switch_of_lem switch_told_lem p q
+switch_read κs a e f x y p q = once p q
 
 pub switch_write : OneOutcome 1 SwitchWrite.Kinds.ps SwitchWrite.Kinds.r SwitchWrite.Reads.Post (λ κs e. e.1.0.now)
 switch_write κs a e f x y p q = written_once p q
@@ -112,47 +59,20 @@ switch_write κs a e f x y p q = written_once p q
 pub dfs_read : OneResult 1 DfsRead.Kinds.ps DfsRead.Kinds.r DfsRead.Reads.Post
 dfs_read κs a e f x y p q = once p q
 
-pub pair_of : Outcome ChannelMap → DfsPair.Pair
-pair_of (Err r) = DfsPair.Pair.Refused r
-pair_of (Ok m) = DfsPair.Pair.Is m
-
-pub pair_told_lem : (x : DfsPair.Pair) → pair_of (x) ≡ x
-unfolding pair_of
-pair_told_lem (DfsPair.Pair.Refused r) = refl
-pair_told_lem (DfsPair.Pair.Is m) = refl
-
 pub dfs_pair_at : OneResult 1 DfsPairAt.Kinds.ps DfsPairAt.Kinds.r DfsPairAt.Reads.Post
-dfs_pair_at κs a e f x y p q = told_once pair_of pair_told_lem p q
+dfs_pair_at κs a e f x y p q = once p q
 
 pub dfs_write : OneOutcome 2 DfsWrite.Kinds.ps DfsWrite.Kinds.r DfsWrite.Reads.Post (λ κs e. e.1.1.1.0.now)
 dfs_write κs a e f x y p q = written_once p q
 
-quiet_of_lem : Outcome Quiet → QuietReading.Reading
-quiet_of_lem (Err r) = QuietReading.Reading.Refused r
-quiet_of_lem (Ok q) = QuietReading.Reading.Is q
-
-quiet_told_lem : (x : QuietReading.Reading) → quiet_of_lem (x) ≡ x
-unfolding quiet_of_lem
-quiet_told_lem (QuietReading.Reading.Refused r) = refl
-quiet_told_lem (QuietReading.Reading.Is q) = refl
-
 pub quiet_read : OneResult 1 QuietRead.Kinds.ps QuietRead.Kinds.r QuietRead.Reads.Post
-quiet_read κs a e f x y p q = told_once quiet_of_lem quiet_told_lem p q
+quiet_read κs a e f x y p q = once p q
 
 pub quiet_write : OneOutcome 1 QuietWrite.Kinds.ps QuietWrite.Kinds.r QuietWrite.Reads.Post (λ κs e. e.1.1.0.now)
 quiet_write κs a e f x y p q = written_once p q
 
-pub request_of : Outcome Request → RequestReading.Reading
-request_of (Err r) = RequestReading.Reading.Refused r
-request_of (Ok r) = RequestReading.Reading.Is r
-
-pub request_told_lem : (x : RequestReading.Reading) → request_of (x) ≡ x
-unfolding request_of
-request_told_lem (RequestReading.Reading.Refused r) = refl
-request_told_lem (RequestReading.Reading.Is r) = refl
-
 pub request_read : OneResult 1 RequestRead.Kinds.ps RequestRead.Kinds.r RequestRead.Reads.Post
-request_read κs a e f x y p q = told_once request_of request_told_lem p q
+request_read κs a e f x y p q = once p q
 
 pub request_write : OneOutcome 1 RequestWrite.Kinds.ps RequestWrite.Kinds.r RequestWrite.Reads.Post (λ κs e. e.1.0.now)
 request_write κs a e f x y p q = written_once p q
@@ -197,9 +117,6 @@ report_octet_count κs a e f x y p q = once p.0 q.0
 
 pub report_to_octets : OneResult 0 ReportToOctets.Kinds.ps ReportToOctets.Kinds.r ReportToOctets.Reads.Post
 report_to_octets κs a e f x y p q = once p.2 q.2
-
-pub report_refused : OneResult 0 ReportRefused.Kinds.ps ReportRefused.Kinds.r ReportRefused.Reads.Post
-report_refused κs a e f x y p q = once p q
 
 -- ---- where and when something is measured
 

@@ -1,19 +1,13 @@
 -- Each promise of the leaves, `answer`, `octets`, `channel` and `fraction`, leaves one outcome. Assumes nothing.
-use Rattle.std.specs.Prelude.{Ok, Err}
-use mathlib.Core.Path.{◌≡◌, refl}
-use Prim.Native.Nat.{ℕ}
-use Rattle.answer.proofs.Answer.number as AnswerNumber
+use Rattle.answer.proofs.number as AnswerNumber
 use Rattle.answer.proofs.Fault.at as FaultAt
 use Rattle.answer.proofs.Fault.nowhere as FaultNowhere
 use Rattle.answer.proofs.Refusal.number as RefusalNumber
-use Rattle.answer.proofs.Verdict.number as VerdictNumber
-use Rattle.answer.proofs.Verdict.offset as VerdictOffset
-use Rattle.answer.specs.Checks.{Outcome}
+use Rattle.answer.proofs.verdict_number as VerdictNumber
+use Rattle.answer.proofs.verdict_offset as VerdictOffset
 use Rattle.channel.proofs.centre as Centre
-use Rattle.channel.specs.Centres as Centres
 use Rattle.fraction.proofs.busy_fraction as BusyFraction
 use Rattle.fraction.proofs.rpi_densities as RpiDensities
-use Rattle.fraction.specs.Fractions as Fractions
 use Rattle.octets.proofs.address_at as AddressAt
 use Rattle.octets.proofs.number16 as Number16
 use Rattle.octets.proofs.number32 as Number32
@@ -26,7 +20,7 @@ use Rattle.octets.proofs.from_signed as FromSigned
 use Rattle.octets.proofs.to_signed as ToSigned
 use Rattle.octets.proofs.put as Put
 use Rattle.answer.specs.Outcomes.{OneResult, OneOutcome}
-use Rattle.claims.proofs.Same.{once, told_once, written_once}
+use Rattle.claims.proofs.Same.{once, written_once}
 
 pub refusal_number : OneResult 0 RefusalNumber.Kinds.ps RefusalNumber.Kinds.r RefusalNumber.Reads.Post
 refusal_number κs a e f x y p q = once p q
@@ -76,30 +70,11 @@ to_signed κs a e f x y p q = once p q
 pub from_signed : OneResult 0 FromSigned.Kinds.ps FromSigned.Kinds.r FromSigned.Reads.Post
 from_signed κs a e f x y p q = once p q
 
--- the answer that an outcome stands for
-frequency : Outcome ℕ → Outcome ℕ
-frequency (Err r) = Err r
-frequency (Ok n) = Ok n
-
-frequency_told : (x : Outcome ℕ) → frequency (Centres.centre_told x) ≡ x
-unfolding frequency
-frequency_told (Err r) = refl
-frequency_told (Ok n) = refl
-
 pub centre : OneResult 0 Centre.Kinds.ps Centre.Kinds.r Centre.Reads.Post
-centre κs a e f x y p q = told_once Centres.centre_told frequency frequency_told p q
-
-share : Outcome ℕ → Outcome ℕ
-share (Err r) = Err r
-share (Ok n) = Ok n
-
-share_told : (x : Outcome ℕ) → share (Fractions.fraction_told x) ≡ x
-unfolding share
-share_told (Err r) = refl
-share_told (Ok n) = refl
+centre κs a e f x y p q = once p q
 
 pub busy_fraction : OneResult 0 BusyFraction.Kinds.ps BusyFraction.Kinds.r BusyFraction.Reads.Post
-busy_fraction κs a e f x y p q = told_once Fractions.fraction_told share share_told p q
+busy_fraction κs a e f x y p q = once p q
 
 pub rpi_densities : OneResult 0 RpiDensities.Kinds.ps RpiDensities.Kinds.r RpiDensities.Reads.Post
 rpi_densities κs a e f x y p q = once p.0 q.0

@@ -1,4 +1,5 @@
 -- Each promise of the element walk leaves one outcome: what follows a place says what stands there, and where. Assumes nothing.
+use Rattle.std.specs.Prelude.{Ok, Err}
 use mathlib.Core.Path.{◌≡◌, refl, sym, ap, ap₂, ◌∙◌}
 use mathlib.Core.List.{List}
 use Prim.Native.Nat.{ℕ, ◌-◌, ◌≤◌}
@@ -6,7 +7,7 @@ use native.Mathlib.Omega.{arith}
 use lib.ListN.{length, take, drop, length-drop}
 use lib.Seq.{length-take-le}
 use Rattle.answer.proofs.Judged.{never}
-use Rattle.answer.specs.declared.Refusal.{Refusal}
+use Rattle.answer.specs.Checks.{Outcome}
 use Rattle.walk.proofs.element_at as ElementAt
 use Rattle.walk.proofs.has_left_over as HasLeftOver
 use Rattle.walk.proofs.pass_over as PassOver
@@ -14,8 +15,8 @@ use Rattle.walk.proofs.required_at as RequiredAt
 use Rattle.walk.specs.CodeTerms.Found.{follow, Within}
 use Rattle.walk.specs.CodeTerms.Required.{between, required_told, RequiredWithin}
 use Rattle.walk.specs.Required.{Standing}
+use Rattle.walk.specs.declared.Contents.{Contents}
 use Rattle.walk.specs.declared.Found.{Found}
-use Rattle.walk.specs.declared.Required.{Required}
 use Rattle.answer.specs.Outcomes.{OneResult}
 use Rattle.claims.proofs.Same.{once}
 
@@ -51,20 +52,21 @@ same_place run at (Found.Whole j a b) (Found.Whole i s t) w v e =
 
 -- the element that has to be there
 
-refusals : (r r' : Refusal) → r ≡ r' → Required.Refused r ≡ Required.Refused r'
-refusals r r' e = ap Required.Refused e
+-- contents are told by where they begin and end
+same_contents : (c d : Contents) → c.start ≡ d.start → c.end ≡ d.end → c ≡ d
+same_contents c d p q = ap₂ (λ (s t : ℕ). record { start = s; end = t }) p q
 
-same_required : (run : List ℕ) (at : ℕ) (x y : Required) → RequiredWithin at (length run) x → RequiredWithin at (length run) y → required_told run x ≡ required_told run y → x ≡ y
-same_required run at (Required.Refused r) (Required.Refused q) w v e = refusals r q cc
-same_required run at (Required.Refused r) (Required.Contents s t) w v e = absurd (never e)
-same_required run at (Required.Contents a b) (Required.Refused q) w v e = absurd (never (sym e))
-same_required run at (Required.Contents a b) (Required.Contents s t) w v e =
-    let same : between run a b ≡ between run s t = cc in
-    let c = ap (λ (x : Standing). length x.contents) same in
-    let n : b - a ≡ t - s = sym (long run a b w.1 w.2) ∙ c ∙ long run s t v.1 v.2 in
-    let p : a ≡ s = w.0 ∙ sym v.0 in
-    let q : b ≡ t = omega (arith, w.1, v.1) in
-    ap₂ Required.Contents p q
+same_required : (run : List ℕ) (at : ℕ) (x y : Outcome Contents) → RequiredWithin at (length run) x → RequiredWithin at (length run) y → required_told run x ≡ required_told run y → x ≡ y
+same_required run at (Err r) (Err q) w v e = ap Err (let same : r ≡ q = cc in same)
+same_required run at (Err r) (Ok d) w v e = absurd (never e)
+same_required run at (Ok c) (Err q) w v e = absurd (never (sym e))
+same_required run at (Ok c) (Ok d) w v e =
+    let same : between run c ≡ between run d = cc in
+    let m = ap (λ (x : Standing). length x.contents) same in
+    let n : c.end - c.start ≡ d.end - d.start = sym (long run c.start c.end w.1 w.2) ∙ m ∙ long run d.start d.end v.1 v.2 in
+    let p : c.start ≡ d.start = w.0 ∙ sym v.0 in
+    let q : c.end ≡ d.end = omega (arith, w.1, v.1) in
+    ap Ok (same_contents c d p q)
 
 pub required_at : OneResult 1 RequiredAt.Kinds.ps RequiredAt.Kinds.r RequiredAt.Reads.Post
 required_at κs a e f x y p q = same_required a.0.now a.1.0 x y p.1 q.1 (p.0 ∙ sym q.0)

@@ -1,6 +1,6 @@
 -- Who reigns was named by the latest accepted beacon with element 41, and where none is ever heard nobody does, so that no announcement is obeyed (02, Five). Assumes
 -- nothing.
-use Rattle.std.specs.Prelude.{Ok, Err, Some, None, Option}
+use Rattle.std.specs.Prelude.{Ok, Err, Some, None, Option, is_some}
 use mathlib.Core.Bool.{Bool, true, false, not, ◌&&◌}
 use mathlib.Core.List.{List, [], ◌∷◌}
 use mathlib.Core.Logic.{◌⊎◌, inl, inr}
@@ -14,7 +14,6 @@ use Rattle.answer.specs.Checks.{pick}
 use Rattle.answer.specs.Faults.{Placed}
 use Rattle.answer.specs.declared.Fault.{Fault}
 use Rattle.beacon.specs.Beacons.{Told}
-use Rattle.beacon.specs.Notices.{has_switch}
 use Rattle.capture_record.specs.declared.entry.Settings.{Settings}
 use Rattle.element.specs.IbssDfs.{Dfs}
 use Rattle.element.specs.declared.channel_switch.ChannelSwitch.{ChannelSwitch}
@@ -161,8 +160,8 @@ module _ (s : Settings) where
   none_obeyed (ask n) h w none (k, (x, a, e), y) = a
   none_obeyed (frame f) h w none (k, (x, (read, ours), e), y) = by (sent_names s.own s.ap s.interval f x read)
     where
-      announces : has_switch (announcement_in x.sent.kind) ≡ true
-      announces = ap has_switch (ap announcement_in e ∙ y)
+      announces : is_some (announcement_in x.sent.kind) ≡ true
+      announces = ap is_some (ap announcement_in e ∙ y)
 
       by : (x.dfs ≡ None) ⊎ ((told : Told) × (d : Dfs) × (x.sent.kind ≡ beacon told) × (x.dfs ≡ Some d) × (1 ≤ d.recovery)) → ⊥
       by (inl z) =

@@ -1,4 +1,5 @@
 -- What the walk of an action body hands out together with what it passes over is the whole run, octet for octet, whatever the run (02, Four). Assumes nothing.
+use Rattle.std.specs.Prelude.{Some}
 use mathlib.Core.Bool.{Bool, true, false}
 use mathlib.Core.List.{List, [], ◌∷◌, ◌++◌, append_assoc}
 use mathlib.Core.Logic.{inl, inr}
@@ -13,6 +14,7 @@ use lib.Dec.{eqb}
 use lib.ListN.{length, take, drop, length-append}
 use lib.Seq.{take-append_seam}
 use Rattle.answer.specs.Checks.{pick}
+use Rattle.answer.specs.Faults.{Placed}
 use Rattle.octets.specs.Elements.{element}
 use Rattle.walk.proofs.RunLaws.{split, empty}
 use Rattle.walk.proofs.pass_over as PassOver
@@ -20,8 +22,7 @@ use Rattle.walk.specs.CodeTerms.Next.{next_after}
 use Rattle.walk.specs.Elements.{Elements, elements_in, past_element}
 use Rattle.walk.specs.Elements as Raw
 use Rattle.walk.specs.Handed.{Handed, end, cut_header, cut_contents, more, passed, cut_passed, vendor_id, passing, handing, passing_in, handed_in, octets_of, skipped_before}
-use Rattle.walk.specs.declared.Next.{Next}
-use Rattle.claims.specs.PassedOver.{CutElement, LeftBy, WholeRun}
+use Rattle.claims.specs.PassedOver.{CutElement, LeftBy, WholeRun, standing_at, SkipsFrom}
 use Rattle.claims.proofs.RunItems.{is_half, is_cut}
 
 -- an element in front of a whole run
@@ -100,20 +101,33 @@ skipped_front (Raw.more id c es) run e = let y = split run id c es e in by (eqb 
         )
     by false v r = (run, refl)
 
-next_place : (hs : Handed) (n : ℕ) → (next_after n hs).at ≡ n + length (skipped_before hs)
-unfolding next_after skipped_before
-next_place end n = omega arith
-next_place cut_header n = omega arith
-next_place (cut_contents id) n = omega arith
-next_place (more id c hs) n = omega arith
-next_place (passed c hs) n = omega (arith, next_place hs (past_element n c), length-append (element vendor_id c) (skipped_before hs))
-next_place cut_passed n = omega arith
+-- where the walk stands: so many octets past where it went on
+record StandsPast (n k : ℕ) (x : Placed ℕ) : Type 0 where
+  at : ℕ
+  stands : standing_at x ≡ Some at
+  many : at ≡ n + k
 
-pub skipped_octets_lem : (κs : Lfts 1) (a : Dens κs PassOver.Kinds.ps) (e : AtExit (ended_of 1 PassOver.Kinds.ps PassOver.Kinds.r) κs) (x : Next)
-    → PassOver.Reads.Post κs a x e
-    → let run = drop a.1.0 a.0.now in take (x.at - a.1.0) run ≡ skipped_before (passing_in run)
+next_place : (hs : Handed) (n : ℕ) → StandsPast n (length (skipped_before hs)) (next_after n hs)
+unfolding next_after skipped_before
+next_place end n = record { at = n; stands = refl; many = omega arith }
+next_place cut_header n = record { at = n; stands = refl; many = omega arith }
+next_place (cut_contents id) n = record { at = n; stands = refl; many = omega arith }
+next_place (more id c hs) n = record { at = n; stands = refl; many = omega arith }
+next_place (passed c hs) n =
+    let s = next_place hs (past_element n c) in
+    record { at = s.at; stands = s.stands; many = omega (arith, s.many, length-append (element vendor_id c) (skipped_before hs)) }
+next_place cut_passed n = record { at = n; stands = refl; many = omega arith }
+
+pub skipped_octets_lem : (κs : Lfts 1) (a : Dens κs PassOver.Kinds.ps) (e : AtExit (ended_of 1 PassOver.Kinds.ps PassOver.Kinds.r) κs) (x : Placed ℕ)
+    → PassOver.Reads.Post κs a x e → SkipsFrom a.1.0 (drop a.1.0 a.0.now) x
 skipped_octets_lem κs a e x p =
     let run = drop a.1.0 a.0.now in
     let r = skipped_front (elements_in run) run refl in
-    let many : x.at - a.1.0 ≡ length (skipped_before (passing_in run)) = omega (arith, ap (λ (y : Next). y.at) p, next_place (passing_in run) a.1.0) in
-    ap (λ (n : ℕ). take n run) many ∙ ap (take (length (skipped_before (passing_in run)))) r.1 ∙ take-append_seam (skipped_before (passing_in run)) r.0
+    let s = next_place (passing_in run) a.1.0 in
+    let many : s.at - a.1.0 ≡ length (skipped_before (passing_in run)) = omega (arith, s.many) in
+    record {
+      at = s.at;
+      stands = ap standing_at p ∙ s.stands;
+      skipped =
+          ap (λ (n : ℕ). take n run) many ∙ ap (take (length (skipped_before (passing_in run)))) r.1 ∙ take-append_seam (skipped_before (passing_in run)) r.0;
+    }

@@ -14,10 +14,10 @@ use Rattle.reply.proofs.to_tpc_request as ToTpcRequest
 use Rattle.reply.proofs.to_tpc_request_in_ibss as ToTpcRequestInIbss
 use Rattle.reply.specs.Replies.{left_by, Replied}
 use Rattle.answer.specs.Outcomes.{OneOutcome, OneResult}
-use Rattle.claims.proofs.Same.{once, told_once, answer, answer_told_lem}
+use Rattle.claims.proofs.Same.{once}
 
 pub replied_once : {o : Outcome (List ℕ)} {buffer : List ℕ} {x y : Outcome ℕ} {e f : List ℕ} → Replied o buffer x e → Replied o buffer y f → (x ≡ y) × (e ≡ f)
-replied_once p q = (told_once answer answer_told_lem p.answers q.answers, once p.leaves q.leaves)
+replied_once p q = (once p.answers q.answers, once p.leaves q.leaves)
 
 pub report_for_lem : OneResult 0 ReportFor.Kinds.ps ReportFor.Kinds.r ReportFor.Reads.Post
 report_for_lem κs a e f x y p q = once p q

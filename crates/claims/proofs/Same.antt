@@ -1,5 +1,5 @@
 -- When two values that meet one promise are the same. Assumes nothing.
-use Rattle.std.specs.Prelude.{Ok, Err, Result}
+use Rattle.std.specs.Prelude.{Ok, Result}
 use mathlib.Core.Path.{◌≡◌, refl, sym, ap, ◌∙◌}
 use mathlib.Core.Bool.{Bool}
 use mathlib.Core.List.{List}
@@ -19,16 +19,7 @@ accepted_once e = cc
 pub told_once : {X A : Type 0} (tells : X → A) (back : A → X) → ((x : X) → back (tells x) ≡ x) → {x y : X} {o : A} → tells x ≡ o → tells y ≡ o → x ≡ y
 told_once tells back undone {x} {y} p q = sym (undone x) ∙ ap back (p ∙ sym q) ∙ undone y
 
-unfoldable pub answer : Outcome ℕ → Outcome ℕ
-answer (Err r) = Err r
-answer (Ok n) = Ok n
-
-pub answer_told_lem : (w : Outcome ℕ) → answer (w) ≡ w
-unfolding answer
-answer_told_lem (Err r) = refl
-answer_told_lem (Ok n) = refl
-
 -- a writer's promise
 pub written_once : {may : Bool} {os : List ℕ} {at : ℕ} {buffer : List ℕ} {x y : Outcome ℕ} {e f : List ℕ}
     → Written may os at buffer x e → Written may os at buffer y f → (x ≡ y) × (e ≡ f)
-written_once p q = (told_once answer answer_told_lem p.answers q.answers, once p.leaves q.leaves)
+written_once p q = (once p.answers q.answers, once p.leaves q.leaves)

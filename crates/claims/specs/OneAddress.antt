@@ -1,7 +1,6 @@
 -- All frames from one address, and each announcement in a beacon that names it as the owner (02, Five): what document 01's station is to be told beside it, which is the same
 -- bodies from its AP.
-use Rattle.std.specs.Prelude.{true, false, List, map, ◌≡◌, ℕ, length, Ok, Some, Option}
-use Rattle.beacon.specs.Notices.{has_switch}
+use Rattle.std.specs.Prelude.{true, false, List, map, ◌≡◌, ℕ, length, Ok, Some, Option, is_some}
 use Rattle.capture_record.specs.declared.entry.Settings.{Settings}
 use Rattle.element.specs.IbssDfs.{Dfs}
 use Rattle.frame.specs.Announcements.{announcement_in}
@@ -17,7 +16,7 @@ module _ (s : Settings) where
     pub from : sa f ≡ a
     pub dfs : Option Dfs
     pub sound : DfsSoundIn dfs f
-    pub names_itself : (x : Sent) → frame_means s.own s.ap s.interval (from_ap s.ap f) ≡ Ok x → has_switch (announcement_in x.kind) ≡ true
+    pub names_itself : (x : Sent) → frame_means s.own s.ap s.interval (from_ap s.ap f) ≡ Ok x → is_some (announcement_in x.kind) ≡ true
         → (d : Dfs) × (dfs ≡ Some d) × (d.owner ≡ a)
 
   abbrev pub CallFromOne : List ℕ → Call → History → Type 0

@@ -1,9 +1,8 @@
 -- Who the DFS owner of an IBSS is, by the calls, and which frames a station there accepts (02, Five). Nothing here names a station or a step of one. In the settings
 -- of a station of an IBSS `ap` is the BSSID.
-use Rattle.std.specs.Prelude.{Bool, true, false, not, ◌&&◌, List, [], ◌∷◌, ◌≡◌, ℕ, zero, suc, ◌+◌, ◌-◌, ◌<◌, ◌≤◌, leb, Ok, Err, Some, None, Option}
+use Rattle.std.specs.Prelude.{Bool, true, false, not, ◌&&◌, List, [], ◌∷◌, ◌≡◌, ℕ, zero, suc, ◌+◌, ◌-◌, ◌<◌, ◌≤◌, leb, Ok, Err, Some, None, Option, is_some}
 use Rattle.answer.specs.Checks.{pick}
 use Rattle.answer.specs.Faults.{Placed}
-use Rattle.beacon.specs.Notices.{has_switch}
 use Rattle.capture_record.specs.declared.entry.Settings.{Settings}
 use Rattle.element.specs.IbssDfs.{Dfs}
 use Rattle.frame.specs.Announcements.{announcement_in}
@@ -92,7 +91,7 @@ heard_at t a (reigns r) = reigns (pick (same a r.owner) (reign_of r.owner r.reco
 
 -- an announcement whose sender was not the owner at that time; its own element 41 comes first
 abbrev pub foreign_to : ℕ → Reigning → SentInIbss → Bool
-foreign_to t w x = has_switch (announcement_in x.sent.kind) && not (owns (naming_at t x.dfs w) x.sender)
+foreign_to t w x = is_some (announcement_in x.sent.kind) && not (owns (naming_at t x.dfs w) x.sender)
 
 -- only beacons name owners and are heard from them
 abbrev pub after_kind : ℕ → SentInIbss → Kind → Reigning → Reigning

@@ -9,7 +9,6 @@ pub mod MeasurementLists
 pub mod NeverLonger
 pub mod Placing
 pub mod PlacesRead
-pub mod ReadReports
 pub mod ReportTrips
 pub mod RequestTrips
 pub mod Walked

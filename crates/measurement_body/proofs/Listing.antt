@@ -8,12 +8,13 @@ use native.Mathlib.Omega.{arith}
 use borrow.Author.Tests.{eq-eqb, ne_eqb}
 use lib.Dec.{eqb}
 use lib.ListN.{length}
-use Rattle.answer.proofs.Booleans.{clash, and_stop}
-use Rattle.answer.proofs.Judged.{kept, followed}
+use Rattle.answer.proofs.Booleans.{and_stop}
+use Rattle.answer.proofs.Judged.{never, kept, followed}
 use Rattle.answer.proofs.Judged as Judged
 use Rattle.answer.proofs.Placing.{placed_value}
 use Rattle.answer.specs.Checks.{pick, checked, and_then}
 use Rattle.answer.specs.Faults.{fault_at, placed_at}
+use Rattle.answer.specs.declared.Fault.{Fault}
 use Rattle.answer.specs.declared.Refusal.{Refusal}
 use Rattle.walk.proofs.Requiring.{whole, there}
 use Rattle.walk.proofs.Passing.{past_passed, no_further_back}
@@ -57,34 +58,33 @@ module _ {A : Type 0} (s : Sort A) where
   -- ---- past what is passed over
 
   module _ (before : List A) where
-    pub listed_onward : (hs : Handed) (n : ℕ) → (next_after n hs).cut ≡ false → listed s n hs before ≡ listed s (next_after n hs).at (past_passed hs) before
+    pub listed_onward : (hs : Handed) (n : ℕ) {m : ℕ} → next_after n hs ≡ Ok m → listed s n hs before ≡ listed s m (past_passed hs) before
     unfolding listed next_after
-    listed_onward end n h = refl
-    listed_onward cut_header n h = refl
-    listed_onward (cut_contents id) n h = refl
-    listed_onward (more id c hs) n h = refl
-    listed_onward (passed c hs) n h = listed_onward hs (past_element n c) h
-    listed_onward cut_passed n h = clash h
+    listed_onward end n e = cc
+    listed_onward cut_header n e = cc
+    listed_onward (cut_contents id) n e = cc
+    listed_onward (more id c hs) n e = cc
+    listed_onward (passed c hs) n e = listed_onward hs (past_element n c) e
+    listed_onward cut_passed n e = absurd (never e)
 
-    pub listed_cut : (hs : Handed) (n : ℕ) → (next_after n hs).cut ≡ true → listed s n hs before ≡ Err (fault_at (next_after n hs).at Refusal.ElementCut)
+    pub listed_cut : (hs : Handed) (n : ℕ) {x : Fault} → next_after n hs ≡ Err x → listed s n hs before ≡ Err x
     unfolding listed next_in required next_after
-    listed_cut end n h = clash (sym h)
-    listed_cut cut_header n h = clash (sym h)
-    listed_cut (cut_contents id) n h = clash (sym h)
-    listed_cut (more id c hs) n h = clash (sym h)
-    listed_cut (passed c hs) n h = listed_cut hs (past_element n c) h
-    listed_cut cut_passed n h = refl
+    listed_cut end n e = absurd (never (sym e))
+    listed_cut cut_header n e = absurd (never (sym e))
+    listed_cut (cut_contents id) n e = absurd (never (sym e))
+    listed_cut (more id c hs) n e = absurd (never (sym e))
+    listed_cut (passed c hs) n e = listed_cut hs (past_element n c) e
+    listed_cut cut_passed n e = cc
 
   -- a vendor's element is none that a writer writes
-  pub clear_onward : (hs : Handed) (n : ℕ) → all_clear s hs ≡ (eqb (next_after n hs).at n && all_clear s (past_passed hs))
+  pub clear_onward : (hs : Handed) (n : ℕ) {m : ℕ} → next_after n hs ≡ Ok m → all_clear s hs ≡ (eqb m n && all_clear s (past_passed hs))
   unfolding all_clear next_after
-  clear_onward end n = simp (eq-eqb n n refl)
-  clear_onward cut_header n = simp (eq-eqb n n refl)
-  clear_onward (cut_contents id) n = simp (eq-eqb n n refl)
-  clear_onward (more id c hs) n = simp (eq-eqb n n refl)
-  clear_onward (passed c hs) n =
-      sym (and_stop (eqb (next_after (past_element n c) hs).at n) (all_clear s (past_passed hs)) (ne_eqb (next_after (past_element n c) hs).at n (λ e. omega (arith, no_further_back hs (past_element n c)))))
-  clear_onward cut_passed n = simp (eq-eqb n n refl)
+  clear_onward end n {m} e = let here : m ≡ n = cc in simp (eq-eqb m n here)
+  clear_onward cut_header n {m} e = let here : m ≡ n = cc in simp (eq-eqb m n here)
+  clear_onward (cut_contents id) n {m} e = let here : m ≡ n = cc in simp (eq-eqb m n here)
+  clear_onward (more id c hs) n {m} e = let here : m ≡ n = cc in simp (eq-eqb m n here)
+  clear_onward (passed c hs) n {m} e = let on = no_further_back hs (past_element n c) e in sym (and_stop (eqb m n) (all_clear s (past_passed hs)) (ne_eqb m n (λ z. omega arith)))
+  clear_onward cut_passed n e = absurd (never e)
 
   -- ---- and back
 

@@ -1,5 +1,5 @@
 -- The contents at the place of an index mean the record at that index. Assumes nothing.
-use Rattle.std.specs.Prelude.{Ok, Err}
+use Rattle.std.specs.Prelude.{Option, Some, None, Ok, Err}
 use mathlib.Core.Path.{◌≡◌, refl, sym, ap, subst, ◌∙◌}
 use mathlib.Core.List.{List, [], ◌∷◌, ◌++◌, append-nil}
 use mathlib.Core.Logic.{inl, inr}
@@ -14,15 +14,15 @@ use Rattle.walk.proofs.Passing.{Walks, walks_more, walks_passed}
 use Rattle.walk.proofs.RunLaws.{Lying, lying}
 use Rattle.walk.specs.Elements.{past_element}
 use Rattle.walk.specs.Handed.{Handed, end, cut_header, cut_contents, more, passed, cut_passed, vendor_id, passing_in, handed_in}
+use Rattle.walk.specs.declared.Contents.{Contents}
 use Rattle.measurement_body.specs.Lists.{Sort, listed, measurements_in, nth}
 use Rattle.measurement_body.specs.Surveys.{place_after, place_in}
-use Rattle.measurement_body.specs.declared.surveying.Place.{Place}
 use Rattle.measurement_body.proofs.Listing.{Lists, lists, ended, not_cut_header, not_cut_contents, not_cut_passed}
 
 -- what is at a place of a body: no record (16), or what the contents there mean
-abbrev pub Reads : {A : Type 0} → Sort A → List ℕ → Outcome A → Place → Type 0
-Reads s body o Place.Absent = o ≡ Err Refusal.Impossible
-Reads s body o (Place.Contents start stop) = (start ≤ stop) × (stop ≤ length body) × (s.means (take (stop - start) (drop start body)) ≡ o)
+abbrev pub Reads : {A : Type 0} → Sort A → List ℕ → Outcome A → Option Contents → Type 0
+Reads s body o None = o ≡ Err Refusal.Impossible
+Reads s body o (Some c) = (c.start ≤ c.end) × (c.end ≤ length body) × (s.means (take (c.end - c.start) (drop c.start body)) ≡ o)
 
 module _ {A : Type 0} (s : Sort A) (body : List ℕ) where
   -- the records from a place on, after those before, each where its place says

@@ -10,4 +10,4 @@ pub mod requests;
 mod surveying;
 
 pub use kinds::Kind;
-pub use surveying::{Place, Surveyed, survey};
+pub use surveying::{Surveyed, survey};

@@ -1,3 +1,2 @@
-pub mod CodeTerms
 pub mod Owners
 pub mod Tbtts

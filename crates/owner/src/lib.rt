@@ -2,106 +2,76 @@
 #![tactic(auto)]
 
 ghost use Rattle.std.specs.Prelude.{◌≡◌, ◌≤◌};
-ghost use Rattle.owner.specs.CodeTerms.Spared.{spared_by};
-ghost use Rattle.owner.specs.Owners.{unknown, is_owner, named, heard_from, past_tbtts, OwnerFits};
+ghost use Rattle.owner.specs.Owners.{is_owner, named, heard_from, past_tbtts, OwnerFits, KeptFits};
 
-// Whether an owner is known, and then its address, after how many misses it is given up, how many there were, and whether a beacon from it was accepted since
-// the latest TBTT. While none is known the others have one fixed value.
+// What is kept of an owner while one is known: its address, after how many misses it is given up, how many there were, and whether a beacon from it was
+// accepted since the latest TBTT. At start none is known.
 #[derive(Clone, Copy)]
 pub struct Owner {
-    pub known: bool,
     pub address: [u8; 6],
     pub recovery: u8,
     pub misses: u8,
     pub heard: bool,
 }
 
-// How many of the TBTTs to come are no miss: the next one, where a beacon from the owner has been accepted since the latest.
-fn spared(heard: bool) -> u32
-    ensures { result ≡ spared_by heard }
+// Whether an address is the owner's.
+pub fn is_owner(owner: Option<Owner>, address: [u8; 6]) -> bool
+    ensures { result ≡ is_owner owner address }
 {
-    if heard { 1 } else { 0 }
+    owner.is_some_and(|owner| header::are_same(address, owner.address))
 }
 
-impl Owner {
-    // As at start.
-    pub fn unknown() -> Owner
-        ensures value { result ≡ unknown }
-        ensures fits { OwnerFits result }
-    {
-        Owner {
-            known: false,
-            address: [0; 6],
-            recovery: 0,
-            misses: 0,
-            heard: false,
-        }
-    }
-
-    // Whether an address is the owner's.
-    pub fn is(self, address: [u8; 6]) -> bool
-        ensures { result ≡ is_owner self address }
-    {
-        if !self.known {
-            return false;
-        }
-        let owner = self.address;
-        header::are_same(address, owner)
-    }
-
-    // An accepted beacon names an owner and an interval. Another owner than before has missed nothing, and has not been heard.
-    pub fn named(self, address: [u8; 6], recovery: u8) -> Owner
-        ensures value { result ≡ named self address recovery }
-        ensures kept { OwnerFits self → 1 ≤ recovery → OwnerFits result }
-    {
-        if self.is(address) {
-            return Owner { recovery, ..self };
-        }
-        Owner {
-            known: true,
+// An accepted beacon names an owner and an interval. Another owner than before has missed nothing, and has not been heard.
+pub fn named(owner: Option<Owner>, address: [u8; 6], recovery: u8) -> Owner
+    ensures value { result ≡ named owner address recovery }
+    ensures kept { KeptFits owner → 1 ≤ recovery → OwnerFits result }
+{
+    match owner {
+        Some(owner) if header::are_same(address, owner.address) => Owner { recovery, ..owner },
+        _ => Owner {
             address,
             recovery,
             misses: 0,
             heard: false,
-        }
+        },
     }
+}
 
-    // A beacon from an address is accepted.
-    pub fn heard_from(self, address: [u8; 6]) -> Owner
-        ensures value { result ≡ heard_from self address }
-        ensures kept { OwnerFits self → OwnerFits result }
-    {
-        if self.is(address) {
-            return Owner {
-                misses: 0,
-                heard: true,
-                ..self
-            };
-        }
-        self
+// A beacon from an address is accepted.
+pub fn heard_from(owner: Option<Owner>, address: [u8; 6]) -> Option<Owner>
+    ensures value { result ≡ heard_from owner address }
+    ensures kept { KeptFits owner → KeptFits result }
+{
+    let owner = owner?;
+    if header::are_same(address, owner.address) {
+        return Some(Owner {
+            misses: 0,
+            heard: true,
+            ..owner
+        });
     }
+    Some(owner)
+}
 
-    // So many TBTTs pass. They are not gone through one by one: a beacon since the latest one spares the first of them, and each other is a miss.
-    pub fn past(self, tbtts: u32) -> Owner
-        requires { OwnerFits self }
-        ensures value { result ≡ past_tbtts tbtts self }
-        ensures kept { OwnerFits result }
-    {
-        if !self.known {
-            return self;
-        }
-        if tbtts == 0 {
-            return self;
-        }
-        let missed = tbtts - spared(self.heard);
-        let count = (self.misses as u64) + (missed as u64);
-        if (self.recovery as u64) <= count {
-            return Owner::unknown();
-        }
-        Owner {
-            misses: count as u8,
-            heard: false,
-            ..self
-        }
+// So many TBTTs pass. They are not gone through one by one: a beacon since the latest one spares the first of them, and each other is a miss.
+#[tactic(auto, using(crate::proofs::TbttByTbtt::ways))]
+pub fn past(owner: Option<Owner>, tbtts: u32) -> Option<Owner>
+    requires { KeptFits owner }
+    ensures value { result ≡ past_tbtts tbtts owner }
+    ensures kept { KeptFits result }
+{
+    let owner = owner?;
+    if tbtts == 0 {
+        return Some(owner);
     }
+    let missed = tbtts - u32::from(owner.heard);
+    let count = u64::from(owner.misses) + u64::from(missed);
+    if u64::from(owner.recovery) <= count {
+        return None;
+    }
+    Some(Owner {
+        misses: count as u8,
+        heard: false,
+        ..owner
+    })
 }

@@ -11,7 +11,7 @@ use Rattle.answer.proofs.Booleans.{clash, either}
 use Rattle.schedule.specs.declared.Schedule.{Schedule}
 use Rattle.schedule.specs.Schedules.{Covers, covered}
 use Rattle.schedule.specs.Units.{first_unit}
-use Rattle.schedule.proofs.FirstUnit.{none_passes, first_at}
+use Rattle.schedule.proofs.FirstUnit.{no_units, none_passes, first_at}
 
 zero_or_more : (n : ℕ) → (n ≡ 0) ⊎ (0 < n)
 zero_or_more zero = inl refl
@@ -140,3 +140,6 @@ module _ (s : Schedule) (u : ℕ) where
   covers_covered (j, run) =
       from_start s u (omega (arith, run.begun))
       ∙ lt-ltb ((u - s.start) % s.period) s.duration (omega (arith, same_age s u j run.begun, mod-le (u - (s.start + j * s.period)) s.period, run.begun, run.not_over))
+
+-- the ways out of `first_covered`
+pub ruleset ways = (no_units, first_never, first_starts, first_to_come, first_once, first_over, first_running, first_next, first_after)

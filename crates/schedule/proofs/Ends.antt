@@ -8,10 +8,6 @@ use Rattle.schedule.specs.declared.Schedule.{Schedule}
 use Rattle.schedule.specs.Schedules.{EndsAt, end_begun}
 use Rattle.schedule.proofs.Covering.{latest_repeats, same_age}
 
--- what has passed of the latest run is no more than the clock tells
-pub no_older : (t start period : ℕ) → (t - start) % period ≤ t
-no_older t start period = omega (arith, mod-le (t - start) period)
-
 module _ (s : Schedule) (t : ℕ) where
   pub none_begun : t < s.start → end_begun s t ≡ 0
   unfolding end_begun
@@ -45,3 +41,5 @@ module _ (s : Schedule) (t : ℕ) where
         same_age s t j run.begun,
         mod-le (t - (s.start + j * s.period)) s.period,
       )
+
+pub ruleset begun_or_not = (none_begun, some_begun)

@@ -1,7 +1,7 @@
 // A quiet schedule (document 01, "The station"; 802.11h 7.3.2.23 and 11.6.2).
 #![tactic(auto)]
 
-ghost use Rattle.std.specs.Prelude.{◌≡◌, ◌-◌};
+ghost use Rattle.std.specs.Prelude.{◌≡◌, ◌-◌, ◌%◌, ◌≤◌};
 ghost use Rattle.schedule.specs.Schedules.{set_by, covered, end_begun};
 ghost use Rattle.schedule.specs.Units.{first_unit};
 
@@ -21,16 +21,26 @@ impl Schedule {
     pub fn set_by(quiet: Quiet, passed: u32, interval: u16) -> Schedule
         ensures { result ≡ set_by quiet passed interval }
     {
-        let tbtt = ((passed as u64) + (quiet.count as u64)) * (interval as u64);
+        let tbtt = (u64::from(passed) + u64::from(quiet.count)) * u64::from(interval);
         Schedule {
-            start: tbtt + (quiet.offset as u64),
-            period: (quiet.period as u64) * (interval as u64),
+            start: tbtt + u64::from(quiet.offset),
+            period: u64::from(quiet.period) * u64::from(interval),
             duration: quiet.duration,
         }
     }
 
+    // How long before a unit the latest run began. With no period there is one run.
+    fn since_latest(self, unit: u64) -> u64
+        requires { self.start ≤ unit }
+        ensures { result ≡ (unit - self.start) % self.period }
+    {
+        let into = unit - self.start;
+        into.checked_rem(self.period).unwrap_or(into)
+    }
+
     // The first covered unit from `from` on and before `to`, or the unit after them where none is. It is looked up, not looked for, so this costs the
     // same for one unit and for all of them.
+    #[tactic(auto, using(crate::proofs::Covering::ways))]
     pub fn first_covered(self, from: u64, to: u64) -> u64
         ensures { result ≡ first_unit (covered self) from (to - from) }
     {
@@ -41,42 +51,28 @@ impl Schedule {
             return to;
         }
         if from < self.start {
-            if self.start < to {
-                return self.start;
-            }
-            return to;
+            return self.start.min(to);
         }
-        let into = from - self.start;
-        if self.period == 0 {
-            if into < (self.duration as u64) {
-                return from;
-            }
-            return to;
-        }
-        let past = into % self.period;
-        if past < (self.duration as u64) {
+        let past = self.since_latest(from);
+        if past < u64::from(self.duration) {
             return from;
         }
-        let ahead = self.period - past;
-        if ahead < to - from {
-            return from + ahead;
+        if self.period == 0 {
+            return to;
         }
-        to
+        from.saturating_add(self.period - past).min(to)
     }
 
     // The end of the latest run that has begun by a moment, or 0 where none has (document 02, Two). All runs last as long, so no other that has
     // begun ends later. The duration and the moment are narrow, so nothing wraps.
+    #[tactic(auto, using(crate::proofs::Ends::begun_or_not))]
     pub fn end_begun(self, moment: u32) -> u64
         ensures { result ≡ end_begun self moment }
     {
-        let now = moment as u64;
+        let now = u64::from(moment);
         if now < self.start {
             return 0;
         }
-        if self.period > 0 {
-            let past = (now - self.start) % self.period;
-            return now - past + (self.duration as u64);
-        }
-        self.start + (self.duration as u64)
+        now - self.since_latest(now) + u64::from(self.duration)
     }
 }

@@ -1,11 +1,8 @@
 -- The ways of a body of one element. Assumes nothing.
 use Rattle.std.specs.Prelude.{Ok, Err}
 use mathlib.Core.Path.{◌≡◌, refl, sym, ap, ap₂, ◌∙◌}
-use mathlib.Core.Bool.{true, false}
 use mathlib.Core.List.{List}
-use Prim.Native.Nat.{ℕ, ◌-◌}
-use borrow.Author.Tests.{ltb-true, ltb-false}
-use lib.Dec.{ltb}
+use Prim.Native.Nat.{ℕ, ◌-◌, ◌<◌, ◌≤◌}
 use lib.ListN.{length, take, drop}
 use Rattle.answer.specs.Checks.{Outcome, and_then}
 use Rattle.answer.specs.Faults.{fault_at, Placed, placed_at}
@@ -15,8 +12,8 @@ use Rattle.walk.proofs.Requiring.{Lies, past, left_cut, left_over, none_left}
 use Rattle.walk.specs.CodeTerms.Next.{next_after}
 use Rattle.walk.specs.Elements.{past_element}
 use Rattle.walk.specs.Handed.{Handed, end, cut_header, cut_contents, more, passed, cut_passed, passing_in, handed_in}
+use Rattle.walk.specs.declared.Contents.{Contents}
 use Rattle.walk.specs.Required.{Standing, required, nothing_left}
-use Rattle.walk.specs.declared.Next.{Next}
 use Rattle.single_body.specs.Singles.{single}
 
 module _ {A : Type 0} (n id : ℕ) (means : List ℕ → Outcome A) where
@@ -29,33 +26,27 @@ module _ {A : Type 0} (n id : ℕ) (means : List ℕ → Outcome A) where
   unfolding single
   by_element hs e = ap (λ (o : Outcome Standing). and_then (placed_at n o) onward) (sym e)
 
-  pub not_there : (hs : Handed) {r : Refusal} → required id hs ≡ Err r → Err (fault_at n r) ≡ single n id means hs
-  not_there hs e = by_element hs e
-
-  module _ {body : List ℕ} {start stop : ℕ} (l : Lies body n id start stop) where
+  module _ {body : List ℕ} {c : Contents} (l : Lies body n id c) where
     abbrev meant : Placed A
-    meant = placed_at n (means (take (stop - start) (drop start body)))
+    meant = placed_at n (means (take (c.end - c.start) (drop c.start body)))
 
-    by_contents : {o : Placed A} → o ≡ meant → and_then o (nothing_left stop (passing_in (drop stop body))) ≡ single n id means (handed_in (drop n body))
+    by_contents : {o : Placed A} → o ≡ meant → and_then o (nothing_left c.end (passing_in (drop c.end body))) ≡ single n id means (handed_in (drop n body))
     by_contents m =
-        ap₂ (λ (x : Placed A) (k : ℕ). and_then x (nothing_left k (passing_in (drop stop body)))) m (sym (past l)) ∙ by_element (handed_in (drop n body)) l.stands
-
-    pub bad : {x : Fault} → Err x ≡ meant → Err x ≡ single n id means (handed_in (drop n body))
-    bad m = by_contents m
+        ap₂ (λ (x : Placed A) (k : ℕ). and_then x (nothing_left k (passing_in (drop c.end body)))) m (sym (past l)) ∙ by_element (handed_in (drop n body)) l.stands
 
     module _ {a : A} (m : Ok a ≡ meant) where
-      -- where the walk stands past what is passed over
-      abbrev next : Next
-      next = next_after stop (passing_in (drop stop body))
+      -- where the walk goes on
+      abbrev next : Placed ℕ
+      next = next_after c.end (passing_in (drop c.end body))
 
-      pub cut_after : next.cut ≡ true → Err (fault_at next.at Refusal.ElementCut) ≡ single n id means (handed_in (drop n body))
-      cut_after h = sym (left_cut a (passing_in (drop stop body)) stop h) ∙ by_contents m
+      pub cut_after : {x : Fault} → next ≡ Err x → Err x ≡ single n id means (handed_in (drop n body))
+      cut_after h = sym (left_cut a (passing_in (drop c.end body)) c.end h) ∙ by_contents m
 
-      pub crowded : next.cut ≡ false → ltb next.at (length body) ≡ true → Err (fault_at next.at Refusal.LeftOver) ≡ single n id means (handed_in (drop n body))
-      crowded whole-ones h = sym (left_over a body stop whole-ones (ltb-true next.at (length body) h)) ∙ by_contents m
+      pub crowded : {k : ℕ} → next ≡ Ok k → k < length body → Err (fault_at k Refusal.LeftOver) ≡ single n id means (handed_in (drop n body))
+      crowded on h = sym (left_over a body c.end on h) ∙ by_contents m
 
-      pub good : next.cut ≡ false → ltb next.at (length body) ≡ false → Ok a ≡ single n id means (handed_in (drop n body))
-      good whole-ones h = sym (none_left a body stop whole-ones (ltb-false next.at (length body) h)) ∙ by_contents m
+      pub good : {k : ℕ} → next ≡ Ok k → length body ≤ k → Ok a ≡ single n id means (handed_in (drop n body))
+      good on h = sym (none_left a body c.end on h) ∙ by_contents m
 
 -- what is made of the one element may be made of what its contents mean
 pub made : {A B : Type 0} (n id : ℕ) (means : List ℕ → Outcome A) (make : A → B) (hs : Handed)

@@ -1,8 +1,7 @@
 -- The three bodies of one element (01, "Octets": actions 2 (one 34) and 3 (one 35); action 4 has no token and one 37).
-use Rattle.std.specs.Prelude.{ℕ, List, Ok, Err}
+use Rattle.std.specs.Prelude.{ℕ, List, Ok}
 use Rattle.action.specs.Openings.{fixed_fields, switch_fixed_fields}
 use Rattle.answer.specs.Checks.{Outcome, and_then}
-use Rattle.answer.specs.Faults.{Placed}
 use Rattle.element.specs.ChannelSwitch.{switch_means}
 use Rattle.element.specs.TpcReport.{tpc_report_means}
 use Rattle.element.specs.TpcRequest.{tpc_request_means}

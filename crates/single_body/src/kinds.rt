@@ -38,8 +38,7 @@ impl Kind {
         ensures { result ≡ fields_before self }
     {
         match self {
-            Kind::TpcRequest => action::FIXED_FIELDS,
-            Kind::TpcReport => action::FIXED_FIELDS,
+            Kind::TpcRequest | Kind::TpcReport => action::FIXED_FIELDS,
             Kind::ChannelSwitch => action::SWITCH_FIXED_FIELDS,
         }
     }

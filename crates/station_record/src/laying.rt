@@ -68,7 +68,7 @@ fn pending_octets(pending: Option<Switch>) -> [u8; 11]
 pub fn state_octets(power: Option<PowerConstraint>, pending: Option<Switch>, until: u64, count: u8) -> [u8; 22]
     ensures { result ≡ state_octets power pending until count }
 {
-    let p = power.to_octets();
+    let p = beacon::held_power(power);
     let w = pending_octets(pending);
     let u = octets::octets64(until);
     [

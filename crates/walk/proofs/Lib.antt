@@ -1,3 +1,4 @@
+pub mod Kept
 pub mod Passing
 pub mod Requiring
 pub mod RunLaws

@@ -1,7 +1,6 @@
 -- What was read of a frame, as the code tells it.
-use Rattle.std.specs.Prelude.{Bool, true, false, Ok, Err, Some, None, Option}
+use Rattle.std.specs.Prelude.{Bool, true, false, Ok, Err, Some, None, Option, is_some}
 use Rattle.answer.specs.Checks.{pick}
-use Rattle.beacon.specs.Notices.{has_switch}
 use Rattle.frame.specs.declared.Frame.{Frame}
 use Rattle.frame.specs.declared.Received.{Received}
 use Rattle.element.specs.declared.ibss_dfs.IbssDfs.{IbssDfs}
@@ -11,8 +10,8 @@ use Rattle.answer.specs.Faults.{Placed}
 
 -- whether it has an announcement, in a beacon, in a probe response or in an action frame of its own
 abbrev announces_in : Frame → Bool
-announces_in (Frame.Beacon n) = has_switch n.switch
-announces_in (Frame.ProbeResponse n) = has_switch n.switch
+announces_in (Frame.Beacon n) = is_some n.switch
+announces_in (Frame.ProbeResponse n) = is_some n.switch
 announces_in (Frame.MeasurementRequest token count) = false
 announces_in (Frame.MeasurementReport token count) = false
 announces_in (Frame.TpcRequest token) = false
@@ -37,6 +36,6 @@ is_beacon (Err x) = false
 is_beacon (Ok v) = is_beacon_frame v.frame
 
 -- the owner that it names, if any, or the one before
-abbrev pub owner_named : Owner → Option IbssDfs → Owner
+abbrev pub owner_named : Option Owner → Option IbssDfs → Option Owner
 owner_named o None = o
-owner_named o (Some d) = named o d.owner d.recovery
+owner_named o (Some d) = Some (named o d.owner d.recovery)

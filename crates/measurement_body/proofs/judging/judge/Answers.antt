@@ -1,16 +1,22 @@
 -- `judge` meets its contract, kind by kind.
-use Rattle.std.proofs.Common.{ap, sym, ◌∙◌}
-use Rattle.measurement_body.specs.CodeTerms.Judging.{judgement}
-use Rattle.measurement_body.specs.Kinds.{sort_of}
-use Rattle.measurement_body.specs.declared.kinds.Kind.{Kind}
+use Rattle.std.proofs.Common.{arith}
+use Rattle.std.proofs.lemmas.Grind.{common_steps}
 use Rattle.measurement_body.proofs.judging.judge.Goals as goal
 
-pub returns-in-Requests : goal.returns-in-Requests
-returns-in-Requests c =
-    let contents = c.args.contents.now in
-    c.judge_request.ensures ∙ ap (λ (k : Kind). judgement (sort_of k) contents) (sym c.in-Requests.is)
+pub returns-in_err-request-in-Requests : goal.returns-in_err-request-in-Requests
+returns-in_err-request-in-Requests c = rw c.in-Requests.is (grind (arith, common_steps))
 
-pub returns-in-Reports : goal.returns-in-Reports
-returns-in-Reports c =
-    let contents = c.args.contents.now in
-    c.judge_report.ensures ∙ ap (λ (k : Kind). judgement (sort_of k) contents) (sym c.in-Reports.is)
+pub returns-in_err-report-in-Reports : goal.returns-in_err-report-in-Reports
+returns-in_err-report-in-Reports c = rw c.in-Reports.is (grind (arith, common_steps))
+
+pub returns-then-is_clear : goal.returns-then-is_clear
+returns-then-is_clear c = rw c.in-Requests.is (grind (arith, common_steps))
+
+pub returns-else-is_clear : goal.returns-else-is_clear
+returns-else-is_clear c = rw c.in-Requests.is (grind (arith, common_steps))
+
+pub returns-then-is_clear-2 : goal.returns-then-is_clear-2
+returns-then-is_clear-2 c = rw c.in-Reports.is (grind (arith, common_steps))
+
+pub returns-else-is_clear-2 : goal.returns-else-is_clear-2
+returns-else-is_clear-2 c = rw c.in-Reports.is (grind (arith, common_steps))

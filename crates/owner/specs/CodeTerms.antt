@@ -1,2 +1,0 @@
--- What the code's shape needs beside what is promised.
-pub mod Spared
