@@ -8,7 +8,8 @@ use native.Mathlib.Omega.{arith}
 use borrow.Author.Tests.{le-ltb, ne_eqb, ltb-false, eqb-true, eqb-false, not-true, not-false}
 use lib.Dec.{ltb, eqb}
 use lib.ListN.{length, drop}
-use Rattle.action.specs.Openings.{fixed_fields, switch_fixed_fields, Opens, switching, with, opens_with, forbids_token}
+use Rattle.action.specs.Openings.{fixed_fields, switch_fixed_fields, opens_with, forbids_token}
+use Rattle.action.specs.declared.Opening.{Opening}
 use Rattle.single_body.specs.Singles.{single}
 use Rattle.answer.specs.Checks.{pick, ◌⇒◌, checked, judged, and_then}
 use Rattle.answer.specs.Faults.{fault_at, fault_nowhere, Placed}
@@ -42,21 +43,21 @@ Holds (tpc_report token t) run = single fixed_fields 35 tpc_report_means (handed
 Holds (switch s) run = single switch_fixed_fields 37 switch_means (handed_in run) ≡ Ok s
 
 module _ (run : List ℕ) where
-  pub opens : (action token : ℕ) → action ≤ 3 → forbids_token action token ≡ false → opens_with (0 ∷ action ∷ token ∷ run) ≡ Ok (with action token)
+  pub opens : (action token : ℕ) → action ≤ 3 → forbids_token action token ≡ false → opens_with (0 ∷ action ∷ token ∷ run) ≡ Ok (Opening.Token action token)
   unfolding opens_with checked
   opens action token h k =
       let n = length (0 ∷ action ∷ token ∷ run) in
       simp (le-ltb n 1 (omega arith), le-ltb n 2 (omega arith), le-ltb 4 action (omega arith), ne_eqb action 4 (λ e. omega arith), le-ltb n 3 (omega arith), k)
 
-  pub opens_switch : opens_with (0 ∷ 4 ∷ run) ≡ Ok switching
+  pub opens_switch : opens_with (0 ∷ 4 ∷ run) ≡ Ok Opening.Switch
   unfolding opens_with checked
   opens_switch =
       let n = length (0 ∷ 4 ∷ run) in
       simp (le-ltb n 1 (omega arith), le-ltb n 2 (omega arith))
 
-  pub by_lead : (c : List ℕ) (o : Opens) → opens_with c ≡ Ok o → action_means c ≡ after_opening c o
+  pub by_lead : (c : List ℕ) (o : Opening) → opens_with c ≡ Ok o → action_means c ≡ after_opening c o
   unfolding action_means
-  by_lead c o e = ap (λ (x : Placed Opens). and_then x (after_opening c)) e
+  by_lead c o e = ap (λ (x : Placed Opening). and_then x (after_opening c)) e
 
   pub reads : (body : Body) → Holds body run → action_means (lead body ++ run) ≡ Ok body
   reads (requests token rs) h = by_lead _ _ (opens 0 token (omega arith) (not-true (eqb token 0) h.0)) ∙ simp h.1
@@ -73,26 +74,26 @@ pub record Parts (c : List ℕ) (body : Body) : Type 0 where
   pub holds : Holds body run
 
 -- what an opening says of the octets
-abbrev pub Begins : List ℕ → Opens → Type 0
-Begins c switching = c ≡ 0 ∷ 4 ∷ drop switch_fixed_fields c
-Begins c (with action token) = (c ≡ 0 ∷ action ∷ token ∷ drop fixed_fields c) × (action ≤ 3) × (forbids_token action token ≡ false)
+abbrev pub Begins : List ℕ → Opening → Type 0
+Begins c Opening.Switch = c ≡ 0 ∷ 4 ∷ drop switch_fixed_fields c
+Begins c (Opening.Token action token) = (c ≡ 0 ∷ action ∷ token ∷ drop fixed_fields c) × (action ≤ 3) × (forbids_token action token ≡ false)
 
 module _ (y : ℕ) where
   -- after category 0 and an action up to 4
-  by_action : (r : List ℕ) (o : Opens) (t : Bool) → eqb y 4 ≡ t → y ≤ 4
-      → pick t (Ok switching) (judged (ltb (length (0 ∷ y ∷ r)) fixed_fields ⇒ fault_nowhere Refusal.TooShort ∷ forbids_token y (octet 2 (0 ∷ y ∷ r)) ⇒ fault_at 2 Refusal.ForbiddenValue ∷ []) (with y (octet 2 (0 ∷ y ∷ r)))) ≡ Ok o
+  by_action : (r : List ℕ) (o : Opening) (t : Bool) → eqb y 4 ≡ t → y ≤ 4
+      → pick t (Ok Opening.Switch) (judged (ltb (length (0 ∷ y ∷ r)) fixed_fields ⇒ fault_nowhere Refusal.TooShort ∷ forbids_token y (octet 2 (0 ∷ y ∷ r)) ⇒ fault_at 2 Refusal.ForbiddenValue ∷ []) (Opening.Token y (octet 2 (0 ∷ y ∷ r)))) ≡ Ok o
       → Begins (0 ∷ y ∷ r) o
   by_action r o true u h e =
-      let k : switching ≡ o = cc in
+      let k : Opening.Switch ≡ o = cc in
       subst (Begins (0 ∷ y ∷ r)) k (ap (λ (n : ℕ). 0 ∷ n ∷ r) (eqb-true y 4 u))
   by_action [] o false u h e = clash (passed _ _ _ e).0
   by_action (token ∷ r) o false u h e =
       let p = passed _ _ _ e in
       let q = passed _ _ _ p.1 in
-      let k : with y token ≡ o = kept _ q.1 in
+      let k : Opening.Token y token ≡ o = kept _ q.1 in
       subst (Begins (0 ∷ y ∷ token ∷ r)) k (refl, omega (arith, eqb-false y 4 u), q.0)
 
-pub begins : (c : List ℕ) (o : Opens) → opens_with c ≡ Ok o → Begins c o
+pub begins : (c : List ℕ) (o : Opening) → opens_with c ≡ Ok o → Begins c o
 unfolding opens_with
 begins [] o e = clash (passed _ _ _ e).0
 begins (x ∷ []) o e = clash (passed _ _ _ (passed _ _ _ (passed _ _ _ e).1).1).0
@@ -108,15 +109,15 @@ module _ (c : List ℕ) (body : Body) where
   made make (Err r) k e = absurd (never e)
   made make (Ok a) k e = let g : make a ≡ body = cc in subst (Parts c) g (k a refl)
 
-  by_opening : (o : Opens) → Begins c o → after_opening c o ≡ Ok body → Parts c body
-  by_opening switching b e = made switch _ (λ s h. record { run = drop switch_fixed_fields c; front = b; holds = h }) e
-  by_opening (with zero token) b e =
+  by_opening : (o : Opening) → Begins c o → after_opening c o ≡ Ok body → Parts c body
+  by_opening Opening.Switch b e = made switch _ (λ s h. record { run = drop switch_fixed_fields c; front = b; holds = h }) e
+  by_opening (Opening.Token zero token) b e =
       made (requests token) _ (λ rs h. record { run = drop fixed_fields c; front = b.0; holds = (ap not b.2, h) }) e
-  by_opening (with (suc zero) token) b e = made (reports token) _ (λ rs h. record { run = drop fixed_fields c; front = b.0; holds = h }) e
-  by_opening (with (suc (suc zero)) token) b e =
+  by_opening (Opening.Token (suc zero) token) b e = made (reports token) _ (λ rs h. record { run = drop fixed_fields c; front = b.0; holds = h }) e
+  by_opening (Opening.Token (suc (suc zero)) token) b e =
       made (λ u. tpc_request token) _ (λ u h. record { run = drop fixed_fields c; front = b.0; holds = (ap not b.2, h) }) e
-  by_opening (with (suc (suc (suc zero))) token) b e = made (tpc_report token) _ (λ t h. record { run = drop fixed_fields c; front = b.0; holds = h }) e
-  by_opening (with (suc (suc (suc (suc n)))) token) b e = absurd (omega arith)
+  by_opening (Opening.Token (suc (suc (suc zero))) token) b e = made (tpc_report token) _ (λ t h. record { run = drop fixed_fields c; front = b.0; holds = h }) e
+  by_opening (Opening.Token (suc (suc (suc (suc n)))) token) b e = absurd (omega arith)
 
   pub parts : action_means c ≡ Ok body → Parts c body
   unfolding action_means

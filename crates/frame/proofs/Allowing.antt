@@ -7,7 +7,8 @@ use Prim.Native.Nat.{ℕ}
 use lib.Dec.{eqb}
 use lib.ListN.{drop}
 use lib.Seq.{take_at}
-use Rattle.action.specs.Openings.{fixed_fields, switch_fixed_fields, Opens, switching, with, opens_with}
+use Rattle.action.specs.Openings.{fixed_fields, switch_fixed_fields, opens_with}
+use Rattle.action.specs.declared.Opening.{Opening}
 use Rattle.single_body.specs.Singles.{single}
 use Rattle.answer.proofs.Yielding.{Yields, of_refusal, of_value, either_way_lem, after_value}
 use Rattle.answer.proofs.Placing.{placed_value, past_value}
@@ -59,11 +60,11 @@ module _ (b : ℕ) where
   BodyAllowed : Body → Type 0
   BodyAllowed body = KindAllowed b (action body)
 
-  after_allowed : (body : List ℕ) (o : Opens) → Yields BodyAllowed (after_opening body o)
+  after_allowed : (body : List ℕ) (o : Opening) → Yields BodyAllowed (after_opening body o)
   unfolding Allowed-switch BodyAllowed
-  after_allowed body switching =
+  after_allowed body Opening.Switch =
       after_value BodyAllowed (single switch_fixed_fields 37 switch_means (handed_in (drop switch_fixed_fields body))) _ (λ w e. of_value BodyAllowed (single_allowed switch_fixed_fields (handed_in (drop switch_fixed_fields body)) w e))
-  after_allowed body (with k token) =
+  after_allowed body (Opening.Token k token) =
       either_way_lem BodyAllowed (eqb k 0) _ _ (after_value BodyAllowed (measurements_in request_sort (drop fixed_fields body)) _ (λ rs e. of_value BodyAllowed tt))
       (either_way_lem BodyAllowed (eqb k 1) _ _ (after_value BodyAllowed (measurements_in report_sort (drop fixed_fields body)) _ (λ rs e. of_value BodyAllowed tt))
       (either_way_lem BodyAllowed (eqb k 2) _ _ (after_value BodyAllowed (single fixed_fields 34 tpc_request_means (handed_in (drop fixed_fields body))) _ (λ u e. of_value BodyAllowed tt))

@@ -1,5 +1,5 @@
 -- What breaks a body, and where: every fault that a body of one kind or the other may have, and no other. Assumes nothing.
-use Rattle.std.specs.Prelude.{Ok}
+use Rattle.std.specs.Prelude.{Ok, None}
 use mathlib.Core.Path.{◌≡◌, refl, sym, ap, subst, ◌∙◌}
 use mathlib.Core.Bool.{Bool}
 use mathlib.Core.List.{List, [], ◌∷◌, ◌++◌}
@@ -9,7 +9,8 @@ use native.Mathlib.Omega.{arith}
 use borrow.Author.Tests.{ltb-false}
 use lib.Dec.{ltb, eqb}
 use lib.ListN.{length, drop, length-append, length-drop}
-use Rattle.action.specs.Openings.{category_field, action_field, token_field, fixed_fields, switch_fixed_fields, forbids_token, Opens, switching, with, opens_with}
+use Rattle.action.specs.Openings.{category_field, action_field, token_field, fixed_fields, switch_fixed_fields, forbids_token, opens_with}
+use Rattle.action.specs.declared.Opening.{Opening}
 use Rattle.answer.proofs.Placing.{placed_value}
 use Rattle.answer.proofs.Refusing.{Refuses, by_value, by_refusal, by_either, by_check, by_none, by_then, by_place, of_place}
 use Rattle.answer.specs.Checks.{Outcome, ◌⇒◌, judged, and_then}
@@ -17,7 +18,7 @@ use Rattle.answer.specs.Faults.{fault_at, fault_nowhere, placed_at}
 use Rattle.answer.specs.declared.Fault.{Fault}
 use Rattle.answer.specs.declared.Refusal.{Refusal}
 use Rattle.beacon.specs.Beacons.{Told, fixed_length, interval_field, opening, without_margin, element_means, adds, takes, says, body_means, beacon_means}
-use Rattle.beacon.specs.IbssBeacons.{absent, ToldInIbss, tells_in_ibss, takes_in_ibss, ibss_beacon_means}
+use Rattle.beacon.specs.IbssBeacons.{ToldInIbss, tells_in_ibss, takes_in_ibss, ibss_beacon_means}
 use Rattle.beacon.specs.declared.elements.Element.{Element}
 use Rattle.element.specs.ChannelSwitch.{switch_means}
 use Rattle.element.specs.IbssDfs.{dfs_means}
@@ -221,7 +222,7 @@ module _ (P : Fault → Type 0) (body : List ℕ) (f : ActionFaults P (length bo
       (ltb (length body) fixed_fields ⇒ fault_nowhere Refusal.TooShort
       ∷ forbids_token (octet action_field body) (octet token_field body) ⇒ fault_at token_field Refusal.ForbiddenValue
       ∷ [])
-      (with (octet action_field body) (octet token_field body)))
+      (Opening.Token (octet action_field body) (octet token_field body)))
   token_by =
       by_check P _ _ _ f.short
       (λ three. by_check P _ _ _ (f.token (omega (arith, ltb-false (length body) fixed_fields three))) (λ m. by_none P _ (by_value P _)))
@@ -234,15 +235,15 @@ module _ (P : Fault → Type 0) (body : List ℕ) (f : ActionFaults P (length bo
       (λ k. by_check P _ _ _ f.short
       (λ two. by_check P _ _ _ (f.action (omega (arith, ltb-false (length body) switch_fixed_fields two)))
       (λ l. by_none P _
-      (by_either P (eqb (octet action_field body) 4) _ _ (by_value P switching) token_by)))))
+      (by_either P (eqb (octet action_field body) 4) _ _ (by_value P Opening.Switch) token_by)))))
 
   -- what follows the fixed fields has the rest of the octets
-  after_by : (o : Opens) → Begins body o → Refuses P (after_opening body o)
-  after_by switching b =
+  after_by : (o : Opening) → Begins body o → Refuses P (after_opening body o)
+  after_by Opening.Switch b =
       by_then P (single switch_fixed_fields 37 switch_means (handed_in (drop switch_fixed_fields body))) _
       (single_by P (length body) f.elements switch_fixed_fields 37 switch_means switch_misread (drop switch_fixed_fields body) (omega (arith, ap length b)))
       (λ s e. by_value P _)
-  after_by (with k token) b =
+  after_by (Opening.Token k token) b =
       let long : fixed_fields + length (drop fixed_fields body) ≡ length body = omega (arith, ap length b.0) in
       by_either P (eqb k 0) _ _
       (by_then P (measurements_in request_sort (drop fixed_fields body)) _
@@ -341,4 +342,4 @@ module _ (P : Fault → Type 0) (b : ℕ) (body : List ℕ) (f : NoticeFaults P 
 
   pub ibss_notice_faults : Refuses P (ibss_beacon_means b body)
   unfolding ibss_beacon_means
-  ibss_notice_faults = body_by P (takes_in_ibss b) (tells_in_ibss (opening body) absent) b body f (takes_in_ibss_by P (length body) f b)
+  ibss_notice_faults = body_by P (takes_in_ibss b) (tells_in_ibss (opening body) None) b body f (takes_in_ibss_by P (length body) f b)

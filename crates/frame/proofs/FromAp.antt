@@ -1,5 +1,5 @@
 -- A frame of an IBSS beside the same frame from an AP at its BSSID, as 01 reads it (02, Five). Assumes nothing.
-use Rattle.std.specs.Prelude.{Ok, Err}
+use Rattle.std.specs.Prelude.{Ok, Err, Option}
 use mathlib.Core.Bool.{Bool, false}
 use mathlib.Core.List.{List}
 use mathlib.Core.Path.{◌≡◌, refl, sym, ap, ap₂, subst, ◌∙◌}
@@ -11,7 +11,8 @@ use Rattle.answer.specs.Checks.{Outcome, and_then}
 use Rattle.answer.specs.Faults.{Placed, nowhere, placed_past}
 use Rattle.beacon.proofs.InIbss.{sound_read, accepted_in_01}
 use Rattle.beacon.specs.Beacons.{Told, beacon_means}
-use Rattle.beacon.specs.IbssBeacons.{MaybeDfs, ToldInIbss, besides, ibss_beacon_means}
+use Rattle.beacon.specs.IbssBeacons.{ToldInIbss, besides, ibss_beacon_means}
+use Rattle.element.specs.IbssDfs.{Dfs}
 use Rattle.header.proofs.Heard.{is_subtype}
 use Rattle.header.proofs.SentBy.{heard_as_from_ap, same_body, individual}
 use Rattle.header.specs.Headers.{header_length, body_of, sa, header_means, from_ap}
@@ -25,7 +26,7 @@ use Rattle.frame.specs.IbssFrames.{KindInIbss, SentInIbss, nameless, kind_in_ibs
 use Rattle.frame.proofs.Allowing.{kind_allowed}
 
 -- a body that 01 reads, with this element 41 beside it
-abbrev named : MaybeDfs → Placed Kind → Placed KindInIbss
+abbrev named : Option Dfs → Placed Kind → Placed KindInIbss
 named d o = and_then o (λ k. Ok (record { kind = k; dfs = d }))
 
 -- ---- a body, by its subtype
@@ -45,7 +46,7 @@ module _ (b : ℕ) (body : List ℕ) where
   kind_in_01 Subtype.Action k e = nameless_kind (kind_of b Subtype.Action body) k e
 
   -- with sound elements 41, any is what it is to 01, a refusal and its place too
-  kind_sound : (s : Subtype) (d : MaybeDfs) → SoundOf s d body → kind_in_ibss b s body ≡ named d (kind_of b s body)
+  kind_sound : (s : Subtype) (d : Option Dfs) → SoundOf s d body → kind_in_ibss b s body ≡ named d (kind_of b s body)
   kind_sound Subtype.Beacon d h =
       ap (λ (o : Placed ToldInIbss). and_then o (λ t. Ok (record { kind = beacon t.told; dfs = t.dfs }))) (sound_read b body d h) ∙ by (beacon_means b body)
     where
@@ -53,8 +54,8 @@ module _ (b : ℕ) (body : List ℕ) where
           → and_then (besides d o) (λ t. Ok (record { kind = beacon t.told; dfs = t.dfs })) ≡ named d (and_then o (λ t. Ok (beacon t)))
       by (Err x) = refl
       by (Ok t) = refl
-  kind_sound Subtype.ProbeResponse d h = ap (λ (x : MaybeDfs). named x (kind_of b Subtype.ProbeResponse body)) (sym h)
-  kind_sound Subtype.Action d h = ap (λ (x : MaybeDfs). named x (kind_of b Subtype.Action body)) (sym h)
+  kind_sound Subtype.ProbeResponse d h = ap (λ (x : Option Dfs). named x (kind_of b Subtype.ProbeResponse body)) (sym h)
+  kind_sound Subtype.Action d h = ap (λ (x : Option Dfs). named x (kind_of b Subtype.Action body)) (sym h)
 
 -- ---- a frame
 
@@ -112,7 +113,7 @@ module _ (own a : List ℕ) (six : length a ≡ 6) (b : ℕ) (f : List ℕ) wher
       ∙ ap (λ (y : SentInIbss). Ok y.sent) p.together
 
   -- from an individual address and with sound elements 41, any frame is to a station of the IBSS what 01 reads of it from the AP, a refusal and its place too
-  pub sound_from_ap : (d : MaybeDfs) → bit 0 (octet 0 (sa f)) ≡ false → DfsSoundIn d f
+  pub sound_from_ap : (d : Option Dfs) → bit 0 (octet 0 (sa f)) ≡ false → DfsSoundIn d f
       → ibss_frame_means own a b f ≡ and_then (frame_means own a b (from_ap a f)) (λ s. Ok (record { sender = sa f; sent = s; dfs = d }))
   unfolding ibss_frame_means
   sound_from_ap d single h =

@@ -1,5 +1,5 @@
 -- What the element 41 of an accepted frame may say: a recovery interval of 1 or more, and only in a beacon (02, Five). Assumes nothing.
-use Rattle.std.specs.Prelude.{Ok}
+use Rattle.std.specs.Prelude.{Ok, Some, None, Option}
 use mathlib.Core.List.{List}
 use mathlib.Core.Logic.{◌⊎◌, inl, inr}
 use mathlib.Core.Path.{◌≡◌, refl, sym, ap, ◌∙◌, subst}
@@ -14,7 +14,7 @@ use Rattle.answer.proofs.Placing.{past_value}
 use Rattle.answer.specs.Faults.{Placed, nowhere, placed_past}
 use Rattle.beacon.proofs.InIbss.{accepted_sound}
 use Rattle.beacon.specs.Beacons.{Told, fixed_length}
-use Rattle.beacon.specs.IbssBeacons.{MaybeDfs, absent, is, ToldInIbss, ibss_beacon_means, OneDfs, DfsSound}
+use Rattle.beacon.specs.IbssBeacons.{ToldInIbss, ibss_beacon_means, OneDfs, DfsSound}
 use Rattle.element.proofs.DfsContents.{opened}
 use Rattle.element.specs.IbssDfs.{Dfs, dfs_means}
 use Rattle.header.specs.Headers.{header_length, body_of, sa, header_means}
@@ -41,7 +41,7 @@ one_recovery d (more id c es) (inr h) = one_recovery d es h.1
 
 -- a body: with no element 41, or a beacon with one that says so
 abbrev Names : KindInIbss → Type 0
-Names k = (k.dfs ≡ absent) ⊎ ((told : Told) × (d : Dfs) × (k.kind ≡ beacon told) × (k.dfs ≡ is d) × (1 ≤ d.recovery))
+Names k = (k.dfs ≡ None) ⊎ ((told : Told) × (d : Dfs) × (k.kind ≡ beacon told) × (k.dfs ≡ Some d) × (1 ≤ d.recovery))
 
 kind_names : (b : ℕ) (s : Subtype) (body : List ℕ) (k : KindInIbss) → kind_in_ibss b s body ≡ Ok k → Names k
 kind_names b Subtype.Beacon body k e =
@@ -55,9 +55,9 @@ kind_names b Subtype.Beacon body k e =
         same : record { kind = beacon t.told; dfs = t.dfs } ≡ k
         same = is_kind g
 
-        by_dfs : (d : MaybeDfs) → t.dfs ≡ d → DfsSound d (elements_in (drop fixed_length body)) → Names k
-        by_dfs absent y z = inl (ap (λ (x : KindInIbss). x.dfs) (sym same) ∙ y)
-        by_dfs (is d) y z =
+        by_dfs : (d : Option Dfs) → t.dfs ≡ d → DfsSound d (elements_in (drop fixed_length body)) → Names k
+        by_dfs None y z = inl (ap (λ (x : KindInIbss). x.dfs) (sym same) ∙ y)
+        by_dfs (Some d) y z =
             inr (t.told, d, ap (λ (x : KindInIbss). x.kind) (sym same), ap (λ (x : KindInIbss). x.dfs) (sym same) ∙ y, one_recovery d (elements_in (drop fixed_length body)) z)
 kind_names b Subtype.ProbeResponse body k e = let p = followed (kind_of b Subtype.ProbeResponse body) _ k e in inl (ap (λ (x : KindInIbss). x.dfs) (sym (is_kind p.2)))
 kind_names b Subtype.Action body k e = let p = followed (kind_of b Subtype.Action body) _ k e in inl (ap (λ (x : KindInIbss). x.dfs) (sym (is_kind p.2)))
@@ -66,11 +66,11 @@ kind_names b Subtype.Action body k e = let p = followed (kind_of b Subtype.Actio
 
 module _ (own bss : List ℕ) (b : ℕ) (f : List ℕ) (x : SentInIbss) (e : ibss_frame_means own bss b f ≡ Ok x) where
   -- it has no element 41 that is read, or is a beacon with one
-  pub sent_names : (x.dfs ≡ absent) ⊎ ((told : Told) × (d : Dfs) × (x.sent.kind ≡ beacon told) × (x.dfs ≡ is d) × (1 ≤ d.recovery))
+  pub sent_names : (x.dfs ≡ None) ⊎ ((told : Told) × (d : Dfs) × (x.sent.kind ≡ beacon told) × (x.dfs ≡ Some d) × (1 ≤ d.recovery))
   unfolding ibss_frame_means
   sent_names =
       let p = followed (nowhere (header_means Cell.Ibss own bss f)) _ x e in
       let q = followed (placed_past header_length (kind_in_ibss b p.0.subtype (body_of f))) _ x p.2 in
       let same : record { sender = sa f; sent = record { to_all = p.0.to_all; kind = q.0.kind }; dfs = q.0.dfs } ≡ x = cc q.2 in
-      subst (λ (y : SentInIbss). (y.dfs ≡ absent) ⊎ ((told : Told) × (d : Dfs) × (y.sent.kind ≡ beacon told) × (y.dfs ≡ is d) × (1 ≤ d.recovery))) same
+      subst (λ (y : SentInIbss). (y.dfs ≡ None) ⊎ ((told : Told) × (d : Dfs) × (y.sent.kind ≡ beacon told) × (y.dfs ≡ Some d) × (1 ≤ d.recovery))) same
       (kind_names b p.0.subtype (body_of f) q.0 (past_value header_length (kind_in_ibss b p.0.subtype (body_of f)) q.1))

@@ -1,15 +1,22 @@
 -- Elements of a body by their index. Assumes nothing.
-use Rattle.std.specs.Prelude.{Ok, Err}
-use mathlib.Core.Path.{◌≡◌, refl, sym, ap, subst₂, ◌∙◌}
+use Rattle.std.specs.Prelude.{Ok, Err, Some, None, Option}
+use mathlib.Core.Path.{◌≡◌, refl, sym, ap, subst, ◌∙◌}
 use mathlib.Core.Bool.{Bool, true, false}
 use mathlib.Core.List.{List}
 use Prim.Native.Nat.{ℕ}
 use lib.ListN.{length, drop}
-use Rattle.action.specs.Openings.{fixed_fields, with}
+use Rattle.action.specs.Openings.{fixed_fields, switch_fixed_fields}
+use Rattle.action.specs.declared.Opening.{Opening}
+use Rattle.answer.proofs.Judged.{never, followed}
+use Rattle.answer.proofs.Placing.{past_value}
 use Rattle.answer.specs.Checks.{Outcome, and_then}
 use Rattle.answer.specs.Faults.{Placed, nowhere, without_place, placed_past}
 use Rattle.answer.specs.declared.Fault.{Fault}
+use Rattle.answer.specs.declared.Refusal.{Refusal}
 use Rattle.beacon.specs.Beacons.{Told, beacon_means}
+use Rattle.element.specs.ChannelSwitch.{switch_means}
+use Rattle.element.specs.TpcReport.{tpc_report_means}
+use Rattle.element.specs.TpcRequest.{tpc_request_means}
 use Rattle.header.specs.Headers.{header_length, body_of, header_means}
 use Rattle.header.specs.declared.Head.{Head}
 use Rattle.header.specs.declared.address.Cell.{Cell}
@@ -19,9 +26,9 @@ use Rattle.measurement_body.specs.Kinds.{Measurement, sort_of}
 use Rattle.measurement_body.specs.Lists.{Sort, measurements_in, nth}
 use Rattle.measurement_body.specs.Reports.{report_sort}
 use Rattle.measurement_body.specs.Requests.{request_sort}
-use Rattle.measurement_body.specs.Surveys.{place_in, surveyed_as}
+use Rattle.measurement_body.specs.Surveys.{place_in, surveyed_as, surveyed}
 use Rattle.measurement_body.specs.declared.kinds.Kind as Measurements
-use Rattle.measurement_body.specs.declared.surveying.Place.{Place}
+use Rattle.walk.specs.declared.Contents.{Contents}
 use Rattle.measurement_body.specs.declared.surveying.Surveyed.{Surveyed}
 use Rattle.measurement_element.specs.MeasurementReport.{report_means}
 use Rattle.measurement_element.specs.MeasurementRequest.{request_means}
@@ -29,21 +36,26 @@ use Rattle.measurement_element.specs.declared.measurement_report.Report.{Report}
 use Rattle.measurement_element.specs.declared.measurement_request.Request.{Request}
 use Rattle.single_body.proofs.Singling as Singling
 use Rattle.single_body.specs.Singles.{single}
+use Rattle.single_body.specs.Kinds.{contents_mean, id_of, fields_before}
+use Rattle.single_body.specs.declared.kinds.Kind as Singles
 use Rattle.single_body.specs.declared.kinds.Single.{Single}
-use Rattle.walk.specs.Handed.{Handed}
+use Rattle.walk.specs.Handed.{Handed, handed_in}
 use Rattle.frame.specs.Actions.{Body, requests, reports, tpc_request, tpc_report, switch, after_opening, action_means}
-use Rattle.frame.specs.CodeTerms.Located.{reading_past, unplaced, placed, located, located_in, kind_means, PlaceWithin, means_at, read_there}
-use Rattle.frame.specs.CodeTerms.SingleFrames.{single_frame, single_reading}
+use Rattle.frame.specs.CodeTerms.Located.{unplaced, placed, body_located, located, kind_located, located_in, kind_means, PlaceWithin, means_at, asked_of}
+use Rattle.frame.specs.CodeTerms.SingleFrames.{single_frame, single_opening}
 use Rattle.frame.specs.Frames.{Kind, beacon, probe_response, action, kind_of, sent, frame_means, request_in, report_in, of_kind, element_of}
 use Rattle.frame.specs.Laid.{body_frame, frame_laid, notice_subtype}
+use Rattle.frame.specs.declared.Received.{Received}
+use Rattle.frame.specs.declared.Frame.{Frame}
 use Rattle.frame.specs.declared.bodies.Located.{Located}
+use Rattle.frame.specs.declared.index.Asked.{Asked}
 use Rattle.frame.proofs.ActionParts.{parts}
 
 -- ---- what is found of a body
 
 module _ (body : List ℕ) (i : ℕ) where
-  -- its reading is its frame
-  pub located_frame : (o : Placed Body) → (located i body o).reading ≡ body_frame o
+  -- its frame
+  pub located_frame : (o : Placed Body) → and_then (located i body o) (λ l. Ok l.frame) ≡ body_frame o
   located_frame (Err r) = refl
   located_frame (Ok (requests t rs)) = refl
   located_frame (Ok (reports t rs)) = refl
@@ -52,16 +64,30 @@ module _ (body : List ℕ) (i : ℕ) where
   located_frame (Ok (switch s)) = refl
 
   -- a body of one element has no place
-  pub one_element : {X : Type 0} (n id : ℕ) (means : List ℕ → Outcome X) (es : Handed) (token : ℕ) (says : X → Single) (make : X → Body)
-      → ((a : X) → unplaced (Ok (single_frame token (says a))) ≡ located i body (Ok (make a)))
-      → unplaced (single_reading token (single n id (λ c. and_then (means c) (λ a. Ok (says a))) es))
+  one_element : {X : Type 0} (n id : ℕ) (means : List ℕ → Outcome X) (es : Handed) (token : ℕ) (says : X → Single) (make : X → Body)
+      → ((a : X) → unplaced (single_frame token (says a)) ≡ body_located i body (make a))
+      → and_then (single n id (λ c. and_then (means c) (λ a. Ok (says a))) es) (λ s. Ok (unplaced (single_frame token s)))
       ≡ located i body (and_then (single n id means es) (λ a. Ok (make a)))
   one_element n id means es token says make none =
-      ap (λ (o : Placed Single). unplaced (single_reading token o)) (Singling.made n id means says es) ∙ by (single n id means es)
+      ap (λ (o : Placed Single). and_then o (λ s. Ok (unplaced (single_frame token s)))) (Singling.made n id means says es) ∙ by (single n id means es)
     where
-      by : (o : Placed _) → unplaced (single_reading token (and_then o (λ a. Ok (says a)))) ≡ located i body (and_then o (λ a. Ok (make a)))
+      by : (o : Placed _) → and_then (and_then o (λ a. Ok (says a))) (λ s. Ok (unplaced (single_frame token s))) ≡ located i body (and_then o (λ a. Ok (make a)))
       by (Err r) = refl
-      by (Ok a) = none a
+      by (Ok a) = ap Ok (none a)
+
+  pub found_alone : (k : Singles.Kind) (token : ℕ) {o : Placed Single} → o ≡ single (fields_before k) (id_of k) (contents_mean k) (handed_in (drop (fields_before k) body))
+      → and_then o (λ s. Ok (unplaced (single_frame token s))) ≡ located i body (after_opening body (single_opening k token))
+  found_alone k token e = ap (λ (o : Placed Single). and_then o (λ s. Ok (unplaced (single_frame token s)))) e ∙ by k
+    where
+      by : (k : Singles.Kind)
+          → and_then (single (fields_before k) (id_of k) (contents_mean k) (handed_in (drop (fields_before k) body))) (λ s. Ok (unplaced (single_frame token s)))
+          ≡ located i body (after_opening body (single_opening k token))
+      by Singles.Kind.TpcRequest =
+          one_element fixed_fields 34 tpc_request_means (handed_in (drop fixed_fields body)) token (λ u. Single.TpcRequest) (λ u. tpc_request token) (λ u. refl)
+      by Singles.Kind.TpcReport =
+          one_element fixed_fields 35 tpc_report_means (handed_in (drop fixed_fields body)) token Single.TpcReport (tpc_report token) (λ t. refl)
+      by Singles.Kind.ChannelSwitch =
+          one_element switch_fixed_fields 37 switch_means (handed_in (drop switch_fixed_fields body)) token Single.ChannelSwitch switch (λ s. refl)
 
   -- a body of measurement elements has those of its survey
   module _ (token : ℕ) where
@@ -69,31 +95,31 @@ module _ (body : List ℕ) (i : ℕ) where
     made Measurements.Kind.Requests xs = requests token xs
     made Measurements.Kind.Reports xs = reports token xs
 
-    of_kind_lem : (k : Measurements.Kind) {o : Placed (List (Measurement k))} → measurements_in (sort_of k) (drop fixed_fields body) ≡ o
-        → located i body (and_then o (λ xs. Ok (made k xs))) ≡ located i body (after_opening body (with (sort_of k).action token))
+    after : (k : Measurements.Kind)
+        → and_then (measurements_in (sort_of k) (drop fixed_fields body)) (λ xs. Ok (made k xs)) ≡ after_opening body (Opening.Token (sort_of k).action token)
     unfolding made
-    of_kind_lem Measurements.Kind.Requests e = ap (λ (o : Placed (List Request)). located i body (and_then o (λ xs. Ok (requests token xs)))) (sym e)
-    of_kind_lem Measurements.Kind.Reports e = ap (λ (o : Placed (List Report)). located i body (and_then o (λ xs. Ok (reports token xs)))) (sym e)
+    after Measurements.Kind.Requests = refl
+    after Measurements.Kind.Reports = refl
 
-    pub measured_refused : (k : Measurements.Kind) {r : Fault} → Err r ≡ measurements_in (sort_of k) (drop fixed_fields body)
-        → unplaced (Err r) ≡ located i body (after_opening body (with (sort_of k).action token))
-    measured_refused k e = of_kind_lem k (sym e)
-
-    found : (k : Measurements.Kind) (xs : List (Measurement k)) → placed k token (length xs) (place_in i body) ≡ located i body (Ok (made k xs))
+    pub measured : (k : Measurements.Kind) (t : ℕ) {o : Placed Surveyed} → o ≡ surveyed (sort_of k) i t body
+        → and_then o (λ v. Ok (placed k token v.count v.place)) ≡ located i body (after_opening body (Opening.Token (sort_of k).action token))
     unfolding made
-    found Measurements.Kind.Requests xs = refl
-    found Measurements.Kind.Reports xs = refl
-
-    pub measured : (k : Measurements.Kind) (t : ℕ) (xs : List (Measurement k)) {v : Surveyed} → measurements_in (sort_of k) (drop fixed_fields body) ≡ Ok xs
-        → v ≡ surveyed_as (sort_of k) i t body (Ok xs)
-        → placed k token v.count v.place ≡ located i body (after_opening body (with (sort_of k).action token))
-    measured k t xs e l = ap (λ (v : Surveyed). placed k token v.count v.place) l ∙ found k xs ∙ of_kind_lem k e
+    measured k t e =
+        ap (λ (o : Placed Surveyed). and_then o (λ v. Ok (placed k token v.count v.place))) e
+        ∙ by k (measurements_in (sort_of k) (drop fixed_fields body))
+        ∙ ap (located i body) (after k)
+      where
+        by : (k : Measurements.Kind) (o : Placed (List (Measurement k)))
+            → and_then (surveyed_as (sort_of k) i t body o) (λ v. Ok (placed k token v.count v.place)) ≡ located i body (and_then o (λ xs. Ok (made k xs)))
+        by k (Err x) = refl
+        by Measurements.Kind.Requests (Ok xs) = refl
+        by Measurements.Kind.Reports (Ok xs) = refl
 
   -- ---- what is read at a place
 
-  at_place : {A : Type 0} (s : Sort A) {o : Outcome A} (p : Place) → Reads s body o p → (PlaceWithin body p) × (means_at s.means body p ≡ o)
-  at_place s Place.Absent r = (tt, sym r)
-  at_place s (Place.Contents start stop) r = ((r.0, r.1), r.2)
+  at_place : {A : Type 0} (s : Sort A) {o : Outcome A} (p : Option Contents) → Reads s body o p → (PlaceWithin body p) × (means_at s.means body p ≡ o)
+  at_place s None r = (tt, sym r)
+  at_place s (Some c) r = ((r.0, r.1), r.2)
 
   at_index : {A : Type 0} (s : Sort A) (xs : List A) → measurements_in s (drop fixed_fields body) ≡ Ok xs
       → (PlaceWithin body (place_in i body)) × (means_at s.means body (place_in i body) ≡ nth i xs)
@@ -103,86 +129,100 @@ module _ (body : List ℕ) (i : ℕ) where
   pub record There (l : Located) (request : Outcome Request) (report : Outcome Report) : Type 0 where
     pub request_within : PlaceWithin body l.request
     pub report_within : PlaceWithin body l.report
-    pub request_is : read_there request_means body l.reading l.request ≡ request
-    pub report_is : read_there report_means body l.reading l.report ≡ report
+    pub request_is : means_at request_means body l.request ≡ request
+    pub report_is : means_at report_means body l.report ≡ report
 
-  there_by : (o : Placed Body) → action_means body ≡ o → There (located i body o) (and_then (without_place o) (request_in i)) (and_then (without_place o) (report_in i))
-  there_by (Err r) e = record { request_within = tt; report_within = tt; request_is = refl; report_is = refl }
-  there_by (Ok (requests t rs)) e =
+  -- with no places there is no element
+  nothing_there : (f : Frame) → There (unplaced f) (Err Refusal.Impossible) (Err Refusal.Impossible)
+  nothing_there f = record { request_within = tt; report_within = tt; request_is = refl; report_is = refl }
+
+  in_body : (b : Body) → action_means body ≡ Ok b → There (body_located i body b) (request_in i b) (report_in i b)
+  in_body (requests t rs) e =
       let h = parts body (requests t rs) e in
       let p = at_index request_sort rs (ap (λ (x : List ℕ). measurements_in request_sort (drop fixed_fields x)) h.front ∙ h.holds.1) in
       record { request_within = p.0; report_within = tt; request_is = p.1; report_is = refl }
-  there_by (Ok (reports t rs)) e =
+  in_body (reports t rs) e =
       let h = parts body (reports t rs) e in
       let p = at_index report_sort rs (ap (λ (x : List ℕ). measurements_in report_sort (drop fixed_fields x)) h.front ∙ h.holds) in
       record { request_within = tt; report_within = p.0; request_is = refl; report_is = p.1 }
-  there_by (Ok (tpc_request t)) e = record { request_within = tt; report_within = tt; request_is = refl; report_is = refl }
-  there_by (Ok (tpc_report t r)) e = record { request_within = tt; report_within = tt; request_is = refl; report_is = refl }
-  there_by (Ok (switch s)) e = record { request_within = tt; report_within = tt; request_is = refl; report_is = refl }
+  in_body (tpc_request t) e = nothing_there _
+  in_body (tpc_report t r) e = nothing_there _
+  in_body (switch s) e = nothing_there _
 
-  pub in_body : There (located i body (action_means body)) (and_then (without_place (action_means body)) (request_in i)) (and_then (without_place (action_means body)) (report_in i))
-  in_body = there_by (action_means body) refl
+  -- what was found in an action body: its places lie in it
+  pub request_inside : {l : Located} → Ok l ≡ located i body (action_means body) → PlaceWithin body l.request
+  request_inside {l} e =
+      let p = followed (action_means body) _ l (sym e) in
+      let same : body_located i body p.0 ≡ l = cc p.2 in
+      subst (λ (x : Located). PlaceWithin body x.request) same (in_body p.0 p.1).request_within
+
+  abbrev with_request : Located → Placed Asked
+  with_request l = Ok (record { frame = l.frame; request = means_at request_means body l.request })
+
+  -- and the request there
+  pub asked : {o : Placed Located} → o ≡ located i body (action_means body) → and_then o with_request ≡ asked_of i (action_means body)
+  asked e = ap (λ (o : Placed Located). and_then o with_request) e ∙ by (action_means body) refl
+    where
+      by : (o : Placed Body) → action_means body ≡ o → and_then (located i body o) with_request ≡ asked_of i o
+      by (Err x) g = refl
+      by (Ok (requests t rs)) g = ap (λ (q : Outcome Request). Ok (record { frame = Frame.MeasurementRequest t (length rs); request = q })) (in_body (requests t rs) g).request_is
+      by (Ok (reports t rs)) g = refl
+      by (Ok (tpc_request t)) g = refl
+      by (Ok (tpc_report t r)) g = refl
+      by (Ok (switch s)) g = refl
+
+  -- the request alone
+  pub asked_request : (o : Placed Body) {p : Placed Asked} → p ≡ asked_of i o → and_then (without_place p) (λ a. a.request) ≡ and_then (without_place o) (request_in i)
+  asked_request o e = ap (λ (p : Placed Asked). and_then (without_place p) (λ a. a.request)) e ∙ by o
+    where
+      by : (o : Placed Body) → and_then (without_place (asked_of i o)) (λ a. a.request) ≡ and_then (without_place o) (request_in i)
+      by (Err x) = refl
+      by (Ok b) = refl
 
   -- ---- in a body of any subtype, with the header before it
 
-  pub of_action : (o : Placed Body) {l : Located} → l ≡ located i body o
-      → record { reading = reading_past header_length l.reading; request = l.request; report = l.report }
-      ≡ located_in i body (placed_past header_length (and_then o (λ a. Ok (action a))))
-  of_action o e = ap (λ (x : Located). record { reading = reading_past header_length x.reading; request = x.request; report = x.report }) e ∙ by o
+  pub of_action : (o : Placed Body) {p : Placed Located} → p ≡ located i body o
+      → placed_past header_length p ≡ located_in i body (placed_past header_length (and_then o (λ a. Ok (action a))))
+  of_action o e = ap (placed_past header_length) e ∙ by o
     where
-      by : (o : Placed Body)
-          → record { reading = reading_past header_length (located i body o).reading; request = (located i body o).request; report = (located i body o).report }
-          ≡ located_in i body (placed_past header_length (and_then o (λ a. Ok (action a))))
+      by : (o : Placed Body) → placed_past header_length (located i body o) ≡ located_in i body (placed_past header_length (and_then o (λ a. Ok (action a))))
       by (Err x) = refl
-      by (Ok (requests t rs)) = refl
-      by (Ok (reports t rs)) = refl
-      by (Ok (tpc_request t)) = refl
-      by (Ok (tpc_report t r)) = refl
-      by (Ok (switch s)) = refl
+      by (Ok b) = refl
 
-  pub of_notice : (b : ℕ) (probe : Bool) → unplaced (frame_laid (sent false (placed_past header_length (kind_of b (notice_subtype probe) body)))).reading
-      ≡ located_in i body (placed_past header_length (kind_of b (notice_subtype probe) body))
-  of_notice b true = by (beacon_means b body)
+  pub of_notice : (b : ℕ) (probe : Bool) {o : Placed Received} → o ≡ frame_laid (sent false (placed_past header_length (kind_of b (notice_subtype probe) body)))
+      → and_then o (λ v. Ok (unplaced v.frame)) ≡ located_in i body (placed_past header_length (kind_of b (notice_subtype probe) body))
+  of_notice b probe e = ap (λ (o : Placed Received). and_then o (λ v. Ok (unplaced v.frame))) e ∙ by probe
     where
-      by : (o : Placed Told) → unplaced (frame_laid (sent false (placed_past header_length (and_then o (λ t. Ok (probe_response t)))))).reading
+      by_probe : (o : Placed Told)
+          → and_then (frame_laid (sent false (placed_past header_length (and_then o (λ t. Ok (probe_response t)))))) (λ v. Ok (unplaced v.frame))
           ≡ located_in i body (placed_past header_length (and_then o (λ t. Ok (probe_response t))))
-      by (Err x) = refl
-      by (Ok t) = refl
-  of_notice b false = by (beacon_means b body)
-    where
-      by : (o : Placed Told) → unplaced (frame_laid (sent false (placed_past header_length (and_then o (λ t. Ok (beacon t)))))).reading
+      by_probe (Err x) = refl
+      by_probe (Ok t) = refl
+
+      by_beacon : (o : Placed Told)
+          → and_then (frame_laid (sent false (placed_past header_length (and_then o (λ t. Ok (beacon t)))))) (λ v. Ok (unplaced v.frame))
           ≡ located_in i body (placed_past header_length (and_then o (λ t. Ok (beacon t))))
-      by (Err x) = refl
-      by (Ok t) = refl
+      by_beacon (Err x) = refl
+      by_beacon (Ok t) = refl
 
-  module _ (b : ℕ) where
-    abbrev InKind : Placed Kind → Type 0
-    InKind o = There (located_in i body (placed_past header_length o)) (and_then (without_place o) (of_kind request_in i)) (and_then (without_place o) (of_kind report_in i))
+      by : (p : Bool)
+          → and_then (frame_laid (sent false (placed_past header_length (kind_of b (notice_subtype p) body)))) (λ v. Ok (unplaced v.frame))
+          ≡ located_in i body (placed_past header_length (kind_of b (notice_subtype p) body))
+      by true = by_probe (beacon_means b body)
+      by false = by_beacon (beacon_means b body)
 
-    of_body : (o : Placed Body) → There (located i body o) (and_then (without_place o) (request_in i)) (and_then (without_place o) (report_in i)) → InKind (and_then o (λ a. Ok (action a)))
-    of_body (Err x) t = record { request_within = tt; report_within = tt; request_is = t.request_is; report_is = t.report_is }
-    of_body (Ok x) t = t
-
-    pub in_kind : (t : Subtype) → InKind (kind_of b t body)
-    in_kind Subtype.Action = of_body (action_means body) in_body
-    in_kind Subtype.Beacon = by (beacon_means b body)
-      where
-        by : (o : Placed Told) → InKind (and_then o (λ t. Ok (beacon t)))
-        by (Err x) = record { request_within = tt; report_within = tt; request_is = refl; report_is = refl }
-        by (Ok t) = record { request_within = tt; report_within = tt; request_is = refl; report_is = refl }
-    in_kind Subtype.ProbeResponse = by (beacon_means b body)
-      where
-        by : (o : Placed Told) → InKind (and_then o (λ t. Ok (probe_response t)))
-        by (Err x) = record { request_within = tt; report_within = tt; request_is = refl; report_is = refl }
-        by (Ok t) = record { request_within = tt; report_within = tt; request_is = refl; report_is = refl }
+  -- the kind of a body says what is found there
+  in_kind : (b : ℕ) (t : Subtype) (k : Kind) → kind_of b t body ≡ Ok k → There (kind_located i body k) (of_kind request_in i k) (of_kind report_in i k)
+  in_kind b t (beacon n) e = nothing_there _
+  in_kind b t (probe_response n) e = nothing_there _
+  in_kind b Subtype.Action (action a) e =
+      let p = followed (action_means body) _ (action a) e in
+      let same : p.0 ≡ a = cc p.2 in
+      in_body a (p.1 ∙ ap Ok same)
+  in_kind b Subtype.Beacon (action a) e = let p = followed (beacon_means b body) _ (action a) e in absurd (cc p.2)
+  in_kind b Subtype.ProbeResponse (action a) e = let p = followed (beacon_means b body) _ (action a) e in absurd (cc p.2)
 
 -- ---- in a frame
-
-of_kinds : {A : Type 0} (element_in : ℕ → Body → Outcome A) (i : ℕ) (to_all : Bool) (o : Placed Kind)
-    → and_then (without_place o) (of_kind element_in i) ≡ element_of element_in i (sent to_all (placed_past header_length o))
-unfolding element_of
-of_kinds element_in i to_all (Err x) = refl
-of_kinds element_in i to_all (Ok k) = refl
 
 module _ (own ap' : List ℕ) (b : ℕ) (f : List ℕ) where
   abbrev kind_in : Head → Placed Kind
@@ -193,28 +233,60 @@ module _ (own ap' : List ℕ) (b : ℕ) (f : List ℕ) where
   unfolding kind_means
   by_header o e = ap (λ (x : Outcome Head). and_then (nowhere x) kind_in) e
 
-  in_frame : (i : ℕ) → There (body_of f) i (located_in i (body_of f) (kind_means own ap' b f)) (element_of request_in i (frame_means own ap' b f)) (element_of report_in i (frame_means own ap' b f))
+  -- its elements are those of its kind
+  by_kind : {A : Type 0} (element_in : ℕ → Body → Outcome A) (i : ℕ)
+      → and_then (without_place (kind_means own ap' b f)) (of_kind element_in i) ≡ element_of element_in i (frame_means own ap' b f)
   unfolding kind_means frame_means element_of
-  in_frame i = by (header_means Cell.Ap own ap' f)
+  by_kind element_in i = by (header_means Cell.Ap own ap' f)
     where
+      by_body : (to_all : Bool) (o : Placed Kind)
+          → and_then (without_place o) (of_kind element_in i) ≡ and_then (without_place (sent to_all o)) (λ s. of_kind element_in i s.kind)
+      by_body to_all (Err x) = refl
+      by_body to_all (Ok k) = refl
+
       by : (o : Outcome Head)
-          → There (body_of f) i (located_in i (body_of f) (and_then (nowhere o) kind_in))
-          (element_of request_in i (and_then (nowhere o) (λ h. sent h.to_all (kind_in h))))
-          (element_of report_in i (and_then (nowhere o) (λ h. sent h.to_all (kind_in h))))
-      by (Err r) = record { request_within = tt; report_within = tt; request_is = refl; report_is = refl }
-      by (Ok h) =
-          let t = in_kind (body_of f) i b h.subtype in
-          let k = kind_of b h.subtype (body_of f) in
+          → and_then (without_place (and_then (nowhere o) kind_in)) (of_kind element_in i)
+          ≡ and_then (without_place (and_then (nowhere o) (λ h. sent h.to_all (kind_in h)))) (λ s. of_kind element_in i s.kind)
+      by (Err r) = refl
+      by (Ok h) = by_body h.to_all (kind_in h)
+
+  -- a frame that is refused has none
+  pub refused_there : {A : Type 0} (element_in : ℕ → Body → Outcome A) (i : ℕ) {x : Fault} → Err x ≡ located_in i (body_of f) (kind_means own ap' b f)
+      → Err x.refusal ≡ element_of element_in i (frame_means own ap' b f)
+  refused_there element_in i {x} e = by (kind_means own ap' b f) e ∙ by_kind element_in i
+    where
+      by : (o : Placed Kind) → Err x ≡ located_in i (body_of f) o → Err x.refusal ≡ and_then (without_place o) (of_kind element_in i)
+      by (Err y) g = let same : x ≡ y = cc in ap (λ (z : Fault). Err z.refusal) same
+      by (Ok k) g = absurd (never g)
+
+  -- what was found in the frame, and its body as it is lent
+  pub found_there : (i : ℕ) {body : List ℕ} {l : Located} → body ≡ body_of f → Ok l ≡ located_in i (body_of f) (kind_means own ap' b f)
+      → There body i l (element_of request_in i (frame_means own ap' b f)) (element_of report_in i (frame_means own ap' b f))
+  unfolding kind_means
+  found_there i {body} {l} e g =
+      subst (λ (x : List ℕ). There x i l (element_of request_in i (frame_means own ap' b f)) (element_of report_in i (frame_means own ap' b f))) (sym e) inside
+    where
+      -- the kind that was found
+      kind : (k : Kind) × (kind_means own ap' b f ≡ Ok k) × (◌≡◌ {A = Placed Located} (Ok (kind_located i (body_of f) k)) (Ok l))
+      kind = followed (kind_means own ap' b f) _ l (sym g)
+
+      of_body : There (body_of f) i (kind_located i (body_of f) kind.0) (of_kind request_in i kind.0) (of_kind report_in i kind.0)
+      of_body =
+          let p = followed (nowhere (header_means Cell.Ap own ap' f)) kind_in kind.0 kind.1 in
+          in_kind (body_of f) i b p.0.subtype kind.0 (past_value header_length (kind_of b p.0.subtype (body_of f)) p.2)
+
+      element : {A : Type 0} (element_in : ℕ → Body → Outcome A) → of_kind element_in i kind.0 ≡ element_of element_in i (frame_means own ap' b f)
+      element element_in = ap (λ (o : Placed Kind). and_then (without_place o) (of_kind element_in i)) (sym kind.1) ∙ by_kind element_in i
+
+      same : kind_located i (body_of f) kind.0 ≡ l
+      same = cc kind.2
+
+      inside : There (body_of f) i l (element_of request_in i (frame_means own ap' b f)) (element_of report_in i (frame_means own ap' b f))
+      inside =
+          let t = subst (λ (x : Located). There (body_of f) i x (of_kind request_in i kind.0) (of_kind report_in i kind.0)) same of_body in
           record {
             request_within = t.request_within;
             report_within = t.report_within;
-            request_is = t.request_is ∙ of_kinds request_in i h.to_all k;
-            report_is = t.report_is ∙ of_kinds report_in i h.to_all k;
+            request_is = t.request_is ∙ element request_in;
+            report_is = t.report_is ∙ element report_in;
           }
-
-  -- what was found in the frame, and its body as it is lent
-  pub found_there : (i : ℕ) {body : List ℕ} {l : Located} → body ≡ body_of f → l ≡ located_in i (body_of f) (kind_means own ap' b f)
-      → There body i l (element_of request_in i (frame_means own ap' b f)) (element_of report_in i (frame_means own ap' b f))
-  found_there i e g =
-      subst₂ (λ (x : List ℕ) (l : Located). There x i l (element_of request_in i (frame_means own ap' b f)) (element_of report_in i (frame_means own ap' b f)))
-      (sym e) (sym g) (in_frame i)

@@ -1,7 +1,6 @@
 pub mod ActionParts
 pub mod ActionTrip
 pub mod Allowing
-pub mod Answers
 pub mod BodyFaults
 pub mod FromAp
 pub mod Hearings

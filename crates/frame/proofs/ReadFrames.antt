@@ -1,16 +1,13 @@
 -- From a body's outcome to the frame that is handed out. Assumes nothing.
-use Rattle.std.specs.Prelude.{Ok, Err}
+use Rattle.std.specs.Prelude.{Ok, Err, None}
 use mathlib.Core.Path.{◌≡◌, refl, sym, ap, ◌∙◌}
 use mathlib.Core.Bool.{Bool, true, false}
 use mathlib.Core.List.{List, []}
 use Prim.Native.Nat.{ℕ}
-use native.Mathlib.Omega.{arith}
 use Rattle.answer.specs.Checks.{Outcome, and_then}
-use Rattle.answer.specs.Faults.{Placed, nowhere, fault_past, placed_past}
-use Rattle.answer.specs.declared.Fault.{Fault}
-use Rattle.answer.proofs.Judged.{never}
+use Rattle.answer.specs.Faults.{Placed, nowhere, placed_past}
 use Rattle.beacon.specs.Beacons.{Told, beacon_means}
-use Rattle.beacon.specs.IbssBeacons.{absent, besides, told_where}
+use Rattle.beacon.specs.IbssBeacons.{besides, told_where}
 use Rattle.beacon.specs.Laid.{laid}
 use Rattle.beacon.specs.declared.Heard.{Heard}
 use Rattle.header.specs.Headers.{header_length, body_of, header_means}
@@ -19,46 +16,41 @@ use Rattle.header.specs.declared.address.Cell.{Cell}
 use Rattle.header.specs.declared.management.Subtype.{Subtype}
 use Rattle.frame.specs.Actions.{Body}
 use Rattle.frame.specs.Frames.{beacon, probe_response, action, kind_of, sent, frame_means}
-use Rattle.frame.specs.CodeTerms.Located.{reading_past}
 use Rattle.frame.specs.CodeTerms.Notices.{notice_frame}
-use Rattle.frame.specs.Laid.{action_frame, body_frame, received, frame_laid, notice_subtype}
+use Rattle.frame.specs.Laid.{body_frame, received, frame_laid, notice_subtype}
 use Rattle.frame.specs.declared.Frame.{Frame}
 
 -- ---- beacons and probe responses
 
-pub notice_read : (probe : Bool) (b : ℕ) (body : List ℕ) (to_all : Bool) {v : Heard} → v ≡ laid 0 (told_where false b body)
-    → notice_frame probe to_all v ≡ frame_laid (sent to_all (placed_past header_length (kind_of b (notice_subtype probe) body)))
-notice_read true b body to_all e = ap (notice_frame true to_all) e ∙ by (beacon_means b body)
+pub notice_read : (probe : Bool) (b : ℕ) (body : List ℕ) (to_all : Bool) {o : Placed Heard} → o ≡ laid 0 (told_where false b body)
+    → and_then (placed_past header_length o) (λ v. Ok (notice_frame probe to_all v)) ≡ frame_laid (sent to_all (placed_past header_length (kind_of b (notice_subtype probe) body)))
+notice_read true b body to_all e = ap (λ (o : Placed Heard). and_then (placed_past header_length o) (λ v. Ok (notice_frame true to_all v))) e ∙ by (beacon_means b body)
   where
-    by : (o : Placed Told) → notice_frame true to_all (laid 0 (besides absent o)) ≡ frame_laid (sent to_all (placed_past header_length (and_then o (λ t. Ok (probe_response t)))))
+    by : (o : Placed Told)
+        → and_then (placed_past header_length (laid 0 (besides None o))) (λ v. Ok (notice_frame true to_all v))
+        ≡ frame_laid (sent to_all (placed_past header_length (and_then o (λ t. Ok (probe_response t)))))
     by (Err x) = refl
     by (Ok t) = refl
-notice_read false b body to_all e = ap (notice_frame false to_all) e ∙ by (beacon_means b body)
+notice_read false b body to_all e = ap (λ (o : Placed Heard). and_then (placed_past header_length o) (λ v. Ok (notice_frame false to_all v))) e ∙ by (beacon_means b body)
   where
-    by : (o : Placed Told) → notice_frame false to_all (laid 0 (besides absent o)) ≡ frame_laid (sent to_all (placed_past header_length (and_then o (λ t. Ok (beacon t)))))
+    by : (o : Placed Told)
+        → and_then (placed_past header_length (laid 0 (besides None o))) (λ v. Ok (notice_frame false to_all v))
+        ≡ frame_laid (sent to_all (placed_past header_length (and_then o (λ t. Ok (beacon t)))))
     by (Err x) = refl
     by (Ok t) = refl
 
 -- ---- action frames
 
 module _ (to_all : Bool) where
-  pub action_refused : (o : Placed Body) (r : Placed Frame) (x : Fault) → r ≡ body_frame o → reading_past header_length r ≡ Err x
-      → received (Err x) false [] ≡ frame_laid (sent to_all (placed_past header_length (and_then o (λ a. Ok (action a)))))
-  action_refused (Err y) (Err z) x e h =
-      let same : z ≡ y = cc in
-      ap (λ (w : Placed Frame). received w false []) (sym h ∙ ap (λ (w : Fault). Err (fault_past header_length w)) same)
-  action_refused (Err y) (Ok f) x e h = absurd (never (sym e))
-  action_refused (Ok a) (Err z) x e h = absurd (never e)
-  action_refused (Ok a) (Ok f) x e h = absurd (let z : ◌≡◌ {A = ℕ} 0 1 = cc in omega arith)
-
-  pub action_read : (o : Placed Body) (r : Placed Frame) (f : Frame) → r ≡ body_frame o → reading_past header_length r ≡ Ok f
-      → received (Ok f) to_all [] ≡ frame_laid (sent to_all (placed_past header_length (and_then o (λ a. Ok (action a)))))
-  action_read (Err y) (Err z) f e h = absurd (let z : ◌≡◌ {A = ℕ} 0 1 = cc in omega arith)
-  action_read (Err y) (Ok g) f e h = absurd (never (sym e))
-  action_read (Ok a) (Err z) f e h = absurd (never e)
-  action_read (Ok a) (Ok g) f e h =
-      let same : g ≡ action_frame a = cc in
-      ap (λ (w : Placed Frame). received w to_all []) (sym h ∙ ap Ok same)
+  pub action_read : (o : Placed Body) {r : Placed Frame} → r ≡ body_frame o
+      → and_then (placed_past header_length r) (λ f. Ok (received f to_all [])) ≡ frame_laid (sent to_all (placed_past header_length (and_then o (λ a. Ok (action a)))))
+  action_read o e = ap (λ (r : Placed Frame). and_then (placed_past header_length r) (λ f. Ok (received f to_all []))) e ∙ by o
+    where
+      by : (o : Placed Body)
+          → and_then (placed_past header_length (body_frame o)) (λ f. Ok (received f to_all []))
+          ≡ frame_laid (sent to_all (placed_past header_length (and_then o (λ a. Ok (action a)))))
+      by (Err x) = refl
+      by (Ok a) = refl
 
 -- ---- after the header
 

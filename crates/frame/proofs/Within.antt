@@ -1,12 +1,11 @@
 -- A fault of a body, or of a frame, lies in it or at its end. Assumes nothing.
-use Rattle.std.specs.Prelude.{Ok, Err, Some, None, Option}
-use mathlib.Core.Path.{◌≡◌, refl, sym, ap, subst, ◌∙◌}
+use Rattle.std.specs.Prelude.{Ok, Err, Some, None, Option, IfOk}
+use mathlib.Core.Path.{◌≡◌, refl, sym, ap, subst}
 use mathlib.Core.Bool.{Bool, true, false}
 use mathlib.Core.List.{List}
 use Prim.Native.Nat.{ℕ, ◌+◌, ◌≤◌}
 use native.Mathlib.Omega.{arith}
 use lib.ListN.{length, length-drop}
-use Rattle.answer.proofs.Judged.{never}
 use Rattle.answer.proofs.Placing.{nowhere_value}
 use Rattle.answer.proofs.Refusing.{Refuses, by_value, by_refusal, by_then}
 use Rattle.answer.specs.Checks.{Outcome, and_then}
@@ -15,24 +14,21 @@ use Rattle.answer.specs.declared.Fault.{Fault}
 use Rattle.beacon.specs.Beacons.{beacon_means}
 use Rattle.beacon.specs.IbssBeacons.{ToldInIbss, ibss_beacon_means, told_where}
 use Rattle.beacon.specs.Laid.{laid}
-use Rattle.beacon.specs.declared.Heard.{Heard}
 use Rattle.header.proofs.Heard.{has_header, not_too_long}
 use Rattle.header.specs.Headers.{header_length, body_of, sa, header_means}
 use Rattle.header.specs.declared.Head.{Head}
 use Rattle.header.specs.declared.address.Cell.{Cell}
 use Rattle.header.specs.declared.management.Subtype.{Subtype}
 use Rattle.measurement_body.specs.Bodies.{longest_body}
-use Rattle.frame.specs.Actions.{Body, action_means}
-use Rattle.frame.specs.CodeTerms.Located.{OffsetWithin, ReadingWithin}
-use Rattle.frame.specs.CodeTerms.Notices.{VerdictWithin}
+use Rattle.frame.specs.Actions.{action_means}
+use Rattle.frame.specs.CodeTerms.Located.{OffsetWithin, located}
 use Rattle.frame.specs.Frames.{kind_of, frame_means}
 use Rattle.frame.specs.IbssFrames.{kind_in_ibss, ibss_frame_means}
 use Rattle.frame.specs.Laid.{body_frame}
 use Rattle.frame.proofs.BodyFaults.{action_faults, NoticeFaults, notice_faults, ibss_notice_faults}
-use Rattle.frame.specs.declared.Frame.{Frame}
 
 -- no further than so many octets
-abbrev Lies : ℕ → Fault → Type 0
+abbrev pub Lies : ℕ → Fault → Type 0
 Lies size x = OffsetWithin size x.offset
 
 -- of a body that has no more
@@ -56,12 +52,13 @@ module _ {size : ℕ} (body : List ℕ) (h : length body ≤ size) where
   told_lies true b = ibss_notice_faults (Lies size) b body notice_may
   told_lies false b = by_then (Lies size) (beacon_means b body) _ (notice_lies b) (λ t e. by_value (Lies size) _)
 
-  pub heard_within : (ibss : Bool) (b i : ℕ) (v : Heard) → v ≡ laid i (told_where ibss b body) → VerdictWithin size v.verdict
-  heard_within ibss b i v e = subst (λ (x : Heard). VerdictWithin size x.verdict) (sym e) (by (told_where ibss b body) (told_lies ibss b))
+  -- as `beacon::read` hands it out
+  pub heard_within : (ibss : Bool) (b i : ℕ) → Refuses (Lies size) (laid i (told_where ibss b body))
+  heard_within ibss b i = by (told_where ibss b body) (told_lies ibss b)
     where
-      by : (o : Placed ToldInIbss) → Refuses (Lies size) o → VerdictWithin size (laid i o).verdict
-      by (Err x) h = h x refl
-      by (Ok t) h = tt
+      by : (o : Placed ToldInIbss) → Refuses (Lies size) o → Refuses (Lies size) (laid i o)
+      by (Err x) h = by_refusal (Lies size) (h x refl)
+      by (Ok t) h = by_value (Lies size) _
 
   action_lies : Refuses (Lies size) (action_means body)
   action_lies =
@@ -83,19 +80,24 @@ module _ {size : ℕ} (body : List ℕ) (h : length body ≤ size) where
             };
       })
 
-  pub reading_within : (r : Placed Frame) → r ≡ body_frame (action_means body) → ReadingWithin size r
-  reading_within r e = by (action_means body) refl r e
-    where
-      by : (o : Placed Body) → action_means body ≡ o → (r : Placed Frame) → r ≡ body_frame o → ReadingWithin size r
-      by (Err x) g (Err y) e = let same : x ≡ y = cc in action_lies y (g ∙ ap Err same)
-      by (Err x) g (Ok f) e = tt
-      by (Ok a) g (Err y) e = absurd (never e)
-      by (Ok a) g (Ok f) e = tt
+  -- as `read_body` and `read_at` hand it out
+  pub body_within : Refuses (Lies size) (body_frame (action_means body))
+  body_within = by_then (Lies size) (action_means body) _ action_lies (λ a e. by_value (Lies size) _)
+
+  pub located_within : (i : ℕ) → Refuses (Lies size) (located i body (action_means body))
+  located_within i = by_then (Lies size) (action_means body) _ action_lies (λ a e. by_value (Lies size) _)
 
 -- the body of a frame with a header that is heard is no longer than the longest
 pub body_short : (cell : Cell) (own bss f : List ℕ) (h : Head) → Ok h ≡ header_means cell own bss f → {body : List ℕ} → body ≡ body_of f → length body ≤ longest_body
 body_short cell own bss f h e {body} g =
     omega (arith, ap length g, length-drop header_length f, has_header cell own bss f h (sym e), not_too_long cell own bss f h (sym e))
+
+pub head_short : (cell : Cell) (own bss f : List ℕ) {o : Placed Head} → o ≡ nowhere (header_means cell own bss f) → IfOk o (λ h. length (body_of f) ≤ longest_body)
+head_short cell own bss f {o} e = by o e
+  where
+    by : (o : Placed Head) → o ≡ nowhere (header_means cell own bss f) → IfOk o (λ h. length (body_of f) ≤ longest_body)
+    by (Err x) g = tt
+    by (Ok h) g = body_short cell own bss f h (sym (nowhere_value (header_means cell own bss f) (sym g))) refl
 
 -- ---- a frame's
 

@@ -1,5 +1,5 @@
 -- What the definitions say of single frames: one of each kind is accepted, and records are not mixed up. Assumes nothing.
-use Rattle.std.specs.Prelude.{Ok, Err}
+use Rattle.std.specs.Prelude.{Ok, Err, Some, None}
 use mathlib.Core.Path.{◌≡◌, refl, sym, ap, ◌∙◌}
 use mathlib.Core.Bool.{true, false}
 use mathlib.Core.List.{List, [], ◌∷◌, ◌++◌}
@@ -12,7 +12,7 @@ use Rattle.answer.specs.Checks.{checked}
 use Rattle.answer.specs.Faults.{fault_at, fault_nowhere, Placed}
 use Rattle.answer.specs.declared.Refusal.{Refusal}
 use Rattle.beacon.specs.Beacons.{tells, element_means, takes, says, beacon_means}
-use Rattle.beacon.specs.IbssBeacons.{absent, is, takes_in_ibss, ibss_beacon_means}
+use Rattle.beacon.specs.IbssBeacons.{takes_in_ibss, ibss_beacon_means}
 use Rattle.beacon.specs.Notices.{elementless}
 use Rattle.element.specs.ChannelSwitch.{switch_means}
 use Rattle.octets.specs.Elements.{fixed}
@@ -197,7 +197,7 @@ pub names_owner : heard_in_ibss (sent_by member 128 (naming 3))
     (record {
       sender = member;
       sent = record { to_all = false; kind = beacon (tells (elementless 0 1) []) };
-      dfs = is (record { owner = master; recovery = 3; pairs = [] });
+      dfs = Some (record { owner = master; recovery = 3; pairs = [] });
     })
 unfolding ibss_frame_means header_means management_means address_means foreign_header foreign_address to_all checked ibss_beacon_means says takes_in_ibss elements_in elements_after dfs_means
 names_owner = refl
@@ -208,7 +208,7 @@ no_interval = refl
 
 -- in a probe response it is skipped
 pub probe_skips : heard_in_ibss (sent_by member 80 (naming 0))
-    ≡ Ok (record { sender = member; sent = record { to_all = false; kind = probe_response (tells (elementless 0 1) []) }; dfs = absent })
+    ≡ Ok (record { sender = member; sent = record { to_all = false; kind = probe_response (tells (elementless 0 1) []) }; dfs = None })
 unfolding ibss_frame_means header_means management_means address_means foreign_header foreign_address to_all checked beacon_means says takes element_means elements_in elements_after
 probe_skips = refl
 

@@ -2,7 +2,8 @@
 -- and 3 (one 35); action 4 has no token and one 37), and the octets of each. Vendors' elements after the first are passed over (02, Four). Places are counted from
 -- the body's first octet.
 use Rattle.std.specs.Prelude.{Bool, true, not, ◌&&◌, List, ℕ, eqb, drop, Ok}
-use Rattle.action.specs.Openings.{fixed_fields, switch_fixed_fields, Opens, switching, with, opens_with}
+use Rattle.action.specs.Openings.{fixed_fields, switch_fixed_fields, opens_with}
+use Rattle.action.specs.declared.Opening.{Opening}
 use Rattle.single_body.specs.Singles.{single, tpc_request_body, tpc_report_body, switch_body}
 use Rattle.answer.specs.Checks.{pick, and_then}
 use Rattle.answer.specs.Faults.{Placed}
@@ -31,9 +32,9 @@ pub data Body : Type 0 where
   switch : ChannelSwitch → Body
 
 -- what follows the fixed fields
-abbrev pub after_opening : List ℕ → Opens → Placed Body
-after_opening body switching = and_then (single switch_fixed_fields 37 switch_means (handed_in (drop switch_fixed_fields body))) (λ s. Ok (switch s))
-after_opening body (with action token) =
+abbrev pub after_opening : List ℕ → Opening → Placed Body
+after_opening body Opening.Switch = and_then (single switch_fixed_fields 37 switch_means (handed_in (drop switch_fixed_fields body))) (λ s. Ok (switch s))
+after_opening body (Opening.Token action token) =
     pick (eqb action 0) (and_then (measurements_in request_sort (drop fixed_fields body)) (λ rs. Ok (requests token rs)))
     (pick (eqb action 1) (and_then (measurements_in report_sort (drop fixed_fields body)) (λ rs. Ok (reports token rs)))
     (pick (eqb action 2) (and_then (single fixed_fields 34 tpc_request_means (handed_in (drop fixed_fields body))) (λ u. Ok (tpc_request token)))

@@ -1,12 +1,13 @@
--- What a station hears of a frame (01, "The station"): the verdict on it, what it may change of a station, and its Quiet elements. A beacon or a probe response replaces
+-- What a station hears of a frame (01, "The station"): its refusal, or what it may change of a station and its Quiet elements. A beacon or a probe response replaces
 -- all schedules and may have a Power Constraint and an announcement, a Channel Switch frame is an announcement, and the others change nothing.
-use Rattle.std.specs.Prelude.{Bool, true, false, Ok, Err, Some, None, Option}
+use Rattle.std.specs.Prelude.{Bool, true, false, Ok, Some, None, Option}
+use Rattle.answer.specs.Checks.{and_then}
 use Rattle.beacon.specs.declared.Notice.{Notice}
 use Rattle.frame.specs.declared.Frame.{Frame}
 use Rattle.frame.specs.declared.Received.{Received}
 use Rattle.frame.specs.declared.hearing.Change.{Change}
 use Rattle.frame.specs.declared.hearing.Hearing.{Hearing}
-use Rattle.answer.specs.Faults.{Placed, Verdict}
+use Rattle.answer.specs.Faults.{Placed}
 use Rattle.element.specs.declared.power_constraint.PowerConstraint.{PowerConstraint}
 use Rattle.element.specs.declared.channel_switch.ChannelSwitch.{ChannelSwitch}
 

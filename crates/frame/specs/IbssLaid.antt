@@ -1,8 +1,7 @@
--- A frame of an IBSS as the code hands it out. A refusal leaves one fixed value.
-use Rattle.std.specs.Prelude.{false, replicate, Ok, Err}
+-- A frame of an IBSS as the code hands it out. A frame that is refused has no sender, and names no owner.
+use Rattle.std.specs.Prelude.{replicate, None, Ok, Err, option_map}
 use Rattle.answer.specs.Faults.{Placed}
-use Rattle.beacon.specs.IbssBeacons.{absent, has_dfs}
-use Rattle.beacon.specs.Laid.{dfs_fields}
+use Rattle.element.specs.IbssDfs.{dfs_fields}
 use Rattle.frame.specs.IbssFrames.{SentInIbss}
 use Rattle.frame.specs.Laid.{frame_laid}
 use Rattle.frame.specs.declared.ibss.ReceivedInIbss.{ReceivedInIbss}

@@ -1,5 +1,5 @@
 -- A frame as the code hands it out: counts in place of lists, Quiet elements in slots beside it.
-use Rattle.std.specs.Prelude.{Bool, true, false, List, [], length, Ok, Err}
+use Rattle.std.specs.Prelude.{Bool, true, false, List, [], length, Ok}
 use Rattle.answer.specs.Checks.{and_then}
 use Rattle.answer.specs.Faults.{Placed}
 use Rattle.beacon.specs.Laid.{slots}

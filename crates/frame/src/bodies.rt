@@ -1,9 +1,9 @@
 // Action bodies: how they begin, then the elements of that action.
-ghost use Rattle.std.specs.Prelude.{◌≡◌, drop};
+ghost use Rattle.std.specs.Prelude.{◌≡◌, ℕ};
 ghost use Rattle.action.specs.declared.Opening.{Opening};
 ghost use Rattle.frame.specs.Actions.{after_opening, action_means};
 ghost use Rattle.frame.specs.CodeTerms.Located.{unplaced, placed, located};
-ghost use Rattle.frame.specs.CodeTerms.SingleFrames.{single_frame, single_located};
+ghost use Rattle.frame.specs.CodeTerms.SingleFrames.{single_frame, single_opening};
 ghost use Rattle.frame.specs.Laid.{body_frame};
 ghost use Rattle.measurement_body.specs.Kinds.{sort_of};
 ghost use Rattle.single_body.specs.Kinds.{contents_mean, id_of, fields_before};
@@ -12,10 +12,10 @@ ghost use Rattle.walk.specs.Handed.{handed_in};
 
 use crate::Frame;
 use action::Opening;
+use answer::Fault;
 use measurement_body::Kind;
 use single_body::Single;
 use walk::Contents;
-use answer::Fault;
 
 // A body that was read, and where the contents of its request or its report at an index lie: absent past the last, and in a body of
 // another kind.
@@ -76,13 +76,14 @@ fn single_frame(said: Single, token: u8) -> Frame
 
 // Actions 2, 3 and 4: one element. Action 4 has no token, so that the one given is not looked at.
 fn read_single(body: &[u8], kind: single_body::Kind, token: u8) -> Result<Located, Fault>
-    ensures { result ≡ single_located token (single (fields_before kind) (id_of kind) (contents_mean kind) (handed_in (drop (fields_before kind) body.now))) }
+    ensures { (index : ℕ) → result ≡ located index body.now (after_opening body.now (single_opening kind token)) }
 {
     let said = single_body::read(body, kind)?;
     Ok(unplaced(single_frame(said, token)))
 }
 
 // The body of an action frame, and the place of its measurement element at an index, in one walk.
+#[tactic(auto, unfolding(crate::specs::Actions::action_means), using(crate::proofs::Openings::last))]
 pub fn read_at(body: &[u8], index: usize) -> Result<Located, Fault>
     ensures { result ≡ located index body.now (action_means body.now) }
 {

@@ -12,10 +12,10 @@ ghost use Rattle.measurement_body.specs.Bodies.{longest_body};
 use crate::{BodyKind, Frame, places};
 use answer::Fault;
 use beacon::{NO_QUIET, Notice, QUIETS};
+use element::channel_switch::ChannelSwitch;
+use element::power_constraint::PowerConstraint;
 use element::quiet::Quiet;
 use header::Cell;
-use element::power_constraint::PowerConstraint;
-use element::channel_switch::ChannelSwitch;
 
 // Whether the Quiet elements of a frame replace all schedules, its Power Constraint, and its announcement.
 #[derive(Clone, Copy)]
@@ -93,11 +93,14 @@ fn hear_notice(body: &[u8], interval: u16) -> Result<Hearing, Fault>
 {
     match beacon::read(body, interval, false, 0) {
         Err(fault) => Err(places::fault_in_frame(fault)),
-        Ok(heard) => Ok(Hearing {
-            change: Change::by_notice(heard.notice),
-            quiets: heard.quiets,
-            count: heard.count,
-        }),
+        Ok(heard) => {
+            let quiets = heard.quiets;
+            Ok(Hearing {
+                change: Change::by_notice(heard.notice),
+                quiets,
+                count: heard.count,
+            })
+        }
     }
 }
 
@@ -114,10 +117,11 @@ fn hear_action(body: &[u8]) -> Result<Hearing, Fault>
 
 // What a station hears of a frame: what `read` would hand out of it, as a hearing. `own` is the station's address, `ap` its AP's, `interval` its beacon
 // interval.
+#[tactic(auto, unfolding(crate::specs::Frames::frame_means))]
 pub fn hear(frame: &[u8], own: [u8; 6], ap: [u8; 6], interval: u16) -> Result<Hearing, Fault>
     ensures { result ≡ hearing_of (frame_laid (frame_means own ap interval frame.now)) }
 {
-    let head = header::read(frame, Cell::Ap, own, ap).map_err(Fault::nowhere)?;
+    let head = places::read_head(frame, Cell::Ap, own, ap)?;
     let body = header::body(frame);
     match crate::body_kind(head.subtype) {
         BodyKind::Notice { probe: _ } => hear_notice(body, interval),

@@ -1,21 +1,19 @@
 // Frames as a station of an IBSS reads them (document 02, Five): document 01's, from any individual address, and the element 41 of a beacon beside them. In probe
 // responses element 41 is skipped.
-ghost use Rattle.std.specs.Prelude.{◌≡◌, ◌≤◌, length};
+ghost use Rattle.std.specs.Prelude.{◌≡◌, ◌≤◌, length, List, ℕ, None};
 ghost use Rattle.answer.specs.Faults.{placed_past};
-ghost use Rattle.frame.specs.CodeTerms.InIbss.{sent_by, heard_laid};
+ghost use Rattle.frame.specs.CodeTerms.InIbss.{heard_laid};
 ghost use Rattle.frame.specs.IbssFrames.{kind_in_ibss, sent_in_ibss, ibss_frame_means, pair_of};
 ghost use Rattle.frame.specs.IbssLaid.{ibss_laid};
 ghost use Rattle.header.specs.Headers.{header_length};
 ghost use Rattle.header.specs.declared.management.Subtype.{Subtype};
 ghost use Rattle.measurement_body.specs.Bodies.{longest_body};
 
-use crate::Received;
-use answer::Fault;
+use crate::{Received, places};
+use answer::{Fault, Refusal};
 use beacon::HeardDfs;
-use element::ibss_dfs::IbssDfs;
-use header::{Cell, Header, Subtype};
-use answer::Refusal;
-use element::ibss_dfs::ChannelMap;
+use element::ibss_dfs::{ChannelMap, IbssDfs};
+use header::{Cell, Subtype};
 
 // What was received, who sent it, and the element 41 of a beacon, which names a DFS owner. Of a refused frame the sender is no one, and no owner is named.
 #[derive(Clone, Copy)]
@@ -33,7 +31,12 @@ pub struct HeardInIbss {
 }
 
 // The body of a beacon.
-fn read_beacon(body: &[u8], interval: u16, broadcast: bool, index: usize) -> Result<HeardInIbss, Fault>
+fn read_beacon(
+    body: &[u8],
+    interval: u16,
+    broadcast: bool,
+    index: usize,
+) -> Result<HeardInIbss, Fault>
     requires { length body.now ≤ longest_body }
     ensures { (sender : List ℕ) → result ≡ heard_laid index (sent_in_ibss sender broadcast (placed_past header_length (kind_in_ibss interval Subtype.Beacon body.now))) }
 {
@@ -57,10 +60,17 @@ fn nameless(received: Received) -> HeardInIbss
 }
 
 // A frame, with the pair at an index of its element 41.
-fn hear(frame: &[u8], own: [u8; 6], bssid: [u8; 6], interval: u16, index: usize) -> Result<HeardInIbss, Fault>
+#[tactic(auto, unfolding(crate::specs::IbssFrames::ibss_frame_means))]
+fn hear(
+    frame: &[u8],
+    own: [u8; 6],
+    bssid: [u8; 6],
+    interval: u16,
+    index: usize,
+) -> Result<HeardInIbss, Fault>
     ensures { result ≡ heard_laid index (ibss_frame_means own bssid interval frame.now) }
 {
-    let head = header::read(frame, Cell::Ibss, own, bssid).map_err(Fault::nowhere)?;
+    let head = places::read_head(frame, Cell::Ibss, own, bssid)?;
     let body = header::body(frame);
     match head.subtype {
         Subtype::Beacon => read_beacon(body, interval, head.to_all, index),
@@ -79,6 +89,7 @@ fn hear(frame: &[u8], own: [u8; 6], bssid: [u8; 6], interval: u16, index: usize)
 pub fn read_in_ibss(frame: &[u8], own: [u8; 6], bssid: [u8; 6], interval: u16) -> ReceivedInIbss
     ensures { result ≡ ibss_laid (ibss_frame_means own bssid interval frame.now) }
 {
+    let sender = header::sender(frame);
     match hear(frame, own, bssid, interval, 0) {
         Err(fault) => ReceivedInIbss {
             received: Err(fault),
@@ -87,7 +98,7 @@ pub fn read_in_ibss(frame: &[u8], own: [u8; 6], bssid: [u8; 6], interval: u16) -
         },
         Ok(heard) => ReceivedInIbss {
             received: Ok(heard.received),
-            sender: header::sender(frame),
+            sender,
             dfs: heard.dfs.map(|named| named.dfs),
         },
     }

@@ -13,14 +13,13 @@ ghost use Rattle.measurement_element.specs.MeasurementReport.{report_means};
 ghost use Rattle.measurement_element.specs.MeasurementRequest.{request_means};
 
 use crate::bodies::Located;
-use crate::{bodies, places};
+use crate::{BodyKind, Frame, bodies, places};
 use answer::{Fault, Refusal};
 use header::Cell;
-use walk::Contents;
-use measurement_element::{measurement_report, measurement_request};
 use measurement_element::measurement_report::Report;
 use measurement_element::measurement_request::Request;
-use crate::{BodyKind, Frame};
+use measurement_element::{measurement_report, measurement_request};
+use walk::Contents;
 
 // An action body, and its request at an index.
 #[derive(Clone, Copy)]
@@ -52,6 +51,7 @@ fn report_there(body: &[u8], place: Option<Contents>) -> Result<Report, Refusal>
 }
 
 // An action body and its request at an index, in one walk.
+#[tactic(auto, using(crate::proofs::Indexing::request_inside, crate::proofs::Indexing::asked))]
 pub fn read_request(body: &[u8], index: usize) -> Result<Asked, Fault>
     ensures { result ≡ asked_of index (action_means body.now) }
 {
@@ -84,10 +84,17 @@ fn locate_action(body: &[u8], index: usize) -> Result<Located, Fault>
 }
 
 // A frame, and where in its body the element at an index lies: beacons and probe responses have none.
-fn locate(frame: &[u8], own: [u8; 6], ap: [u8; 6], interval: u16, index: usize) -> Result<Located, Fault>
+#[tactic(auto, unfolding(crate::specs::CodeTerms::Located::kind_means))]
+fn locate(
+    frame: &[u8],
+    own: [u8; 6],
+    ap: [u8; 6],
+    interval: u16,
+    index: usize,
+) -> Result<Located, Fault>
     ensures { result ≡ located_in index (body_of frame.now) (kind_means own ap interval frame.now) }
 {
-    let head = header::read(frame, Cell::Ap, own, ap).map_err(Fault::nowhere)?;
+    let head = places::read_head(frame, Cell::Ap, own, ap)?;
     let body = header::body(frame);
     match crate::body_kind(head.subtype) {
         BodyKind::Action => locate_action(body, index),

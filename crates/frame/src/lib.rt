@@ -71,10 +71,11 @@ fn notice_frame(heard: Heard, probe: bool, broadcast: bool) -> Received
     } else {
         Frame::Beacon(heard.notice)
     };
+    let quiets = heard.quiets;
     Received {
         frame,
         broadcast,
-        quiets: heard.quiets,
+        quiets,
         count: heard.count,
     }
 }
@@ -119,10 +120,11 @@ fn body_kind(subtype: Subtype) -> BodyKind
 }
 
 // A frame that a station hears: `own` is its address, `ap` its AP's, `interval` its beacon interval.
+#[tactic(auto, unfolding(crate::specs::Frames::frame_means))]
 pub fn read(frame: &[u8], own: [u8; 6], ap: [u8; 6], interval: u16) -> Result<Received, Fault>
     ensures { result ≡ frame_laid (frame_means own ap interval frame.now) }
 {
-    let head = header::read(frame, Cell::Ap, own, ap).map_err(Fault::nowhere)?;
+    let head = places::read_head(frame, Cell::Ap, own, ap)?;
     let body = header::body(frame);
     match body_kind(head.subtype) {
         BodyKind::Notice { probe } => read_notice(body, interval, probe, head.to_all),

@@ -1,4 +1,5 @@
 -- The schedules in use: how many, from one on, and the first unit that they cover. Assumes nothing.
+use mathlib.Core.Bool.{Bool}
 use mathlib.Core.List.{List, [], ◌∷◌, ◌++◌}
 use mathlib.Core.Path.{◌≡◌, refl, sym, ap, ◌∙◌}
 use Prim.Native.Nat.{ℕ, ◌+◌, ◌-◌, ◌<◌, ◌≤◌}
@@ -7,15 +8,15 @@ use native.Mathlib.Numerals.{add-one}
 use native.Mathlib.Omega.{arith}
 use borrow.Author.Tests.{lt-ltb, le-ltb}
 use lib.Dec.{ltb}
-use lib.ListN.{length, take, drop, get_or, replicate, drop_of_length-le, length-take, take-append-drop}
+use lib.ListN.{length, take, drop, get_or, replicate, drop_of_length-le, take-append-drop}
 use lib.Seq.{drop-cons, get_or-take, length-take-le}
 use Rattle.answer.proofs.Booleans.{or_go, or_stop}
 use Rattle.beacon.specs.Beacons.{quiet_limit}
-use Rattle.schedule.proofs.FirstUnit.{none_passes, first_at, first_or, first_same}
+use Rattle.schedule.proofs.FirstUnit.{first_has, no_units, none_passes, first_at, first_or, first_same}
 use Rattle.schedule.specs.Schedules.{covered}
 use Rattle.schedule.specs.Units.{first_unit}
 use Rattle.schedule.specs.declared.Schedule.{Schedule}
-use Rattle.station.specs.Asking.{covered_by, quiet}
+use Rattle.station.specs.Asking.{covered_by, quiet, first_quiet}
 use Rattle.station.specs.Stations.{no_schedule, slotted, in_use}
 use Rattle.station.specs.Validity.{Valid}
 use Rattle.station.specs.declared.Station.{Station}
@@ -25,46 +26,47 @@ pub here : (xs : List Schedule) (n i : ℕ) → n ≤ length xs → i < n → dr
 here xs n i f h =
     drop-cons (take n xs) i no_schedule (omega (arith, length-take-le n xs f)) ∙ rw (get_or-take n xs i no_schedule h, ← add-one i)
 
-module _ (s : Station) (v : Valid s) (i : ℕ) where
-  in_slots : s.count ≤ length s.schedules
-  in_slots = omega (arith, v.slots, v.few)
+-- ---- the first unit from a on and before b that schedules cover, looked at one by one
+
+module _ (xs : List Schedule) (i a b : ℕ) where
+  -- it is the first that the others cover before the one that this schedule covers first
+  pub looked_here : i < length xs
+      → first_unit (covered_by (drop (i + 1) xs)) a (first_unit (covered (get_or xs i no_schedule)) a (b - a) - a) ≡ first_unit (covered_by (drop i xs)) a (b - a)
+  unfolding covered_by
+  looked_here h =
+      let e : drop i xs ≡ get_or xs i no_schedule ∷ drop (i + 1) xs = rw (add-one i) (drop-cons xs i no_schedule h) in
+      sym (
+      ap (λ (ys : List Schedule). first_unit (covered_by ys) a (b - a)) e
+      ∙ first_or (covered (get_or xs i no_schedule)) (covered_by (drop (i + 1) xs)) a (b - a)
+      )
 
   -- past the last there is none
-  past_all : s.count ≤ i → drop i (in_use s) ≡ []
-  past_all h = drop_of_length-le (in_use s) {i = i} (omega (arith, length-take s.count s.schedules))
+  pub none_left : length xs ≤ i → a ≤ b → first_unit (covered_by (drop i xs)) a (b - a) ≡ b
+  unfolding covered_by
+  none_left h k =
+      ap (λ (ys : List Schedule). first_unit (covered_by ys) a (b - a)) (drop_of_length-le xs {i = i} h) ∙ sym (none_passes (covered_by []) a b k (λ u l m. refl))
 
-  -- ---- the first unit from a on and before b
-
-  module _ (a b : ℕ) where
-    -- it is the first that the others cover before the one that this schedule covers first
-    pub looked_here : i < s.count
-        → first_unit (covered_by (drop (i + 1) (in_use s))) a (first_unit (covered (get_or s.schedules i no_schedule)) a (b - a) - a)
-        ≡ first_unit (covered_by (drop i (in_use s))) a (b - a)
-    unfolding covered_by
-    looked_here h =
-        sym (
-        ap (λ (xs : List Schedule). first_unit (covered_by xs) a (b - a)) (here s.schedules s.count i in_slots h)
-        ∙ first_or (covered (get_or s.schedules i no_schedule)) (covered_by (drop (i + 1) (in_use s))) a (b - a)
-        )
-
-    pub none_left : s.count ≤ i → a ≤ b → first_unit (covered_by (drop i (in_use s))) a (b - a) ≡ b
-    unfolding covered_by
-    none_left h k =
-        ap (λ (xs : List Schedule). first_unit (covered_by xs) a (b - a)) (past_all h) ∙ sym (none_passes (covered_by []) a b k (λ u l m. refl))
+pub not_before : (test : ℕ → Bool) (a n : ℕ) → a ≤ first_unit test a n
+not_before test a n = (first_has test a n).from
 
 -- ---- what runs on
 
-module _ (s : Station) (a b : ℕ) where
-  -- where it ends before, the schedules decide
-  pub by_schedules : s.until ≤ a → first_unit (quiet s) a (b - a) ≡ first_unit (covered_by (in_use s)) a (b - a)
-  unfolding quiet
-  by_schedules h =
-      first_same (quiet s) (covered_by (in_use s)) a (b - a) (λ u l. or_go (ltb u s.until) (le-ltb u s.until (omega arith)))
+module _ (s : Station) (b : ℕ) where
+  pub none_asked : b ≤ s.clock → first_quiet s b ≡ s.clock
+  none_asked h = sym (no_units (quiet s) s.clock b h)
 
-  pub runs_on : a < b → a < s.until → a ≡ first_unit (quiet s) a (b - a)
+  pub runs_on : s.clock < b → s.clock < s.until → first_quiet s b ≡ s.clock
   unfolding quiet
   runs_on h k =
-      first_at (quiet s) a b a (le_refl a) h (λ u l m. absurd (omega arith)) (or_stop (ltb a s.until) _ (lt-ltb a s.until k))
+      sym (first_at (quiet s) s.clock b s.clock (le_refl s.clock) h (λ u l m. absurd (omega arith)) (or_stop (ltb s.clock s.until) _ (lt-ltb s.clock s.until k)))
+
+  -- where it ends before, the schedules decide
+  pub by_schedules : s.until ≤ s.clock → first_unit (covered_by (in_use s)) s.clock (b - s.clock) ≡ first_quiet s b
+  unfolding quiet
+  by_schedules h =
+      sym (first_same (quiet s) (covered_by (in_use s)) s.clock (b - s.clock) (λ u l. or_go (ltb u s.until) (le-ltb u s.until (omega arith))))
+
+pub ruleset looks = (looked_here, none_left, not_before, none_asked, runs_on, by_schedules)
 
 -- ---- of a valid station
 

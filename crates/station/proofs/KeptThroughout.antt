@@ -1,11 +1,11 @@
 -- What no call changes of a record: by these a station reads frames. Assumes nothing.
-use Rattle.std.specs.Prelude.{Some, None, Option}
+use Rattle.std.specs.Prelude.{Ok, Err, Some, None, Option}
 use mathlib.Core.Bool.{Bool, true, false}
 use mathlib.Core.List.{List}
 use mathlib.Core.Path.{◌≡◌, refl, ap, ◌∙◌}
 use Prim.Native.Nat.{ℕ}
 use lib.Dec.{eqb}
-use Rattle.answer.specs.Checks.{pick}
+use Rattle.answer.specs.Checks.{Outcome, pick, and_then}
 use Rattle.beacon.specs.Beacons.{Told}
 use Rattle.element.specs.declared.channel_switch.ChannelSwitch.{ChannelSwitch}
 use Rattle.frame.specs.Actions.{requests, reports, tpc_request, tpc_report, switch}
@@ -73,7 +73,7 @@ pub advance_keeps : (r : Station) (n : ℕ) → kept_by (advance_of r n).station
 unfolding advance_means
 advance_keeps r n = by_clock (clock_advance r.clock r.pending n)
   where
-    by_clock : (a : Advanced) → kept_by (stepped r (advanced_to r a)).station ≡ kept_by r
-    by_clock Advanced.Refused = refl
-    by_clock (Advanced.Goes t) = refl
-    by_clock (Advanced.Switches t channel) = refl
+    by_clock : (o : Outcome Advanced) → kept_by (stepped r (and_then o (λ a. Ok (advanced_to r a)))).station ≡ kept_by r
+    by_clock (Err x) = refl
+    by_clock (Ok (Advanced.Goes t)) = refl
+    by_clock (Ok (Advanced.Switches t channel)) = refl

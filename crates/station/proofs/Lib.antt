@@ -6,3 +6,4 @@ pub mod OneWay
 pub mod Received
 pub mod SlotBySlot
 pub mod StaysValid
+pub mod Ways

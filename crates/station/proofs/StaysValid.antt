@@ -1,5 +1,5 @@
 -- An accepted start gives a valid station, and a step of the clock and an accepted frame keep it. Assumes nothing.
-use Rattle.std.specs.Prelude.{Some, None, Option}
+use Rattle.std.specs.Prelude.{Ok, Err, Some, None, Option}
 use mathlib.Core.Bool.{Bool, true, false, ◌||◌}
 use mathlib.Core.List.{List, []}
 use mathlib.Core.Logic.{⊎_elim}
@@ -12,7 +12,8 @@ use lib.Dec.{ltb, eqb, lit≤}
 use lib.ListN.{length, replicate, length-map, length-append, length-replicate}
 use lib.Seq.{drop_at}
 use Rattle.answer.proofs.Booleans.{either, neither}
-use Rattle.answer.specs.Checks.{pick}
+use Rattle.answer.specs.Checks.{Outcome, pick, checked, and_then}
+use Rattle.answer.specs.declared.Refusal.{Refusal}
 use Rattle.beacon.specs.Allowed.{SwitchAllowed, Allowed}
 use Rattle.beacon.specs.Beacons.{quiet_limit, Told, tells}
 use Rattle.channel.specs.Centres.{highest}
@@ -143,10 +144,10 @@ valid_switched s channel v h =
     (valid_schedules _ (valid_pending _ (valid_power _ (valid_channel s v channel h) None) None tt) [] (lit≤ tt)) 0
 
 -- where the clock goes on to a moment, the switch is met or is still to come
-valid_reached : (s : Station) (t : ℕ) → Valid s → Valid (stepped s (advanced_to s (reached t s.pending))).station
+valid_reached : (s : Station) (t : ℕ) → Valid s → Valid (advanced_to s (reached t s.pending))
 valid_reached s t v = by_pending s.pending refl
   where
-    by_pending : (p : Option Switch) → s.pending ≡ p → Valid (stepped s (advanced_to s (reached t p))).station
+    by_pending : (p : Option Switch) → s.pending ≡ p → Valid (advanced_to s (reached t p))
     by_pending None e = valid_clock s v t (subst (PendingFits t) (sym e) tt)
     by_pending (Some x) e =
         let f : PendingFits s.clock (Some x) = subst (PendingFits s.clock) e v.pending_fits in
@@ -155,18 +156,25 @@ valid_reached s t v = by_pending s.pending refl
         (λ (n : ltb t x.at ≡ false). simp n (valid_clock (switched s x.channel) (valid_switched s x.channel v f.2) t tt))
         (either (ltb t x.at))
 
+-- the station of an advance
+abbrev next : Station → Outcome Advanced → Outcome Station
+next s o = and_then o (λ a. Ok (advanced_to s a))
+
 -- what the advance of its clock makes of a station is the advance, and stays valid
-pub advanced : (s : Station) (n : ℕ) (k : Advanced) → clock_advance s.clock s.pending n ≡ k → Valid s
-    → (stepped s (advanced_to s k) ≡ advance_of s n) × Valid (stepped s (advanced_to s k)).station
-unfolding clock_advance advance_means
-advanced s n k e v = (
-  ap (λ (j : Advanced). stepped s (advanced_to s j)) (sym e),
-  subst (λ (j : Advanced). Valid (stepped s (advanced_to s j)).station) e (by_test_lem (ltb unit_limit n || ltb clock_limit (s.clock + n))),
+pub advanced : (s : Station) (n : ℕ) (o : Outcome Advanced) → clock_advance s.clock s.pending n ≡ o → Valid s
+    → (stepped s (next s o) ≡ advance_of s n) × Valid (stepped s (next s o)).station
+unfolding clock_advance advance_means checked
+advanced s n o e v = (
+  ap (λ (p : Outcome Advanced). stepped s (next s p)) (sym e),
+  subst (λ (p : Outcome Advanced). Valid (stepped s (next s p)).station) e (by_test_lem (ltb unit_limit n || ltb clock_limit (s.clock + n))),
 )
   where
-    by_test_lem : (far : Bool) → Valid (stepped s (advanced_to s (pick far Advanced.Refused (reached (s.clock + n) s.pending)))).station
+    by_test_lem : (far : Bool) → Valid (stepped s (next s (pick far (Err Refusal.PastClock) (Ok (reached (s.clock + n) s.pending))))).station
     by_test_lem true = v
     by_test_lem false = valid_reached s (s.clock + n) v
+
+pub still_valid : (s x : Station) (n : ℕ) (a : Advanced) → Valid s → Ok a ≡ clock_advance s.clock s.pending n → x ≡ advanced_to s a → Valid x
+still_valid s x n a v e is = subst Valid (sym is) (advanced s n (Ok a) (sym e) v).1
 
 -- ---- an accepted frame
 

@@ -25,7 +25,7 @@ reached t (Some x) = pick (ltb t x.at) (Advanced.Goes t) (Advanced.Switches t x.
 
 -- an advance by n, as the clock and the pending switch decide it
 unfoldable pub clock_advance : ℕ → Option Switch → ℕ → Outcome Advanced
-clock_advance t p n = judged (ltb unit_limit n || ltb clock_limit (t + n) ⇒ Refusal.PastClock ∷ []) (reached (t + n) p)
+clock_advance t p n = judged ((ltb unit_limit n || ltb clock_limit (t + n)) ⇒ Refusal.PastClock ∷ []) (reached (t + n) p)
 
 -- what it makes of a station
 abbrev pub advanced_to : Station → Advanced → Station

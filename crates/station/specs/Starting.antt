@@ -1,5 +1,5 @@
 -- Start (01, "Answer numbers"): 15 where B is 0, the channel is over 200, or either address has its group bit set.
-use Rattle.std.specs.Prelude.{Bool, ◌||◌, List, [], ◌∷◌, ℕ, ltb, eqb, replicate, Ok, Err}
+use Rattle.std.specs.Prelude.{Bool, ◌||◌, List, [], ◌∷◌, ℕ, ltb, eqb, replicate}
 use Rattle.answer.specs.Checks.{Outcome, ◌⇒◌, judged}
 use Rattle.answer.specs.declared.Refusal.{Refusal}
 use Rattle.channel.specs.Centres.{highest}

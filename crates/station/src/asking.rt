@@ -41,11 +41,12 @@ impl Permission {
 impl Station {
     // The first quiet unit from the clock on and before `to`, or the unit after them: the clock's where something runs on, or the first that a
     // schedule in use covers. Each schedule is looked at once, and only as far as those before it left open.
+    #[tactic(auto, using(crate::proofs::InUse::looks))]
     fn first_quiet(self, to: u64) -> u64
         requires { Valid self }
         ensures { result ≡ first_quiet self to }
     {
-        let from = self.clock as u64;
+        let from = u64::from(self.clock);
         if to <= from || from < self.until {
             return from;
         }
@@ -58,18 +59,20 @@ impl Station {
 
     // Up to which moment a question is granted, as far as any question reaches, and stays so while nothing but the clock changes: the first quiet
     // unit, or the pending switch. A switch of mode 1 leaves nothing.
+    #[tactic(auto, unfolding(crate::specs::Clear::clear_until))]
     pub fn clear_until(self) -> u64
         requires { Valid self }
         ensures { result ≡ clear_until self }
     {
-        let first = self.clock as u64;
+        let first = u64::from(self.clock);
         if pending::silences(self.pending) {
             return first;
         }
-        self.first_quiet(pending::up_to(self.pending, first + (Station::UNIT_LIMIT as u64)))
+        self.first_quiet(pending::up_to(self.pending, first + u64::from(Station::UNIT_LIMIT)))
     }
 
     // Whether the units from the clock on, so many, may be used to send.
+    #[tactic(auto, using(crate::proofs::Ways::ways))]
     pub fn ask(self, units: u32) -> Permission
         requires { Valid self }
         ensures { result ≡ permission_of self units }
@@ -77,8 +80,8 @@ impl Station {
         if units == 0 || Station::UNIT_LIMIT < units {
             return Permission::WrongLength;
         }
-        let first = self.clock as u64;
-        let end = first + (units as u64);
+        let first = u64::from(self.clock);
+        let end = first + u64::from(units);
         if pending::silences(self.pending) {
             return Permission::SwitchSilences;
         }

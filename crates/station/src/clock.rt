@@ -1,6 +1,6 @@
 // The clock (document 01, "The station"): it advances, and reaches a pending switch on the way.
 ghost use Rattle.std.specs.Prelude.{◌≡◌};
-ghost use Rattle.station.specs.Clock.{clock_advance, advance_of};
+ghost use Rattle.station.specs.Clock.{clock_advance, advanced_to, advance_of};
 ghost use Rattle.station.specs.Stations.{with_clock};
 ghost use Rattle.station.specs.Validity.{Valid};
 
@@ -16,6 +16,7 @@ pub enum Advanced {
 }
 
 // An advance by what it asks of a station alone, since a station is long to copy and most advances change no more than its clock.
+#[tactic(auto, unfolding(crate::specs::Clock::clock_advance, answer::specs::Checks::checked))]
 pub fn advance_clock(clock: u32, pending: Option<Switch>, units: u32) -> Result<Advanced, Refusal>
     ensures { result ≡ clock_advance clock pending units }
 {
@@ -24,7 +25,7 @@ pub fn advance_clock(clock: u32, pending: Option<Switch>, units: u32) -> Result<
     }
     let moment = clock + units;
     match pending {
-        Some(switch) if switch.at <= (moment as u64) => Ok(Advanced::Switches {
+        Some(switch) if switch.at <= u64::from(moment) => Ok(Advanced::Switches {
             moment,
             channel: switch.channel,
         }),
@@ -50,17 +51,31 @@ impl Station {
         }
     }
 
+    // What an advance makes of the station.
+    fn advanced_to(self, advanced: Advanced) -> Station
+        ensures { result ≡ advanced_to self advanced }
+    {
+        match advanced {
+            Advanced::Goes(moment) => self.with_clock(moment),
+            Advanced::Switches { moment, channel } => self.with_clock(moment).switched(channel),
+        }
+    }
+
+    #[tactic(auto, unfolding(crate::specs::Clock::advance_means), using(crate::proofs::StaysValid::still_valid))]
     pub fn advance(self, units: u32) -> Stepped
         requires { Valid self }
         ensures value { result ≡ advance_of self units }
         ensures kept { Valid result.station }
     {
         match advance_clock(self.clock, self.pending, units) {
-            Err(refusal) => Stepped::refused(refusal, self),
-            Ok(Advanced::Goes(moment)) => Stepped::accepted(self.with_clock(moment)),
-            Ok(Advanced::Switches { moment, channel }) => Stepped::accepted(
-                self.with_clock(moment).switched(channel),
-            ),
+            Err(refusal) => Stepped {
+                answer: Err(refusal),
+                station: self,
+            },
+            Ok(advanced) => Stepped {
+                answer: Ok(()),
+                station: self.advanced_to(advanced),
+            },
         }
     }
 }

@@ -8,20 +8,19 @@ mod replacing;
 mod starting;
 mod taking;
 
-ghost use Rattle.std.specs.Prelude.{◌≡◌, Ok, Err};
-ghost use Rattle.station.specs.Clock.{stepped, switched};
+ghost use Rattle.std.specs.Prelude.{◌≡◌};
+ghost use Rattle.station.specs.Clock.{switched};
 ghost use Rattle.station.specs.CodeTerms.Changing.{with_rest};
 ghost use Rattle.station.specs.Rests.{rest_of};
 
-use answer::Refusal;
 pub use asking::Permission;
 pub use changing::{Rest, is_at_once};
 pub use clock::{Advanced, Stepped, advance_clock};
+use element::power_constraint::PowerConstraint;
+use pending::Switch;
 pub use replacing::later;
 use schedule::Schedule;
 pub use taking::Taken;
-use element::power_constraint::PowerConstraint;
-use pending::Switch;
 
 // What one station keeps between calls. The first `count` slots are the quiet schedules in use, the others are blank. Before `until` it is quiet by
 // what had begun of schedules that were replaced: the latest end counts, and 0 says that nothing runs on (document 02, Two).
@@ -63,14 +62,12 @@ impl Station {
     pub fn rest(self, until: u64) -> Rest
         ensures { result ≡ rest_of self until }
     {
-        let power = self.power;
-        let pending = self.pending;
         Rest {
             interval: self.interval,
             clock: self.clock,
             channel: self.channel,
-            power,
-            pending,
+            power: self.power,
+            pending: self.pending,
             until,
         }
     }
@@ -84,12 +81,10 @@ impl Station {
     ) -> Station
         ensures { result ≡ with_rest self rest schedules count }
     {
-        let power = rest.power;
-        let pending = rest.pending;
         Station {
             channel: rest.channel,
-            power,
-            pending,
+            power: rest.power,
+            pending: rest.pending,
             schedules,
             count,
             until: rest.until,
@@ -103,27 +98,5 @@ impl Station {
     {
         let none = [Station::NO_SCHEDULE; Station::SCHEDULE_LIMIT];
         self.with(self.rest(self.until).switched(channel), none, 0)
-    }
-}
-
-impl Stepped {
-    // A refused call leaves the station as it was.
-    fn refused(refusal: Refusal, station: Station) -> Stepped
-        ensures { result ≡ stepped station (Err refusal) }
-    {
-        Stepped {
-            answer: Err(refusal),
-            station,
-        }
-    }
-
-    // An accepted call leaves this station.
-    fn accepted(station: Station) -> Stepped
-        ensures { result ≡ stepped station (Ok station) }
-    {
-        Stepped {
-            answer: Ok(()),
-            station,
-        }
     }
 }

@@ -23,28 +23,14 @@ pub struct Extent {
 pub fn extent_of(switches: bool, replaces: bool, before: usize, count: usize) -> Extent
     ensures { result ≡ extent_of switches replaces before count }
 {
-    if switches {
-        return Extent {
-            top: before,
-            used: 0,
-        };
-    }
-    if replaces {
-        if before < count {
-            return Extent {
-                top: count,
-                used: count,
-            };
-        }
-        return Extent {
-            top: before,
-            used: count,
-        };
-    }
-    Extent {
-        top: 0,
-        used: before,
-    }
+    let (top, used) = if switches {
+        (before, 0)
+    } else if replaces {
+        (before.max(count), count)
+    } else {
+        (0, before)
+    };
+    Extent { top, used }
 }
 
 // The later of two moments.
@@ -85,20 +71,15 @@ pub fn replace(
     ensures schedules_value { result.schedules ≡ overlaid extent.top (slotted (schedules_of (clock / interval) interval (take extent.used quiets))) schedules }
     ensures until_value { result.until ≡ latest_end clock until (take extent.top schedules) }
 {
-    let passed = clock / (interval as u32);
+    let passed = clock / u32::from(interval);
     let mut slots = schedules;
-    let mut until = until;
-    let mut i = 0;
-    while i < extent.top {
-        let old = slots[i];
-        until = later(until, old.end_begun(clock));
-        let quiet = quiets[i];
-        let next = slot_of(quiet, i, extent.used, passed, interval);
-        slots[i] = next;
-        i += 1;
+    let mut latest = until;
+    for i in 0..extent.top {
+        latest = later(latest, slots[i].end_begun(clock));
+        slots[i] = slot_of(quiets[i], i, extent.used, passed, interval);
     }
     Replaced {
         schedules: slots,
-        until,
+        until: latest,
     }
 }

@@ -8,10 +8,10 @@ ghost use Rattle.station.specs.Taking.{heard_of, take_of};
 ghost use Rattle.station.specs.Validity.{Valid};
 
 use crate::{Station, changing, replacing};
+use answer::Fault;
 use beacon::QUIETS;
 use element::quiet::Quiet;
 use frame::{Change, Received};
-use answer::Fault;
 
 // The verdict on a frame, and the station after it: the same as before where the frame was refused.
 #[derive(Clone, Copy)]
@@ -56,6 +56,7 @@ impl Station {
     }
 
     // What a reader handed out, so that one reading can serve several stations. A count past the slots is that of all of them.
+    #[tactic(auto, unfolding(crate::specs::Taking::heard_means), using(crate::proofs::Received::heard_ways))]
     pub fn heard(self, received: Result<Received, Fault>) -> Taken
         requires { Valid self }
         ensures value { result ≡ heard_of self received }
@@ -68,10 +69,9 @@ impl Station {
             },
             Ok(received) => {
                 let change = Change::by_frame(received.frame);
-                let station = self.changed(change, received.quiets, received.count);
                 Taken {
                     verdict: Ok(()),
-                    station,
+                    station: self.changed(change, received.quiets, received.count),
                 }
             }
         }

@@ -1,7 +1,7 @@
 -- A body that was read, and where its measurement element at an index lies.
-use Rattle.std.specs.Prelude.{false, List, ℕ, ◌-◌, ◌≤◌, length, take, drop, Ok, Err, Some, None, Option}
+use Rattle.std.specs.Prelude.{List, ℕ, ◌-◌, ◌≤◌, length, take, drop, Ok, Err, Some, None, Option}
 use Rattle.answer.specs.Checks.{Outcome, and_then}
-use Rattle.answer.specs.Faults.{Placed, nowhere, fault_past, placed_past}
+use Rattle.answer.specs.Faults.{Placed, nowhere, placed_past}
 use Rattle.answer.specs.declared.Refusal.{Refusal}
 use Rattle.header.specs.Headers.{header_length, body_of, header_means}
 use Rattle.header.specs.declared.address.Cell.{Cell}

@@ -1,11 +1,7 @@
 -- The body of a beacon or a probe response that was heard, as the frame that it makes.
-use Rattle.std.specs.Prelude.{Bool, true, false, [], ℕ, Ok, Err}
-use Rattle.answer.specs.Faults.{fault_past, Verdict}
+use Rattle.std.specs.Prelude.{Bool, true, false}
 use Rattle.beacon.specs.declared.Heard.{Heard}
 use Rattle.beacon.specs.declared.Notice.{Notice}
-use Rattle.header.specs.Headers.{header_length}
-use Rattle.frame.specs.CodeTerms.Located.{OffsetWithin}
-use Rattle.frame.specs.Laid.{received}
 use Rattle.frame.specs.declared.Frame.{Frame}
 use Rattle.frame.specs.declared.Received.{Received}
 

@@ -1,20 +1,14 @@
 -- `read_measurements` meets its contract: what the survey says of the records.
-use Rattle.std.proofs.Common.{◌∙◌}
-use Rattle.measurement_body.specs.Kinds.{sort_of}
-use Rattle.frame.proofs.Answers.{survey_refused, survey_accepted}
-use Rattle.frame.proofs.Indexing.{measured_refused, measured}
+use Rattle.std.proofs.Common.{Ok, ap, ◌∙◌}
+use Rattle.std.proofs.lemmas.Result.{err_from_is_err_and}
+use Rattle.frame.proofs.Indexing.{measured}
 use Rattle.frame.proofs.bodies.read_measurements.Goals as goal
 
-pub returns-in-Refused : goal.returns-in-Refused
-returns-in-Refused c =
+pub returns-in_err-found : goal.returns-in_err-found
+returns-in_err-found c =
     let a = c.args in
-    let s = c.survey-found in
-    c.unplaced.ensures
-    ∙ measured_refused a.body.now a.index a.token a.kind (survey_refused (sort_of a.kind) a.index 0 a.body.now s.result _ s.ensures c.in-Refused.is)
+    let p = err_from_is_err_and c.from_residual.result c.from_residual.ensures.1 in
+    rw (p.1, p.2) (measured a.body.now a.index a.token a.kind 0 c.in_err-found.ensures)
 
-pub returns-in-Accepted : goal.returns-in-Accepted
-returns-in-Accepted c =
-    let a = c.args in
-    let s = c.survey-found in
-    let p = survey_accepted (sort_of a.kind) a.index 0 a.body.now s.result s.ensures c.in-Accepted.is in
-    c.placed.ensures ∙ measured a.body.now a.index a.token a.kind 0 p.0 p.1 p.2
+pub returns : goal.returns
+returns c = let a = c.args in ap Ok c.placed.ensures ∙ measured a.body.now a.index a.token a.kind 0 c.in_ok-found.ensures

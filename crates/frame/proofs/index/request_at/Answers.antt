@@ -1,15 +1,18 @@
 -- `request_at` meets its contract: what is found in the frame, and what is read there.
 use Rattle.std.proofs.Common.{◌∙◌}
-use Rattle.frame.proofs.Indexing.{found_there}
+use Rattle.frame.specs.Frames.{request_in}
+use Rattle.frame.proofs.Indexing.{found_there, refused_there}
 use Rattle.frame.proofs.index.request_at.Goals as goal
 
 pub request_there-requires : goal.request_there-requires
 request_there-requires c =
     let a = c.args in
-    (found_there a.own a.ap a.interval a.frame.now a.index c.body.ensures c.locate-found.ensures).request_within
+    (found_there a.own a.ap a.interval a.frame.now a.index c.body.ensures c.in-Ok.ensures).request_within
 
-pub returns : goal.returns
-returns c =
+pub returns-in-Err : goal.returns-in-Err
+returns-in-Err c = let a = c.args in refused_there a.own a.ap a.interval a.frame.now request_in a.index c.in-Err.ensures
+
+pub returns-in-Ok : goal.returns-in-Ok
+returns-in-Ok c =
     let a = c.args in
-    let there = found_there a.own a.ap a.interval a.frame.now a.index c.body.ensures c.locate-found.ensures in
-    c.request_there.ensures ∙ there.request_is
+    c.request_there.ensures ∙ (found_there a.own a.ap a.interval a.frame.now a.index c.body.ensures c.in-Ok.ensures).request_is

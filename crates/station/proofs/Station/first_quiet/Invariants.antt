@@ -4,9 +4,8 @@ use Rattle.station.specs.Asking.{covered_by, first_quiet}
 use Rattle.station.specs.Stations.{in_use}
 use Rattle.station.proofs.Station.first_quiet.Given as goal
 
-abbrev pub invariant-loop-i : goal.invariant-loop-i
-invariant-loop-i l =
-    (l.i ≤ l.self.count) × (l.self.clock ≤ l.first) × (first_unit (covered_by (drop l.i (in_use l.self))) l.self.clock (l.first - l.self.clock) ≡ first_quiet l.self l.to)
-
-abbrev pub decreases-loop-i : goal.decreases-loop-i
-decreases-loop-i l = l.self.count - l.i
+abbrev pub invariant-loop-schedule : goal.invariant-loop-schedule
+invariant-loop-schedule l = record {
+  ahead : l.fn.self.clock ≤ l.first;
+  rest_answers : first_unit (covered_by (drop l.schedule-index (in_use l.fn.self))) l.fn.self.clock (l.first - l.fn.self.clock) ≡ first_quiet l.fn.self l.fn.to;
+}

@@ -1,16 +1,12 @@
 -- `replace` meets its contract. The invariant: the first i slots are the new schedules', and the latest end so far and those from i on give the latest
 -- of all. Assumes nothing.
-use Rattle.std.proofs.Common.{List, ap, arith, get_or, length, refl, rules, sym, take, ℕ, ◌/◌, ◌<◌, ◌∙◌, ◌≡◌}
+use Rattle.std.proofs.Common.{List, ap, arith, get_or, length, rules, sym, take, ◌/◌, ◌<◌, ◌∙◌, ◌≡◌}
 use Rattle.beacon.specs.Beacons.{quiet_limit}
 use Rattle.schedule.specs.declared.Schedule.{Schedule}
-use Rattle.station.specs.CodeTerms.Changing.{overlaid}
 use Rattle.station.specs.Stations.{no_schedule, slotted}
 use Rattle.station.specs.Taking.{schedules_of}
 use Rattle.station.proofs.SlotBySlot.{not_yet, all_slots, slot_replaced, counted_here, all_counted}
 use Rattle.station.proofs.replacing.replace.Goals as goal
-
-pub loop-i-init : goal.loop-i-init
-loop-i-init c = (search rules, refl, refl)
 
 pub loop-i-preserved : goal.loop-i-preserved
 loop-i-preserved c =
@@ -23,20 +19,16 @@ loop-i-preserved c =
     let slots : length ds ≡ quiet_limit = search rules in
     let room : l.i < quiet_limit = omega arith in
     let old : get_or l.slots l.i no_schedule ≡ get_or ds l.i no_schedule =
-    ap (λ (xs : List Schedule). get_or xs l.i no_schedule) l.invariant.1
-    ∙ not_yet these ds l.i no_schedule (omega arith) (all_slots _ _ a.quiets a.extent.used p.2 eight ∙ sym slots) in (
-      search rules,
-      rw (l.invariant.1, c.slot_of-next.ensures) (slot_replaced _ _ a.quiets a.extent.used p.2 eight l.i _ room ds slots),
-      rw (c.later-until.ensures, c.end_begun.ensures, old)
-          (counted_here ds a.extent.top l.i a.clock l.until (omega arith) (omega arith) ∙ l.invariant.2),
-    )
+    ap (λ (xs : List Schedule). get_or xs l.i no_schedule) l.invariant.laid
+    ∙ not_yet these ds l.i no_schedule (omega arith) (all_slots _ _ a.quiets a.extent.used p.2 eight ∙ sym slots) in record {
+      laid = rw (l.invariant.laid, c.slot_of.ensures, c.from.ensures) (slot_replaced _ _ a.quiets a.extent.used p.2 eight l.i _ room ds slots);
+      lasts =
+          rw (c.later-latest.ensures, c.end_begun.ensures, old)
+          (counted_here ds a.extent.top l.i a.clock l.latest (omega arith) (omega arith) ∙ l.invariant.lasts);
+    }
 
-pub returns : goal.returns
-returns c =
+pub returns-clause-until_value : goal.returns-clause-until_value
+returns-clause-until_value c =
     let l = c.loop-i in
     let a = c.args in
-    let these = slotted (schedules_of (a.clock / a.interval) a.interval (take a.extent.used a.quiets)) in
-    let all : l.i ≡ a.extent.top = omega arith in record {
-      schedules_value = l.invariant.1 ∙ ap (λ (n : ℕ). overlaid n these a.schedules) all;
-      until_value = sym (all_counted a.schedules a.extent.top l.i a.clock l.until all) ∙ l.invariant.2;
-    }
+    sym (all_counted a.schedules a.extent.top l.i a.clock l.latest (omega arith)) ∙ l.invariant.lasts
