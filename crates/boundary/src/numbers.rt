@@ -12,7 +12,7 @@ pub extern "C" fn oneiralth_centre(channel: u8) -> u64
 {
     match channel::centre(channel) {
         Err(refusal) => codes::refused(refusal),
-        Ok(megahertz) => megahertz as u64,
+        Ok(megahertz) => u64::from(megahertz),
     }
 }
 
@@ -22,7 +22,7 @@ pub extern "C" fn oneiralth_busy_fraction(busy: u32, duration: u16) -> u64
 {
     match fraction::busy_fraction(busy, duration) {
         Err(refusal) => codes::refused(refusal),
-        Ok(fraction) => fraction as u64,
+        Ok(fraction) => u64::from(fraction),
     }
 }
 
@@ -42,11 +42,8 @@ pub extern "C" fn oneiralth_rpi_densities(
 ) -> u64
     ensures { Given (densities_of duration (t0 ∷ t1 ∷ t2 ∷ t3 ∷ t4 ∷ t5 ∷ t6 ∷ t7 ∷ [])) out.old result out.new }
 {
-    let densities = fraction::rpi_densities([t0, t1, t2, t3, t4, t5, t6, t7], duration);
-    let answer = densities.answer;
-    let values = densities.values;
-    match answer {
+    match fraction::rpi_densities([t0, t1, t2, t3, t4, t5, t6, t7], duration) {
         Err(refusal) => codes::refused(refusal),
-        Ok(()) => codes::wrote(octets::put(true, &values, out, 0)),
+        Ok(densities) => codes::wrote(octets::put(true, &densities, out, 0)),
     }
 }

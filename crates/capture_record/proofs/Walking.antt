@@ -54,3 +54,6 @@ module _ (s : List ℕ) (at : ℕ) where
     pub at_whole : n ≤ length s - (at + 3)
         → records_in (drop at s) ≡ more (octet at s) (take (at + 3 + n - (at + 3)) (drop (at + 3) s)) (records_in (drop (at + 3 + n) s))
     at_whole = Prefixed.at_whole 2 more (λ kind. cut) records_in headed s at n e h
+
+-- the ways in which the used part goes on
+pub ruleset ways = (at_end, at_cut_head, at_cut_contents, at_whole)

@@ -19,7 +19,7 @@ pub enum Found {
 }
 
 // The record at a place; the next one is at `end`.
-#[tactic(auto, using(crate::proofs::Walking::at_end, crate::proofs::Walking::at_cut_head, crate::proofs::Walking::at_cut_contents, crate::proofs::Walking::at_whole))]
+#[tactic(auto, using(crate::proofs::Walking::ways))]
 pub fn record_at(used: &[u8], at: usize) -> Found
     ensures used_value { records_in (drop at used.now) ≡ follow used.now result }
     ensures within { Within at (length used.now) result }

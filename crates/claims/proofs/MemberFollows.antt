@@ -204,11 +204,11 @@ module _ (s : Settings) where
     module _ (x : SentInIbss) (e : read_as s f ≡ Ok x) where
       -- the owner by which the announcement is judged, and whether it is foreign
       named_as : named_by m.owner x.dfs ≡ owner_told s.interval (clock_after h) (naming_at (clock_after h) x.dfs w)
-      named_as = ap (λ (o : Owner). named_by o x.dfs) t.owner ∙ sym (naming_told s.interval (clock_after h) w x.dfs)
+      named_as = ap (λ (o : Option Owner). named_by o x.dfs) t.owner ∙ sym (naming_told s.interval (clock_after h) w x.dfs)
 
       same_test : foreign_announcement (named_by m.owner x.dfs) x ≡ foreign_to (clock_after h) w x
       same_test =
-          ap (λ (o : Owner). foreign_announcement o x) named_as
+          ap (λ (o : Option Owner). foreign_announcement o x) named_as
           ∙ ap (λ (b : Bool). is_some (announcement_in x.sent.kind) && not b) (sym (owns_told s.interval (clock_after h) (naming_at (clock_after h) x.dfs w) x.sender))
 
       heard_as : (foreign : Bool) → foreign_to (clock_after h) w x ≡ foreign → member_after s (frame f ∷ h) ≡ hearing m x foreign
@@ -231,7 +231,7 @@ module _ (s : Settings) where
         kind_owner : (k : Kind) → x.sent.kind ≡ k
             → heard_by (named_by m.owner x.dfs) x.sender k ≡ owner_told s.interval (clock_after h) (after_kind (clock_after h) x k w)
         kind_owner (beacon told) y =
-            ap (λ (o : Owner). heard_from o x.sender) named_as
+            ap (λ (o : Option Owner). heard_from o x.sender) named_as
             ∙ sym (heard_told s.interval (clock_after h) (naming_at (clock_after h) x.dfs w) x.sender)
         kind_owner (probe_response told) y =
             ap (named_by m.owner) (beacons_only (probe_response told) y (λ u z. let q : ◌≡◌ {A = ℕ} 0 1 = cc in omega arith)) ∙ t.owner

@@ -1,5 +1,5 @@
 -- What a call of a station of an IBSS answers and leaves, by its meaning, and so any calls of a run (02, Five). Assumes nothing.
-use Rattle.std.specs.Prelude.{Ok, Err}
+use Rattle.std.specs.Prelude.{Ok, Err, Some, None, Option}
 use mathlib.Core.Bool.{Bool, true, false, not}
 use mathlib.Core.List.{List, [], ◌∷◌}
 use mathlib.Core.Path.{◌≡◌, refl, sym, ap, ◌∙◌, subst}
@@ -19,8 +19,7 @@ use Rattle.member.specs.declared.Member.{Member}
 use Rattle.member.specs.declared.clock.Stepped.{Stepped}
 use Rattle.member.specs.declared.starting.Started.{Started}
 use Rattle.member.specs.declared.taking.Taken.{Taken}
-use Rattle.owner.proofs.KeptFit.{known_fits}
-use Rattle.owner.specs.Owners.{unknown, at_tbtt, past_tbtts, OwnerFits}
+use Rattle.owner.specs.Owners.{missing, at_tbtt, past_tbtts, KeptFits}
 use Rattle.owner.specs.Tbtts.{tbtts_in}
 use Rattle.owner.specs.declared.Owner.{Owner}
 use Rattle.station.proofs.Received.{valid_heard}
@@ -63,23 +62,17 @@ recorded s (ask n ∷ h) = recorded s h
 
 -- ---- what leaves it valid
 
-unknown_fits : OwnerFits unknown
-unknown_fits = record { none = λ z. refl; interval = λ z. clash (sym z); fresh = λ z. clash (sym z) }
-
-tbtt_fits : (o : Owner) → OwnerFits o → OwnerFits (at_tbtt o)
-tbtt_fits o f = by o.known refl o.heard (leb o.recovery (o.misses + 1))
+tbtt_fits : (o : Option Owner) → KeptFits o → KeptFits (at_tbtt o)
+tbtt_fits None f = tt
+tbtt_fits (Some o) f = by o.heard (leb o.recovery (o.misses + 1))
   where
-    by : (known : Bool) → o.known ≡ known → (heard late : Bool)
-        → OwnerFits
-        (pick (not known) o
-        (pick heard (record { known = true; address = o.address; recovery = o.recovery; misses = o.misses; heard = false })
-        (pick late unknown (record { known = true; address = o.address; recovery = o.recovery; misses = o.misses + 1; heard = false }))))
-    by false e heard late = f
-    by true e true late = known_fits refl (f.interval e) (λ z. clash (sym z))
-    by true e false true = unknown_fits
-    by true e false false = known_fits refl (f.interval e) (λ z. clash (sym z))
+    by : (heard late : Bool)
+        → KeptFits (pick heard (Some (missing o o.misses)) (pick late None (Some (missing o (o.misses + 1)))))
+    by true late = record { interval = f.interval; fresh = λ z. clash (sym z) }
+    by false true = tt
+    by false false = record { interval = f.interval; fresh = λ z. clash (sym z) }
 
-past_fits : (n : ℕ) (o : Owner) → OwnerFits o → OwnerFits (past_tbtts n o)
+past_fits : (n : ℕ) (o : Option Owner) → KeptFits o → KeptFits (past_tbtts n o)
 unfolding past_tbtts
 past_fits zero o f = f
 past_fits (suc n) o f = past_fits n (at_tbtt o) (tbtt_fits o f)
@@ -111,8 +104,8 @@ module _ (m : Member) (v : ValidMember m) where
 
 -- ---- what each promise allows
 
-pub valid_start : (s : Settings) (r : Station) → start_means s.own s.ap s.interval s.channel ≡ Ok r → ValidMember (member_of r unknown)
-valid_start s r e = record { station_valid = (is_fresh s r e).1; owner_fits = unknown_fits }
+pub valid_start : (s : Settings) (r : Station) → start_means s.own s.ap s.interval s.channel ≡ Ok r → ValidMember (member_of r None)
+valid_start s r e = record { station_valid = (is_fresh s r e).1; owner_fits = tt }
 
 pub starts_means : (s : Settings) (m : Member) → MemberStarts s m → Exactly ValidMember m (member_after s [])
 unfolding member_after record_from
@@ -124,7 +117,7 @@ starts_means s m (κs, a, x, e, promise, (own, bssid, interval, channel, accepts
   where
     by : (o : Outcome Station) → start_means s.own s.ap s.interval s.channel ≡ o → (member_started o).answer ≡ Ok tt → (member_started o).member ≡ member_after s []
     by (Err q) given says = absurd (let z : ◌≡◌ {A = ℕ} 0 1 = cc in omega arith)
-    by (Ok t) given says = ap (λ (r : Station). member_of r unknown) (is_fresh s t given).0
+    by (Ok t) given says = ap (λ (r : Station). member_of r None) (is_fresh s t given).0
 
 pub takes_means : {before m : Member} {f : List ℕ} {v : Verdict} → MemberTakes before f v m → (v ≡ (take_of before f).verdict) × (m ≡ (take_of before f).member) × ValidMember m
 takes_means {before} {m} {f} (κs, a, x, e, promise, (self, octets, verdict, result)) =

@@ -203,7 +203,7 @@ advance_merged s a b one two few =
 
 -- ---- a station of an IBSS: the TBTTs of both advances are those of the one
 
-past_adds : (m n : ℕ) (o : Owner) → past_tbtts n (past_tbtts m o) ≡ past_tbtts (m + n) o
+past_adds : (m n : ℕ) (o : Option Owner) → past_tbtts n (past_tbtts m o) ≡ past_tbtts (m + n) o
 unfolding past_tbtts
 past_adds zero n o = ap (λ (k : ℕ). past_tbtts k o) (let e : n ≡ 0 + n = omega arith in e)
 past_adds (suc m) n o = past_adds m n (at_tbtt o) ∙ ap (λ (k : ℕ). past_tbtts k o) (let e : suc (m + n) ≡ suc m + n = omega arith in e)
@@ -225,7 +225,7 @@ owner_adds m pos a b =
     ∙ past_adds (tbtts_in m.station.interval m.station.clock a) (tbtts_in m.station.interval (m.station.clock + a) b) m.owner
     ∙ ap (λ (n : ℕ). past_tbtts n m.owner) (tbtts_add m.station.interval pos m.station.clock a b)
 
-no_tbtts : (b t : ℕ) (o : Owner) → past_tbtts (tbtts_in b t 0) o ≡ o
+no_tbtts : (b t : ℕ) (o : Option Owner) → past_tbtts (tbtts_in b t 0) o ≡ o
 unfolding tbtts_in past_tbtts
 no_tbtts b t o = refl
 

@@ -1,16 +1,12 @@
 -- Each promise of the DFS owner leaves one outcome. Assumes nothing.
 use Rattle.answer.specs.Outcomes.{OneResult}
-use Rattle.owner.proofs.Owner.heard_from as HeardFrom
-use Rattle.owner.proofs.Owner.is as Is
-use Rattle.owner.proofs.Owner.named as Named
-use Rattle.owner.proofs.Owner.past as Past
-use Rattle.owner.proofs.Owner.unknown as Unknown
+use Rattle.owner.proofs.heard_from as HeardFrom
+use Rattle.owner.proofs.is_owner as IsOwner
+use Rattle.owner.proofs.named as Named
+use Rattle.owner.proofs.past as Past
 use Rattle.claims.proofs.Same.{once}
 
-pub owner_unknown : OneResult 0 Unknown.Kinds.ps Unknown.Kinds.r Unknown.Reads.Post
-owner_unknown κs a e f x y p q = once p.0 q.0
-
-pub owner_is : OneResult 0 Is.Kinds.ps Is.Kinds.r Is.Reads.Post
+pub owner_is : OneResult 0 IsOwner.Kinds.ps IsOwner.Kinds.r IsOwner.Reads.Post
 owner_is κs a e f x y p q = once p q
 
 pub owner_named_lem : OneResult 0 Named.Kinds.ps Named.Kinds.r Named.Reads.Post

@@ -14,7 +14,8 @@ use Rattle.answer.specs.Checks.{pick}
 use Rattle.element.specs.IbssDfs.{Dfs}
 use Rattle.header.specs.Headers.{same}
 use Rattle.member.specs.Members.{named_by}
-use Rattle.owner.specs.Owners.{unknown, is_owner, heard_from, at_tbtt, past_tbtts}
+use Rattle.owner.specs.Owners.{new_owner, is_owner, heard_from, at_tbtt, past_tbtts}
+use Rattle.owner.proofs.TbttByTbtt.{none_past}
 use Rattle.owner.specs.Tbtts.{is_tbtt, tbtts_in}
 use Rattle.owner.specs.declared.Owner.{Owner}
 use Rattle.claims.specs.Reigns.{Reign, reign_of, Reigning, nobody, reigns, passed_by, missed_by, at_unit, over_units, owns, naming_at, heard_at}
@@ -27,21 +28,17 @@ Lasting (reigns r) t = (r.since ≤ t) × (1 ≤ r.recovery)
 
 -- an owner by its fields
 abbrev owner_as : Reign → ℕ → Bool → Owner
-owner_as r misses heard = record { known = true; address = r.owner; recovery = r.recovery; misses = misses; heard = heard }
+owner_as r misses heard = record { address = r.owner; recovery = r.recovery; misses = misses; heard = heard }
 
 -- the same with one miss more, if it is not given up there
-abbrev missed_once : Reign → ℕ → Owner
-missed_once r n = pick (leb r.recovery (n + 1)) unknown (owner_as r (n + 1) false)
+abbrev missed_once : Reign → ℕ → Option Owner
+missed_once r n = pick (leb r.recovery (n + 1)) None (Some (owner_as r (n + 1) false))
 
 -- many TBTTs, and one more
-pub one_more : (n : ℕ) (o : Owner) → past_tbtts (suc n) o ≡ at_tbtt (past_tbtts n o)
+pub one_more : (n : ℕ) (o : Option Owner) → past_tbtts (suc n) o ≡ at_tbtt (past_tbtts n o)
 unfolding past_tbtts
 one_more zero o = refl
 one_more (suc n) o = one_more n (at_tbtt o)
-
-none_past : (o : Owner) → past_tbtts 0 o ≡ o
-unfolding past_tbtts
-none_past o = refl
 
 module _ (b : ℕ) where
   none_in : (t : ℕ) → tbtts_in b t 0 ≡ 0
@@ -62,7 +59,7 @@ module _ (b : ℕ) where
     plain_unit n =
         let same_count : passed_by b r (suc u) ≡ passed_by b r u = unit_counted ∙ ap (λ (t : Bool). passed_by b r u + pick t 1 0) n ∙ (let e : passed_by b r u + 0 ≡ passed_by b r u = omega arith in e) in
         ap (λ (t : Bool). owner_told b (suc u) (pick (t && leb r.recovery (missed_by b r (suc u))) nobody (reigns r))) n
-        ∙ ap (λ (k : ℕ). owner_as r (k - pick r.by_owner 1 0) (r.by_owner && eqb k 0)) same_count
+        ∙ ap (λ (k : ℕ). Some (owner_as r (k - pick r.by_owner 1 0) (r.by_owner && eqb k 0))) same_count
 
     -- a TBTT
     tbtt_unit : 1 ≤ r.recovery → is_tbtt b (suc u) ≡ true → owner_told b (suc u) (at_unit b (suc u) (reigns r)) ≡ at_tbtt (owner_told b u (reigns r))
@@ -70,31 +67,31 @@ module _ (b : ℕ) where
         let one-passed : passed_by b r (suc u) ≡ passed_by b r u + 1 = unit_counted ∙ ap (λ (t : Bool). passed_by b r u + pick t 1 0) y in
         ap (λ (t : Bool). owner_told b (suc u) (pick (t && leb r.recovery (missed_by b r (suc u))) nobody (reigns r))) y
         ∙ told_if (leb r.recovery (missed_by b r (suc u)))
-        ∙ ap (λ (k : ℕ). pick (leb r.recovery (k - pick r.by_owner 1 0)) unknown (owner_as r (k - pick r.by_owner 1 0) (r.by_owner && eqb k 0))) one-passed
+        ∙ ap (λ (k : ℕ). pick (leb r.recovery (k - pick r.by_owner 1 0)) None (Some (owner_as r (k - pick r.by_owner 1 0) (r.by_owner && eqb k 0)))) one-passed
         ∙ by_beacon r.by_owner (passed_by b r u)
       where
-        told_if : (ends : Bool) → owner_told b (suc u) (pick ends nobody (reigns r)) ≡ pick ends unknown (owner_told b (suc u) (reigns r))
+        told_if : (ends : Bool) → owner_told b (suc u) (pick ends nobody (reigns r)) ≡ pick ends None (owner_told b (suc u) (reigns r))
         told_if true = refl
         told_if false = refl
 
         -- by whether the latest beacon that set the count to 0 was the owner's, and how many TBTTs had passed since
         by_beacon : (own : Bool) (k : ℕ)
-            → pick (leb r.recovery (k + 1 - pick own 1 0)) unknown (owner_as r (k + 1 - pick own 1 0) (own && eqb (k + 1) 0))
-            ≡ at_tbtt (owner_as r (k - pick own 1 0) (own && eqb k 0))
+            → pick (leb r.recovery (k + 1 - pick own 1 0)) None (Some (owner_as r (k + 1 - pick own 1 0) (own && eqb (k + 1) 0)))
+            ≡ at_tbtt (Some (owner_as r (k - pick own 1 0) (own && eqb k 0)))
         by_beacon false k =
-            ap (λ (m : ℕ). pick (leb r.recovery m) unknown (owner_as r m false)) (let e : k + 1 - 0 ≡ k - 0 + 1 = omega arith in e)
-        by_beacon true zero = ap (λ (t : Bool). pick t unknown (owner_as r 0 false)) (lt-leb r.recovery 0 some)
+            ap (λ (m : ℕ). pick (leb r.recovery m) None (Some (owner_as r m false))) (let e : k + 1 - 0 ≡ k - 0 + 1 = omega arith in e)
+        by_beacon true zero = ap (λ (t : Bool). pick t None (Some (owner_as r 0 false))) (lt-leb r.recovery 0 some)
         by_beacon true (suc k) =
-            ap₂ (λ (m : ℕ) (t : Bool). pick (leb r.recovery m) unknown (owner_as r m t))
+            ap₂ (λ (m : ℕ) (t : Bool). pick (leb r.recovery m) None (Some (owner_as r m t)))
             (let e : suc k + 1 - 1 ≡ suc k - 1 + 1 = omega arith in e)
             (ne_eqb (suc k + 1) 0 (λ (e : suc k + 1 ≡ 0). omega arith))
-            ∙ ap (λ (t : Bool). at_tbtt (owner_as r (suc k - 1) t)) (sym (ne_eqb (suc k) 0 (λ (e : suc k ≡ 0). omega arith)))
+            ∙ ap (λ (t : Bool). at_tbtt (Some (owner_as r (suc k - 1) t))) (sym (ne_eqb (suc k) 0 (λ (e : suc k ≡ 0). omega arith)))
 
   unit_told : (w : Reigning) (u : ℕ) → Lasting w u
       → owner_told b (suc u) (at_unit b (suc u) w) ≡ pick (is_tbtt b (suc u)) (at_tbtt (owner_told b u w)) (owner_told b u w)
   unit_told nobody u l = by (is_tbtt b (suc u))
     where
-      by : (t : Bool) → unknown ≡ pick t (at_tbtt unknown) unknown
+      by : (t : Bool) → ◌≡◌ {A = Option Owner} None (pick t (at_tbtt None) None)
       by true = refl
       by false = refl
   unit_told (reigns r) u l =
@@ -135,7 +132,7 @@ module _ (b : ℕ) where
       let before = units_told w t n l in
       ap (λ (u : ℕ). owner_told b u (at_unit b u here)) next
       ∙ unit_told here (t + n) (units_last w t n l)
-      ∙ ap₂ (λ (u : ℕ) (o : Owner). pick (is_tbtt b u) (at_tbtt o) o) (sym next) before
+      ∙ ap₂ (λ (u : ℕ) (o : Option Owner). pick (is_tbtt b u) (at_tbtt o) o) (sym next) before
       ∙ by (is_tbtt b (t + suc n)) (tbtts_in b t n)
     where
       by : (at : Bool) (k : ℕ) → pick at (at_tbtt (past_tbtts k (owner_told b t w))) (past_tbtts k (owner_told b t w)) ≡ past_tbtts (k + pick at 1 0) (owner_told b t w)
@@ -151,12 +148,12 @@ module _ (b : ℕ) where
 
     -- a beacon that sets the count to 0 has missed nothing yet
     just_now : (own : Bool) (a : List ℕ) (recovery : ℕ)
-        → owner_told b t (reigns (reign_of a recovery t own)) ≡ record { known = true; address = a; recovery = recovery; misses = 0; heard = own }
+        → owner_told b t (reigns (reign_of a recovery t own)) ≡ Some (record { address = a; recovery = recovery; misses = 0; heard = own })
     just_now own a recovery =
-        ap (λ (k : ℕ). owner_as (reign_of a recovery t own) (k - pick own 1 0) (own && eqb k 0)) (ap (tbtts_in b t) (let e : t - t ≡ 0 = omega arith in e) ∙ none_in t) ∙ by own
+        ap (λ (k : ℕ). Some (owner_as (reign_of a recovery t own) (k - pick own 1 0) (own && eqb k 0))) (ap (tbtts_in b t) (let e : t - t ≡ 0 = omega arith in e) ∙ none_in t) ∙ ap Some (by own)
       where
         by : (x : Bool)
-            → owner_as (reign_of a recovery t own) (0 - pick x 1 0) (x && eqb 0 0) ≡ record { known = true; address = a; recovery = recovery; misses = 0; heard = x }
+            → owner_as (reign_of a recovery t own) (0 - pick x 1 0) (x && eqb 0 0) ≡ record { address = a; recovery = recovery; misses = 0; heard = x }
         by true = refl
         by false = refl
 
@@ -167,9 +164,9 @@ module _ (b : ℕ) where
       where
         by : (as_before_lem : Bool)
             → owner_told b t (reigns (pick as_before_lem (reign_of r.owner d.recovery r.since r.by_owner) (reign_of d.owner d.recovery t false)))
-            ≡ pick as_before_lem
-            (record { known = true; address = r.owner; recovery = d.recovery; misses = missed_by b r t; heard = r.by_owner && eqb (passed_by b r t) 0 })
-            (record { known = true; address = d.owner; recovery = d.recovery; misses = 0; heard = false })
+            ≡ Some (pick as_before_lem
+            (record { address = r.owner; recovery = d.recovery; misses = missed_by b r t; heard = r.by_owner && eqb (passed_by b r t) 0 })
+            (new_owner d.owner d.recovery))
         by true = refl
         by false = just_now false d.owner d.recovery
 
@@ -179,7 +176,7 @@ module _ (b : ℕ) where
       where
         by : (from_owner : Bool)
             → owner_told b t (reigns (pick from_owner (reign_of r.owner r.recovery t true) r))
-            ≡ pick from_owner (record { known = true; address = r.owner; recovery = r.recovery; misses = 0; heard = true }) (owner_told b t (reigns r))
+            ≡ Some (pick from_owner (record { address = r.owner; recovery = r.recovery; misses = 0; heard = true }) (owner_as r (missed_by b r t) (r.by_owner && eqb (passed_by b r t) 0)))
         by true = just_now true r.owner r.recovery
         by false = refl
 

@@ -6,6 +6,7 @@ use native.Mathlib.Nat.{lt_of_mul-lt-mul_left}
 use native.Mathlib.Omega.{arith}
 use lib.ListN.{length}
 use Rattle.octets.specs.Sums.{sum_of}
+use Rattle.octets.proofs.SumLaws.{entry_in_sum}
 use Rattle.fraction.specs.Fractions.{fraction_of}
 use Rattle.fraction.proofs.Ceilings.{least, near}
 
@@ -35,3 +36,6 @@ sum_bound duration (t ∷ times) pos h =
 pub sum_of_eight : (duration : ℕ) (times : List ℕ) → 0 < duration → sum_of times ≤ 1024 * duration → length times ≡ 8
     → sum_of (map (fraction_of duration) times) ≤ 262
 sum_of_eight duration times pos h eight = omega (arith, sum_bound duration times pos h)
+
+-- what the densities need: no time is over the sum, and how large they are together
+pub ruleset bounds = (entry_in_sum, sum_of_eight)

@@ -52,7 +52,7 @@ fn shares(times: [u32; 8], duration: u16) -> [u8; 8]
 }
 
 // The eight densities together, of eight times in µs within a duration in TU.
-#[tactic(auto, unfolding(crate::specs::Fractions::possible, crate::specs::Fractions::densities_of, answer::specs::Checks::checked), using(crate::proofs::SumBound::sum_of_eight, octets::proofs::SumLaws::entry_in_sum))]
+#[tactic(auto, unfolding(crate::specs::Fractions::possible, crate::specs::Fractions::densities_of, answer::specs::Checks::checked), using(crate::proofs::SumBound::bounds))]
 pub fn rpi_densities(times: [u32; 8], duration: u16) -> Result<[u8; 8], Refusal>
     ensures value { result ≡ densities_of duration times }
     ensures values_bound { IfOk result (λ values. sum_of values ≤ 262) }

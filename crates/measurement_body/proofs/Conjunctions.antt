@@ -28,7 +28,3 @@ and_last true true false = refl
 and_last true false true = refl
 and_last true false false = refl
 and_last false b c = refl
-
--- after three tests that hold, the fourth decides
-pub last_test : (a b c d : Bool) → a ≡ true → b ≡ true → c ≡ true → d ≡ (a && (b && (c && d)))
-last_test a b c d p q r = simp (p, q, r)

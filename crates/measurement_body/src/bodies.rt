@@ -3,7 +3,7 @@ ghost use Rattle.std.specs.Prelude.{◌++◌, ◌≡◌, ◌+◌, ◌≤◌, leb
 ghost use Rattle.action.specs.Openings.{fixed_fields};
 ghost use Rattle.answer.specs.Checks.{pick};
 ghost use Rattle.octets.specs.Writing.{Written};
-ghost use Rattle.measurement_body.specs.Bodies.{longest_body, opening, begins};
+ghost use Rattle.measurement_body.specs.Bodies.{longest_body, opening as opening_octets, begins};
 ghost use Rattle.measurement_body.specs.CodeTerms.Appending.{longest_element, Fronts, may_join, may_follow, following};
 ghost use Rattle.measurement_body.specs.Surveys.{surveyed};
 ghost use Rattle.measurement_body.specs.Kinds.{sort_of};
@@ -22,11 +22,29 @@ const LONGEST_ELEMENT: usize = 24;
 // How many octets a body of one element has at most.
 const ROOM: usize = FIXED_FIELDS + LONGEST_ELEMENT;
 
-// Whether what is there begins a body of an action and a token.
-fn is_begun(there: &[u8], action: u8, token: u8) -> bool
-    ensures { result ≡ begins action token there.now }
+// What a body is to be: its kind, and its token.
+#[derive(Clone, Copy)]
+pub struct Opening {
+    pub kind: Kind,
+    pub token: u8,
+}
+
+// An element that is to be put: its own token, whether it may be written at all, and its octets.
+#[derive(Clone, Copy)]
+pub struct Element<'a> {
+    pub token: u8,
+    pub may: bool,
+    pub octets: &'a [u8],
+}
+
+// Whether what is there begins such a body.
+fn is_begun(there: &[u8], opening: Opening) -> bool
+    ensures { result ≡ begins (sort_of opening.kind).action opening.token there.now }
 {
-    FIXED_FIELDS <= there.len() && there[0] == 0 && there[1] == action && there[2] == token
+    FIXED_FIELDS <= there.len()
+        && there[0] == 0
+        && there[1] == opening.kind.action()
+        && there[2] == opening.token
 }
 
 // Whether a body may have an element of `count` octets after the `used` ones; with none used, the fixed fields come in front. What
@@ -42,30 +60,32 @@ fn stays_short(used: usize, count: usize) -> bool
 fn may_join(there: &[u8], kind: Kind, own: u8) -> bool
     ensures { result ≡ may_join (sort_of kind).once (surveyed (sort_of kind) 0 own there.now) }
 {
-    surveying::survey(there, kind, 0, own).is_ok_and(|found| found.plain
-        && !(kind.has_tokens_once() && found.hit))
+    match surveying::survey(there, kind, 0, own) {
+        Err(_) => false,
+        Ok(found) => found.plain && !(kind.has_tokens_once() && found.hit),
+    }
 }
 
-// Whether an element of `count` octets with the token `own` may follow what is there. The length is judged before the walk, so that
-// nothing longer than a body is walked.
+// Whether an element may follow what is there. The length is judged before the walk, so that nothing longer than a body is walked.
 #[tactic(auto, unfolding(crate::specs::CodeTerms::Appending::may_follow))]
-fn may_follow(there: &[u8], kind: Kind, token: u8, own: u8, count: usize, may: bool) -> bool
-    ensures { result ≡ may_follow (sort_of kind) token own count may there.now }
+fn may_follow(there: &[u8], opening: Opening, element: Element) -> bool
+    ensures { result ≡ may_follow (sort_of opening.kind) opening.token element.entry.token (length element.entry.octets.now) element.entry.may there.now }
 {
-    let action = kind.action();
-    may && !action::forbids_token(action, token)
-        && stays_short(there.len(), count)
-        && (there.is_empty() || is_begun(there, action, token) && may_join(there, kind, own))
+    element.may
+        && !action::forbids_token(opening.kind.action(), opening.token)
+        && stays_short(there.len(), element.octets.len())
+        && (there.is_empty()
+            || is_begun(there, opening) && may_join(there, opening.kind, element.token))
 }
 
 // A body of one element, and after it some octets that are not written.
-fn body_octets(kind: Kind, token: u8, element: &[u8]) -> [u8; ROOM]
+fn body_octets(opening: Opening, element: &[u8]) -> [u8; ROOM]
     requires { length element.now ≤ longest_element }
-    ensures { Fronts (opening (sort_of kind).action token ++ element.now) result }
+    ensures { Fronts (opening_octets (sort_of opening.kind).action opening.token ++ element.now) result }
 {
     let mut bytes = [0u8; ROOM];
-    bytes[1] = kind.action();
-    bytes[2] = token;
+    bytes[1] = opening.kind.action();
+    bytes[2] = opening.token;
     bytes[FIXED_FIELDS..FIXED_FIELDS + element.len()].copy_from_slice(element);
     bytes
 }
@@ -77,24 +97,20 @@ fn first_put(used: usize) -> usize
     if used == 0 { 0 } else { FIXED_FIELDS }
 }
 
-// Writes an element after the first `used` octets of the buffer; with none used it starts a body with this token. `own` is the element's
-// own token, and `may` says that the element may be written at all. A buffer that has not even the octets in use is too short.
+// Writes an element after the first `used` octets of the buffer; with none used it starts a body. A buffer that has not even the octets in use is too short.
 pub fn append(
     buffer: &mut [u8],
     used: usize,
-    kind: Kind,
-    token: u8,
-    own: u8,
-    may: bool,
-    element: &[u8],
+    opening: Opening,
+    element: Element,
 ) -> Result<usize, Refusal>
-    requires { length element.now ≤ longest_element }
-    ensures { Written (may_follow (sort_of kind) token own (length element.now) may (take used buffer.old)) (following (sort_of kind) token (take used buffer.old) element.now) used buffer.old result buffer.new }
+    requires { length element.octets.now ≤ longest_element }
+    ensures { let e = element.entry in let s = sort_of opening.kind in let there = take used buffer.old in Written (may_follow s opening.token e.token (length e.octets.now) e.may there) (following s opening.token there e.octets.now) used buffer.old result buffer.new }
 {
     let there = used.min(buffer.len());
-    let allowed = may_follow(&buffer[..there], kind, token, own, element.len(), may);
-    let bytes = body_octets(kind, token, element);
+    let allowed = may_follow(&buffer[..there], opening, element);
+    let bytes = body_octets(opening, element.octets);
     let start = first_put(there);
-    let end = FIXED_FIELDS + element.len();
+    let end = FIXED_FIELDS + element.octets.len();
     octets::put(allowed, &bytes[start..end], buffer, used)
 }

@@ -5,6 +5,7 @@ ghost use Rattle.measurement_body.specs.Bodies.{may_append, appended};
 ghost use Rattle.measurement_body.specs.Reports.{report_sort};
 
 use crate::bodies;
+use crate::bodies::{Element, Opening};
 use crate::kinds::Kind;
 use answer::Refusal;
 use measurement_element::measurement_report;
@@ -14,10 +15,15 @@ use measurement_element::measurement_report::Report;
 pub fn append(buffer: &mut [u8], used: usize, token: u8, report: Report) -> Result<usize, Refusal>
     ensures { Written (may_append report_sort token report (take used buffer.old)) (appended report_sort token report (take used buffer.old)) used buffer.old result buffer.new }
 {
-    let kind = Kind::Reports;
-    let own = report.token;
-    let may = measurement_report::may_write(report);
     let bytes = measurement_report::to_octets(report);
-    let count = measurement_report::octet_count(report);
-    bodies::append(buffer, used, kind, token, own, may, &bytes[..count])
+    let element = Element {
+        token: report.token,
+        may: measurement_report::may_write(report),
+        octets: &bytes[..measurement_report::octet_count(report)],
+    };
+    let opening = Opening {
+        kind: Kind::Reports,
+        token,
+    };
+    bodies::append(buffer, used, opening, element)
 }

@@ -5,6 +5,7 @@ ghost use Rattle.measurement_body.specs.Bodies.{may_append, appended};
 ghost use Rattle.measurement_body.specs.Requests.{request_sort};
 
 use crate::bodies;
+use crate::bodies::{Element, Opening};
 use crate::kinds::Kind;
 use answer::Refusal;
 use measurement_element::measurement_request;
@@ -14,10 +15,15 @@ use measurement_element::measurement_request::Request;
 pub fn append(buffer: &mut [u8], used: usize, token: u8, request: Request) -> Result<usize, Refusal>
     ensures { Written (may_append request_sort token request (take used buffer.old)) (appended request_sort token request (take used buffer.old)) used buffer.old result buffer.new }
 {
-    let kind = Kind::Requests;
-    let own = request.token;
-    let may = measurement_request::may_write(request);
     let bytes = measurement_request::to_octets(request);
-    let count = measurement_request::octet_count(request);
-    bodies::append(buffer, used, kind, token, own, may, &bytes[..count])
+    let element = Element {
+        token: request.token,
+        may: measurement_request::may_write(request),
+        octets: &bytes[..measurement_request::octet_count(request)],
+    };
+    let opening = Opening {
+        kind: Kind::Requests,
+        token,
+    };
+    bodies::append(buffer, used, opening, element)
 }

@@ -26,7 +26,7 @@ use Rattle.frame.specs.IbssLaid.{ibss_laid}
 use Rattle.frame.specs.Laid.{frame_of}
 use Rattle.frame.specs.declared.ibss.ReceivedInIbss.{ReceivedInIbss}
 use Rattle.owner.proofs.KeptFit.{named_fits, heard_fits}
-use Rattle.owner.specs.Owners.{is_owner, named, heard_from, OwnerFits}
+use Rattle.owner.specs.Owners.{is_owner, named, heard_from, KeptFits}
 use Rattle.owner.specs.declared.Owner.{Owner}
 use Rattle.station.proofs.Received.{laid_means}
 use Rattle.station.specs.Taking as StationTaking
@@ -48,7 +48,7 @@ announces_as (action (tpc_request token)) = refl
 announces_as (action (tpc_report token t)) = refl
 announces_as (action (switch w)) = refl
 
-heard_as : (o : Owner) (a : List ℕ) (k : Kind) → pick (is_beacon (Ok (frame_of k))) (heard_from o a) o ≡ heard_by o a k
+heard_as : (o : Option Owner) (a : List ℕ) (k : Kind) → pick (is_beacon (Ok (frame_of k))) (heard_from o a) o ≡ heard_by o a k
 heard_as o a (beacon t) = refl
 heard_as o a (probe_response t) = refl
 heard_as o a (action (requests token rs)) = refl
@@ -69,23 +69,23 @@ module _ (m : Member) where
   abbrev pub foreign_in : ReceivedInIbss → Bool
   foreign_in v = announces v.received.reading && not (is_owner (owner_named m.owner v) v.sender)
 
-  abbrev pub owner_after : ReceivedInIbss → Owner
+  abbrev pub owner_after : ReceivedInIbss → Option Owner
   owner_after v = pick (is_beacon v.received.reading) (heard_from (owner_named m.owner v) v.sender) (owner_named m.owner v)
 
   abbrev taken_as : Verdict → Member → Taken
   taken_as verdict next = record { verdict = verdict; member = next }
 
-  named_as : (d : Option Dfs) → pick (is_some d) (named m.owner (dfs_fields d).owner (dfs_fields d).recovery) m.owner ≡ named_by m.owner d
+  named_as : (d : Option Dfs) → owner_named m.owner (option_map dfs_fields d) ≡ named_by m.owner d
   named_as None = refl
   named_as (Some d) = refl
 
   module _ (x : SentInIbss) where
     foreign_as : foreign_in (ibss_laid (Ok x)) ≡ foreign_announcement (named_by m.owner x.dfs) x
-    foreign_as = ap₂ (λ (t : Bool) (o : Owner). t && not (is_owner o x.sender)) (announces_as x.sent.kind) (named_as x.dfs)
+    foreign_as = ap₂ (λ (t : Bool) (o : Option Owner). t && not (is_owner o x.sender)) (announces_as x.sent.kind) (named_as x.dfs)
 
     owner_as_lem : owner_after (ibss_laid (Ok x)) ≡ heard_by (named_by m.owner x.dfs) x.sender x.sent.kind
     owner_as_lem =
-        ap (λ (o : Owner). pick (is_beacon (Ok (frame_of x.sent.kind))) (heard_from o x.sender) o) (named_as x.dfs)
+        ap (λ (o : Option Owner). pick (is_beacon (Ok (frame_of x.sent.kind))) (heard_from o x.sender) o) (named_as x.dfs)
         ∙ heard_as (named_by m.owner x.dfs) x.sender x.sent.kind
 
     by_test_lem : (foreign : Bool) → foreign_announcement (named_by m.owner x.dfs) x ≡ foreign
@@ -111,24 +111,24 @@ module _ (m : Member) where
   taken_as_lem (Err q) e =
       ap (λ (y : Placed Station). let t = StationTaking.taken m.station y in taken_as t.verdict (member_of t.station m.owner)) (laid_means m.station (Err q))
   taken_as_lem (Ok x) e =
-      ap₂ (λ (y : Placed Station) (o : Owner). let t = StationTaking.taken m.station y in taken_as t.verdict (member_of t.station o))
+      ap₂ (λ (y : Placed Station) (o : Option Owner). let t = StationTaking.taken m.station y in taken_as t.verdict (member_of t.station o))
       (laid_means m.station (Ok x.sent)) (owner_as_lem x)
       ∙ sym (by_test_lem x false (sym (foreign_as x) ∙ e))
 
   -- ---- the owner still fits
 
-  pub owner_fits_after : OwnerFits m.owner → (o : Placed SentInIbss) → ((x : SentInIbss) → o ≡ Ok x → (d : Dfs) → x.dfs ≡ Some d → 1 ≤ d.recovery)
-      → OwnerFits (owner_after (ibss_laid o))
+  pub owner_fits_after : KeptFits m.owner → (o : Placed SentInIbss) → ((x : SentInIbss) → o ≡ Ok x → (d : Dfs) → x.dfs ≡ Some d → 1 ≤ d.recovery)
+      → KeptFits (owner_after (ibss_laid o))
   owner_fits_after fits (Err q) some = fits
   owner_fits_after fits (Ok x) some =
       by (is_beacon (Ok (frame_of x.sent.kind))) (by_dfs x.dfs refl)
     where
-      by_dfs : (d : Option Dfs) → x.dfs ≡ d → OwnerFits (pick (is_some d) (named m.owner (dfs_fields d).owner (dfs_fields d).recovery) m.owner)
+      by_dfs : (d : Option Dfs) → x.dfs ≡ d → KeptFits (owner_named m.owner (option_map dfs_fields d))
       by_dfs None e = fits
       by_dfs (Some d) e = named_fits m.owner d.owner d.recovery fits (some x refl d e)
 
-      by : (is-beacon : Bool) → OwnerFits (owner_named m.owner (ibss_laid (Ok x)))
-          → OwnerFits (pick is-beacon (heard_from (owner_named m.owner (ibss_laid (Ok x))) x.sender) (owner_named m.owner (ibss_laid (Ok x))))
+      by : (is-beacon : Bool) → KeptFits (owner_named m.owner (ibss_laid (Ok x)))
+          → KeptFits (pick is-beacon (heard_from (owner_named m.owner (ibss_laid (Ok x))) x.sender) (owner_named m.owner (ibss_laid (Ok x))))
       by true f = heard_fits (owner_named m.owner (ibss_laid (Ok x))) x.sender f
       by false f = f
 

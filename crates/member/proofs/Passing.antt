@@ -8,6 +8,7 @@ use lib.Dec.{ltb}
 use Rattle.answer.proofs.Judged.{never}
 use Rattle.answer.specs.Checks.{Outcome, pick, and_then}
 use Rattle.owner.proofs.CountingUnits.{tbtts_between}
+use Rattle.owner.proofs.TbttByTbtt.{none_past}
 use Rattle.owner.specs.Owners.{past_tbtts}
 use Rattle.owner.specs.Tbtts.{tbtts_in}
 use Rattle.owner.specs.declared.Owner.{Owner}
@@ -45,10 +46,6 @@ module _ (s : Station) (n : ℕ) where
       by_test_lem true f = absurd (never f)
       by_test_lem false f = by_pending s.pending f
 
-none_past : (o : Owner) → past_tbtts 0 o ≡ o
-unfolding past_tbtts
-none_past o = refl
-
 -- ---- an advance of the station, and what it makes of the owner
 
 module _ (m : Member) (n : ℕ) (pos : 1 ≤ m.station.interval) where
@@ -71,7 +68,7 @@ module _ (m : Member) (n : ℕ) (pos : 1 ≤ m.station.interval) where
   by_outcome : (o : Outcome Station) → advance_means s n ≡ o
       → stepped_by (Clock.stepped s o) ≡ stepped m (and_then o (λ next. Ok (member_of next (owner_past m n))))
   by_outcome (Err r) e =
-      ap (λ (o : Owner). record { answer = Err r; member = member_of s o })
+      ap (λ (o : Option Owner). record { answer = Err r; member = member_of s o })
       (ap (λ (k : ℕ). past_tbtts k m.owner) (let z : s.clock / b - s.clock / b ≡ 0 = omega arith in z) ∙ none_past m.owner)
   by_outcome (Ok next) e =
       ap (λ (k : ℕ). record { answer = Ok tt; member = member_of next (past_tbtts k m.owner) })
@@ -82,7 +79,7 @@ module _ (m : Member) (n : ℕ) (pos : 1 ≤ m.station.interval) where
   unfolding member_advances
   advanced_as = by_outcome (advance_means s n) refl
 
-  pub advanced_by_lem : (x : ClockStepped.Stepped) (o : Owner) → x ≡ Clock.advance_of s n → o ≡ past_tbtts (x.station.clock / b - s.clock / b) m.owner
+  pub advanced_by_lem : (x : ClockStepped.Stepped) (o : Option Owner) → x ≡ Clock.advance_of s n → o ≡ past_tbtts (x.station.clock / b - s.clock / b) m.owner
       → record { answer = x.answer; member = member_of x.station o } ≡ advance_of m n
   advanced_by_lem x o e past =
-      ap (λ (y : Owner). record { answer = x.answer; member = member_of x.station y }) past ∙ ap stepped_by e ∙ advanced_as
+      ap (λ (y : Option Owner). record { answer = x.answer; member = member_of x.station y }) past ∙ ap stepped_by e ∙ advanced_as

@@ -6,7 +6,7 @@ use Rattle.answer.specs.declared.Refusal.{Refusal}
 use Rattle.frame.specs.Announcements.{announcement_in}
 use Rattle.frame.specs.Frames.{Kind, beacon, probe_response, action}
 use Rattle.frame.specs.IbssFrames.{SentInIbss, ibss_frame_means}
-use Rattle.owner.specs.Owners.{unknown, is_owner, named, heard_from, past_tbtts}
+use Rattle.owner.specs.Owners.{is_owner, named, heard_from, past_tbtts}
 use Rattle.owner.specs.Tbtts.{tbtts_in}
 use Rattle.owner.specs.declared.Owner.{Owner}
 use Rattle.station.specs.Clock.{advance_means}
@@ -18,29 +18,29 @@ use Rattle.member.specs.declared.clock.Stepped.{Stepped}
 use Rattle.member.specs.declared.taking.Taken.{Taken}
 use Rattle.element.specs.IbssDfs.{Dfs}
 
-abbrev pub member_of : Station → Owner → Member
+abbrev pub member_of : Station → Option Owner → Member
 member_of s o = record { station = s; owner = o }
 
 -- ---- start: 15 as in 01; "at start the owner is unknown"
 
 abbrev pub start_of : List ℕ → List ℕ → ℕ → ℕ → Outcome Member
-start_of own bssid b channel = and_then (start_means own bssid b channel) (λ s. Ok (member_of s unknown))
+start_of own bssid b channel = and_then (start_means own bssid b channel) (λ s. Ok (member_of s None))
 
 -- ---- frames
 
 -- "The latest accepted beacon with element 41 decides owner and interval"
-abbrev pub named_by : Owner → Option Dfs → Owner
+abbrev pub named_by : Option Owner → Option Dfs → Option Owner
 named_by o None = o
-named_by o (Some d) = named o d.owner d.recovery
+named_by o (Some d) = Some (named o d.owner d.recovery)
 
 -- a beacon is heard from its sender
-abbrev pub heard_by : Owner → List ℕ → Kind → Owner
+abbrev pub heard_by : Option Owner → List ℕ → Kind → Option Owner
 heard_by o sender (beacon t) = heard_from o sender
 heard_by o sender (probe_response t) = o
 heard_by o sender (action body) = o
 
 -- an announcement by any but this owner, if it is known at all
-abbrev pub foreign_announcement : Owner → SentInIbss → Bool
+abbrev pub foreign_announcement : Option Owner → SentInIbss → Bool
 foreign_announcement o x = is_some (announcement_in x.sent.kind) && not (is_owner o x.sender)
 
 -- a frame that is accepted but for this: 23 comes last, and element 41 comes before the announcement of its own beacon
@@ -67,7 +67,7 @@ stepped m (Err r) = record { answer = Err r; member = m }
 stepped m (Ok next) = record { answer = Ok tt; member = next }
 
 -- the owner after the TBTTs among the n units that the clock goes on by
-abbrev pub owner_past : Member → ℕ → Owner
+abbrev pub owner_past : Member → ℕ → Option Owner
 owner_past m n = past_tbtts (tbtts_in m.station.interval m.station.clock n) m.owner
 
 unfoldable pub member_advances : Member → ℕ → Outcome Member

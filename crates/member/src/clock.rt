@@ -30,9 +30,11 @@ impl Member {
         ensures kept { ValidMember result.member }
     {
         let station = self.station;
-        let owner = self.owner;
         let stepped = station.advance(units);
-        let past = owner.past(tbtts_between(station.clock, stepped.station.clock, station.interval));
+        let past = owner::past(
+            self.owner,
+            tbtts_between(station.clock, stepped.station.clock, station.interval),
+        );
         Stepped {
             answer: stepped.answer,
             member: Member {

@@ -18,7 +18,7 @@ pub use taking::Taken;
 #[derive(Clone, Copy)]
 pub struct Member {
     pub station: Station,
-    pub owner: Owner,
+    pub owner: Option<Owner>,
 }
 
 impl Member {

@@ -4,18 +4,22 @@ ghost use Rattle.member.specs.Members.{start_of};
 ghost use Rattle.member.specs.Validity.{ValidMember};
 
 use crate::Member;
-use owner::Owner;
-use station::Station;
 use answer::Refusal;
+use station::Station;
 
 impl Member {
-    pub fn start(own: [u8; 6], bssid: [u8; 6], interval: u16, channel: u8) -> Result<Member, Refusal>
+    pub fn start(
+        own: [u8; 6],
+        bssid: [u8; 6],
+        interval: u16,
+        channel: u8,
+    ) -> Result<Member, Refusal>
         ensures value { result ≡ start_of own bssid interval channel }
         ensures valid { IfOk result ValidMember }
     {
         Ok(Member {
             station: Station::start(own, bssid, interval, channel)?,
-            owner: Owner::unknown(),
+            owner: None,
         })
     }
 }

@@ -45,28 +45,32 @@ fn is_beacon(received: Result<Received, Fault>) -> bool
 }
 
 // The owner that a beacon's element 41 names, or the one before.
-fn named_by(owner: Owner, dfs: Option<IbssDfs>) -> Owner
+fn named_by(owner: Option<Owner>, dfs: Option<IbssDfs>) -> Option<Owner>
     ensures { result ≡ owner_named owner dfs }
 {
     match dfs {
         None => owner,
-        Some(dfs) => owner.named(dfs.owner, dfs.recovery),
+        Some(dfs) => Some(owner::named(owner, dfs.owner, dfs.recovery)),
     }
 }
 
 // An announcement by any but a known owner.
-fn is_foreign(received: Result<Received, Fault>, owner: Owner, sender: [u8; 6]) -> bool
+fn is_foreign(received: Result<Received, Fault>, owner: Option<Owner>, sender: [u8; 6]) -> bool
     ensures { result ≡ (announces received && not (is_owner owner sender)) }
 {
-    announces(received) && !owner.is(sender)
+    announces(received) && !owner::is_owner(owner, sender)
 }
 
 // The owner after a frame that was accepted: a beacon is heard from its sender.
-fn heard_by(owner: Owner, received: Result<Received, Fault>, sender: [u8; 6]) -> Owner
+fn heard_by(
+    owner: Option<Owner>,
+    received: Result<Received, Fault>,
+    sender: [u8; 6],
+) -> Option<Owner>
     ensures { result ≡ pick (is_beacon received) (heard_from owner sender) owner }
 {
     if is_beacon(received) {
-        return owner.heard_from(sender);
+        return owner::heard_from(owner, sender);
     }
     owner
 }

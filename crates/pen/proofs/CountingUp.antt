@@ -71,6 +71,12 @@ pub record Counting (n from : ℕ) (s : List ℕ) (at : ℕ) : Type 0 where
   pub place : from + length (decimal head) ≡ at + 1
   pub becomes : decimal (n + 1) ≡ decimal (head + 1) ++ done
 
+-- every digit was a nine and is a zero: the next number has a one in front of them
+pub record Passed (n from : ℕ) (s : List ℕ) : Type 0 where
+  pub done : List ℕ
+  pub stands : drop from (take numeral_end s) ≡ done
+  pub becomes : decimal (n + 1) ≡ 49 ∷ done
+
 pub counting_begins : {n from : ℕ} {s : List ℕ} → Spells n s from → Counting n from s 19
 counting_begins {n} {from} {s} p =
     record {
@@ -139,16 +145,21 @@ module _ {n from : ℕ} {s : List ℕ} {at : ℕ} (c : Counting n from s at) (ro
             }
 
     -- the first digit of all
-    pub grown : at ≡ from → 1 ≤ from → Spells (n + 1) (set (set s at 48) (from - 1) 49) (from - 1)
-    grown first free = ⊎_elim alone_now (λ w. absurd (omega (arith, here, ap length w.0, some_digits (m / 10)))) ((last m).over is_nine)
+    pub all_nines : at ≡ from → Passed n from (set s at 48)
+    all_nines first = ⊎_elim alone_now (λ w. absurd (omega (arith, here, ap length w.0, some_digits (m / 10)))) ((last m).over is_nine)
       where
-        alone_now : (front ≡ []) × (decimal (m + 1) ≡ 49 ∷ 48 ∷ []) → Spells (n + 1) (set (set s at 48) (from - 1) 49) (from - 1)
+        alone_now : (front ≡ []) × (decimal (m + 1) ≡ 49 ∷ 48 ∷ []) → Passed n from (set s at 48)
         alone_now w =
             record {
-              room = length-set (set s at 48) (from - 1) 49 ∙ length-set s at 48 ∙ room;
-              says =
-                  digit_before (set s at 48) from 49 (length-set s at 48 ∙ room) free (omega arith)
-                  ∙ ap (λ (xs : List ℕ). 49 ∷ xs) (changed 48 ∙ ap (λ (xs : List ℕ). xs ++ (48 ∷ c.done)) w.0)
-                  ∙ ap (λ (xs : List ℕ). xs ++ c.done) (sym w.1)
-                  ∙ sym c.becomes;
+              done = 48 ∷ c.done;
+              stands = changed 48 ∙ ap (λ (xs : List ℕ). xs ++ (48 ∷ c.done)) w.0;
+              becomes = c.becomes ∙ ap (λ (xs : List ℕ). xs ++ c.done) w.1;
             }
+
+-- the one
+pub grown : {n from : ℕ} {s : List ℕ} → Passed n from s → length s ≡ numeral_room → 1 ≤ from → from ≤ numeral_end → Spells (n + 1) (set s (from - 1) 49) (from - 1)
+grown {n} {from} {s} p room free inside =
+    record {
+      room = length-set s (from - 1) 49 ∙ room;
+      says = digit_before s from 49 room free inside ∙ ap (λ (xs : List ℕ). 49 ∷ xs) p.stands ∙ sym p.becomes;
+    }

@@ -34,15 +34,13 @@ pub fn count_up(digits: &mut [u8], from: usize) -> usize
     ensures by_index { (n : ℕ) → Spells n digits.old from → Spells (n + 1) digits.new result }
     ensures by_index_2 { (n : ℕ) → Spells n digits.old from → (result ≡ numeral_end - length (decimal (n + 1))) × (digits.new ≡ over digits.old (numeral_end - length (decimal (n + 1))) (decimal (n + 1))) }
 {
-    let mut at = END - 1;
-    while digits[at] == b'9' {
-        digits[at] = b'0';
-        if at == from {
-            digits[from - 1] = b'1';
-            return from - 1;
+    for at in (from..END).rev() {
+        if digits[at] != b'9' {
+            digits[at] += 1;
+            return from;
         }
-        at -= 1;
+        digits[at] = b'0';
     }
-    digits[at] += 1;
-    from
+    digits[from - 1] = b'1';
+    from - 1
 }

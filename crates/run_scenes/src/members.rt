@@ -65,16 +65,16 @@ fn take<W: Write>(page: &mut Page<W>, member: Member, form: Form, call: Call) ->
     taken.member
 }
 
-fn owner<W: Write>(page: &mut Page<W>, owner: Owner) {
-    if !owner.known {
-        say::number(page, 0);
-        return;
+fn owner<W: Write>(page: &mut Page<W>, owner: Option<Owner>) {
+    match owner {
+        None => say::number(page, 0),
+        Some(owner) => {
+            say::octets(page, &owner.address);
+            say::octet(page, owner.recovery);
+            say::octet(page, owner.misses);
+            say::flag(page, owner.heard);
+        }
     }
-    let address = owner.address;
-    say::octets(page, &address);
-    say::octet(page, owner.recovery);
-    say::octet(page, owner.misses);
-    say::flag(page, owner.heard);
 }
 
 // A call that leaves the station as it is.

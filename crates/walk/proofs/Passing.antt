@@ -28,10 +28,6 @@ pub front_own : (id : ℕ) (c rest : List ℕ) → eqb id vendor_id ≡ false �
 unfolding passing
 front_own id c rest own = ap passing (front id c rest) ∙ simp own
 
-pub front_vendor : (c rest : List ℕ) → passing_in (element vendor_id c ++ rest) ≡ passed c (passing_in rest)
-unfolding passing
-front_vendor c rest = ap passing (front vendor_id c rest)
-
 pub none_handed : handed_in [] ≡ end
 unfolding handing
 none_handed = ap handing none
@@ -48,9 +44,9 @@ Walks run hs = (handed_in run ≡ hs) ⊎ (passing_in run ≡ hs)
 -- what is handed out first is the first element
 pub handed_raw : (es : Elements) (id : ℕ) (c : List ℕ) (hs : Handed) → handing es ≡ more id c hs → (fs : Elements) × (es ≡ Raw.more id c fs) × (passing fs ≡ hs)
 unfolding handing
-handed_raw Raw.end id c hs f = absurd (let z : ◌≡◌ {A = ℕ} 0 1 = cc in omega arith)
-handed_raw (Raw.cut_header o) id c hs f = absurd (let z : ◌≡◌ {A = ℕ} 0 1 = cc in omega arith)
-handed_raw (Raw.cut_contents i) id c hs f = absurd (let z : ◌≡◌ {A = ℕ} 0 1 = cc in omega arith)
+handed_raw Raw.end id c hs f = cc
+handed_raw (Raw.cut_header o) id c hs f = cc
+handed_raw (Raw.cut_contents i) id c hs f = cc
 handed_raw (Raw.more i d fs) id c hs f =
     let same : i ≡ id = cc in
     let part : d ≡ c = cc in
@@ -74,28 +70,28 @@ module _ (run : List ℕ) (id : ℕ) (c : List ℕ) (hs : Handed) where
 
   more_first : (es : Elements) → elements_in run ≡ es → handing es ≡ more id c hs → After run (element id c) hs
   unfolding handing
-  more_first Raw.end e f = absurd (let z : ◌≡◌ {A = ℕ} 0 1 = cc in omega arith)
-  more_first (Raw.cut_header o) e f = absurd (let z : ◌≡◌ {A = ℕ} 0 1 = cc in omega arith)
-  more_first (Raw.cut_contents i) e f = absurd (let z : ◌≡◌ {A = ℕ} 0 1 = cc in omega arith)
+  more_first Raw.end e f = cc
+  more_first (Raw.cut_header o) e f = cc
+  more_first (Raw.cut_contents i) e f = cc
   more_first (Raw.more i d fs) e f = given i d fs e f
 
   more_later : (es : Elements) → elements_in run ≡ es → passing es ≡ more id c hs → After run (element id c) hs
   unfolding passing
-  more_later Raw.end e f = absurd (let z : ◌≡◌ {A = ℕ} 0 1 = cc in omega arith)
+  more_later Raw.end e f = cc
   more_later (Raw.cut_header o) e f = by (eqb o vendor_id) f
     where
       by : (t : Bool) → pick t cut_passed cut_header ≡ more id c hs → After run (element id c) hs
-      by true g = absurd (let z : ◌≡◌ {A = ℕ} 0 1 = cc in omega arith)
-      by false g = absurd (let z : ◌≡◌ {A = ℕ} 0 1 = cc in omega arith)
+      by true g = cc
+      by false g = cc
   more_later (Raw.cut_contents i) e f = by (eqb i vendor_id) f
     where
       by : (t : Bool) → pick t cut_passed (cut_contents i) ≡ more id c hs → After run (element id c) hs
-      by true g = absurd (let z : ◌≡◌ {A = ℕ} 0 1 = cc in omega arith)
-      by false g = absurd (let z : ◌≡◌ {A = ℕ} 0 1 = cc in omega arith)
+      by true g = cc
+      by false g = cc
   more_later (Raw.more i d fs) e f = by (eqb i vendor_id) f
     where
       by : (t : Bool) → pick t (passed d (passing fs)) (more i d (passing fs)) ≡ more id c hs → After run (element id c) hs
-      by true g = absurd (let z : ◌≡◌ {A = ℕ} 0 1 = cc in omega arith)
+      by true g = cc
       by false g = given i d fs e g
 
   pub walks_more : Walks run (more id c hs) → After run (element id c) hs
@@ -104,31 +100,31 @@ module _ (run : List ℕ) (id : ℕ) (c : List ℕ) (hs : Handed) where
 module _ (run c : List ℕ) (hs : Handed) where
   not_first : (es : Elements) → handing es ≡ passed c hs → After run (element vendor_id c) hs
   unfolding handing
-  not_first Raw.end f = absurd (let z : ◌≡◌ {A = ℕ} 0 1 = cc in omega arith)
-  not_first (Raw.cut_header o) f = absurd (let z : ◌≡◌ {A = ℕ} 0 1 = cc in omega arith)
-  not_first (Raw.cut_contents i) f = absurd (let z : ◌≡◌ {A = ℕ} 0 1 = cc in omega arith)
-  not_first (Raw.more i d fs) f = absurd (let z : ◌≡◌ {A = ℕ} 0 1 = cc in omega arith)
+  not_first Raw.end f = cc
+  not_first (Raw.cut_header o) f = cc
+  not_first (Raw.cut_contents i) f = cc
+  not_first (Raw.more i d fs) f = cc
 
   passed_later : (es : Elements) → elements_in run ≡ es → passing es ≡ passed c hs → After run (element vendor_id c) hs
   unfolding passing
-  passed_later Raw.end e f = absurd (let z : ◌≡◌ {A = ℕ} 0 1 = cc in omega arith)
+  passed_later Raw.end e f = cc
   passed_later (Raw.cut_header o) e f = by (eqb o vendor_id) f
     where
       by : (t : Bool) → pick t cut_passed cut_header ≡ passed c hs → After run (element vendor_id c) hs
-      by true g = absurd (let z : ◌≡◌ {A = ℕ} 0 1 = cc in omega arith)
-      by false g = absurd (let z : ◌≡◌ {A = ℕ} 0 1 = cc in omega arith)
+      by true g = cc
+      by false g = cc
   passed_later (Raw.cut_contents i) e f = by (eqb i vendor_id) f
     where
       by : (t : Bool) → pick t cut_passed (cut_contents i) ≡ passed c hs → After run (element vendor_id c) hs
-      by true g = absurd (let z : ◌≡◌ {A = ℕ} 0 1 = cc in omega arith)
-      by false g = absurd (let z : ◌≡◌ {A = ℕ} 0 1 = cc in omega arith)
+      by true g = cc
+      by false g = cc
   passed_later (Raw.more i d fs) e f = by (eqb i vendor_id) refl f
     where
       by : (t : Bool) → eqb i vendor_id ≡ t → pick t (passed d (passing fs)) (more i d (passing fs)) ≡ passed c hs → After run (element vendor_id c) hs
       by true own g =
           let part : d ≡ c = cc in
           after_split run vendor_id c fs hs (e ∙ ap (λ (n : ℕ). Raw.more n d fs) (eqb-true i vendor_id own) ∙ ap (λ (x : List ℕ). Raw.more vendor_id x fs) part) cc
-      by false own g = absurd (let z : ◌≡◌ {A = ℕ} 0 1 = cc in omega arith)
+      by false own g = cc
 
   pub walks_passed : Walks run (passed c hs) → After run (element vendor_id c) hs
   walks_passed w = ⊎_elim (not_first (elements_in run)) (passed_later (elements_in run) refl) w
@@ -137,9 +133,9 @@ module _ (run : List ℕ) where
   end_first : (es : Elements) → elements_in run ≡ es → handing es ≡ end → run ≡ []
   unfolding handing
   end_first Raw.end e f = empty run e
-  end_first (Raw.cut_header o) e f = absurd (let z : ◌≡◌ {A = ℕ} 0 1 = cc in omega arith)
-  end_first (Raw.cut_contents i) e f = absurd (let z : ◌≡◌ {A = ℕ} 0 1 = cc in omega arith)
-  end_first (Raw.more i d fs) e f = absurd (let z : ◌≡◌ {A = ℕ} 0 1 = cc in omega arith)
+  end_first (Raw.cut_header o) e f = cc
+  end_first (Raw.cut_contents i) e f = cc
+  end_first (Raw.more i d fs) e f = cc
 
   end_later : (es : Elements) → elements_in run ≡ es → passing es ≡ end → run ≡ []
   unfolding passing
@@ -147,18 +143,18 @@ module _ (run : List ℕ) where
   end_later (Raw.cut_header o) e f = by (eqb o vendor_id) f
     where
       by : (t : Bool) → pick t cut_passed cut_header ≡ end → run ≡ []
-      by true g = absurd (let z : ◌≡◌ {A = ℕ} 0 1 = cc in omega arith)
-      by false g = absurd (let z : ◌≡◌ {A = ℕ} 0 1 = cc in omega arith)
+      by true g = cc
+      by false g = cc
   end_later (Raw.cut_contents i) e f = by (eqb i vendor_id) f
     where
       by : (t : Bool) → pick t cut_passed (cut_contents i) ≡ end → run ≡ []
-      by true g = absurd (let z : ◌≡◌ {A = ℕ} 0 1 = cc in omega arith)
-      by false g = absurd (let z : ◌≡◌ {A = ℕ} 0 1 = cc in omega arith)
+      by true g = cc
+      by false g = cc
   end_later (Raw.more i d fs) e f = by (eqb i vendor_id) f
     where
       by : (t : Bool) → pick t (passed d (passing fs)) (more i d (passing fs)) ≡ end → run ≡ []
-      by true g = absurd (let z : ◌≡◌ {A = ℕ} 0 1 = cc in omega arith)
-      by false g = absurd (let z : ◌≡◌ {A = ℕ} 0 1 = cc in omega arith)
+      by true g = cc
+      by false g = cc
 
   pub walks_end : Walks run end → run ≡ []
   walks_end w = ⊎_elim (end_first (elements_in run) refl) (end_later (elements_in run) refl) w
@@ -190,42 +186,37 @@ no_further_back cut_passed n e = absurd (never e)
 -- in a run, by the elements from a place on
 module _ (run : List ℕ) where
   -- past one of them
-  lies : (at id : ℕ) (d : List ℕ) (fs : Elements) → elements_in (drop at run) ≡ Raw.more id d fs → (elements_in (drop (past_element at d) run) ≡ fs) × (past_element at d ≤ length run)
+  lies : (at id : ℕ) (d : List ℕ) (fs : Elements) → elements_in (drop at run) ≡ Raw.more id d fs → elements_in (drop (past_element at d) run) ≡ fs
   lies at id d fs e =
       let y = split (drop at run) id d fs e in
-      let z = lying run at id d y.rest y.octets in
-      (ap elements_in z.after ∙ y.after, z.inside)
+      ap elements_in (lying run at id d y.rest y.octets).after ∙ y.after
 
-  abbrev Onward : ℕ → ℕ → Handed → Type 0
-  Onward m at hs = next_after at hs ≡ Ok m → (past_passed hs ≡ handed_in (drop m run)) × (at ≤ length run → m ≤ length run)
-
-  -- what is handed out next stands where the walk goes on, in the run
   module _ (m : ℕ) where
-    stays : (at : ℕ) (hs : Handed) → hs ≡ handed_in (drop at run) → at ≡ m → (hs ≡ handed_in (drop m run)) × (at ≤ length run → m ≤ length run)
-    stays at hs h e = (h ∙ ap (λ (n : ℕ). handed_in (drop n run)) e, λ k. omega arith)
+    -- what is handed out next stands where the walk goes on
+    abbrev Onward : ℕ → Handed → Type 0
+    Onward at hs = next_after at hs ≡ Ok m → past_passed hs ≡ handed_in (drop m run)
 
-    goes_on : (es : Elements) (at : ℕ) → elements_in (drop at run) ≡ es → Onward m at (passing es)
+    stays : (at : ℕ) (hs : Handed) → hs ≡ handed_in (drop at run) → at ≡ m → hs ≡ handed_in (drop m run)
+    stays at hs h e = h ∙ ap (λ (n : ℕ). handed_in (drop n run)) e
+
+    goes_on : (es : Elements) (at : ℕ) → elements_in (drop at run) ≡ es → Onward at (passing es)
     unfolding passing handing next_after
     goes_on Raw.end at e = λ h. stays at end (sym (ap handing e)) cc
     goes_on (Raw.cut_header o) at e = by (eqb o vendor_id)
       where
-        by : (t : Bool) → Onward m at (pick t cut_passed cut_header)
+        by : (t : Bool) → Onward at (pick t cut_passed cut_header)
         by true = λ h. absurd (never h)
         by false = λ h. stays at cut_header (sym (ap handing e)) cc
     goes_on (Raw.cut_contents i) at e = by (eqb i vendor_id)
       where
-        by : (t : Bool) → Onward m at (pick t cut_passed (cut_contents i))
+        by : (t : Bool) → Onward at (pick t cut_passed (cut_contents i))
         by true = λ h. absurd (never h)
         by false = λ h. stays at (cut_contents i) (sym (ap handing e)) cc
-    goes_on (Raw.more i d fs) at e = let s = lies at i d fs e in by (eqb i vendor_id) s.1 (goes_on fs (past_element at d) s.0)
+    goes_on (Raw.more i d fs) at e = by (eqb i vendor_id) (goes_on fs (past_element at d) (lies at i d fs e))
       where
-        by : (t : Bool) → past_element at d ≤ length run → Onward m (past_element at d) (passing fs) → Onward m at (pick t (passed d (passing fs)) (more i d (passing fs)))
-        by true k on = λ h. let o = on h in (o.0, λ l. o.1 k)
-        by false k on = λ h. stays at (more i d (passing fs)) (sym (ap handing e)) cc
+        by : (t : Bool) → Onward (past_element at d) (passing fs) → Onward at (pick t (passed d (passing fs)) (more i d (passing fs)))
+        by true on = on
+        by false on = λ h. stays at (more i d (passing fs)) (sym (ap handing e)) cc
 
-  module _ (at : ℕ) {m : ℕ} (e : next_after at (passing_in (drop at run)) ≡ Ok m) where
-    pub onward_at : past_passed (passing_in (drop at run)) ≡ handed_in (drop m run)
-    onward_at = (goes_on m (elements_in (drop at run)) at refl e).0
-
-    pub inside : at ≤ length run → m ≤ length run
-    inside = (goes_on m (elements_in (drop at run)) at refl e).1
+  pub onward_at : (at : ℕ) {m : ℕ} → next_after at (passing_in (drop at run)) ≡ Ok m → past_passed (passing_in (drop at run)) ≡ handed_in (drop m run)
+  onward_at at {m} e = goes_on m (elements_in (drop at run)) at refl e

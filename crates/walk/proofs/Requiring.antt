@@ -69,9 +69,6 @@ module _ (run : List ℕ) (at id : ℕ) (x : Outcome Contents) (t : required_tol
       let v = subst (RequiredWithin at (length run)) e w in
       record { stands = sym t ∙ ap (required_told run) e; begins = v.0; ordered = v.1; inside = v.2 }
 
-  pub is_not : {r : Refusal} → x ≡ Err r → required id (handed_in (drop at run)) ≡ Err r
-  is_not e = sym t ∙ ap (required_told run) e
-
 -- ---- what is left after it
 
 module _ {A : Type 0} (a : A) where

@@ -43,12 +43,12 @@ split_by i n os id c es true fits e =
           ∙ ap (λ (k : ℕ). id ∷ k ∷ take n os ++ drop n os) size ∙ ap (λ (r : List ℕ). id ∷ length c ∷ r ++ drop n os) part;
       after = cc;
     }
-split_by i n os id c es false fits e = absurd (let z : ◌≡◌ {A = ℕ} 0 1 = cc in omega arith)
+split_by i n os id c es false fits e = cc
 
 pub split : (run : List ℕ) (id : ℕ) (c : List ℕ) (es : Elements) → elements_in run ≡ more id c es → Split run id c es
 unfolding elements_in elements_after
-split [] id c es e = absurd (let z : ◌≡◌ {A = ℕ} 0 1 = cc in omega arith)
-split (i ∷ []) id c es e = absurd (let z : ◌≡◌ {A = ℕ} 0 1 = cc in omega arith)
+split [] id c es e = cc
+split (i ∷ []) id c es e = cc
 split (i ∷ n ∷ os) id c es e = split_by i n os id c es (leb n (length os)) refl (sym (headed i n os) ∙ e)
 
 -- an element's octets in front, from a place on: its contents, and where the rest begins
@@ -68,13 +68,13 @@ lying body at id x rest e =
     }
 
 empty_by : (i n : ℕ) (os : List ℕ) (u : Bool) → pick u (more i (take n os) (elements_in (drop n os))) (cut_contents i) ≡ end → i ∷ n ∷ os ≡ []
-empty_by i n os true e = absurd (let z : ◌≡◌ {A = ℕ} 0 1 = cc in omega arith)
-empty_by i n os false e = absurd (let z : ◌≡◌ {A = ℕ} 0 1 = cc in omega arith)
+empty_by i n os true e = cc
+empty_by i n os false e = cc
 
 pub empty : (run : List ℕ) → elements_in run ≡ end → run ≡ []
 unfolding elements_in elements_after
 empty [] e = refl
-empty (i ∷ []) e = absurd (let z : ◌≡◌ {A = ℕ} 0 1 = cc in omega arith)
+empty (i ∷ []) e = cc
 empty (i ∷ n ∷ os) e = empty_by i n os (leb n (length os)) (sym (headed i n os) ∙ e)
 
 -- octets in front of others, and those after

@@ -36,6 +36,6 @@ is_beacon (Err x) = false
 is_beacon (Ok v) = is_beacon_frame v.frame
 
 -- the owner that it names, if any, or the one before
-abbrev pub owner_named : Owner → Option IbssDfs → Owner
+abbrev pub owner_named : Option Owner → Option IbssDfs → Option Owner
 owner_named o None = o
-owner_named o (Some d) = named o d.owner d.recovery
+owner_named o (Some d) = Some (named o d.owner d.recovery)

@@ -7,5 +7,5 @@ pub returns : goal.returns
 returns c =
     let a = c.args in
     let o = c.to_octets-bytes in
-    of_record request_sort a.token a.request a.used a.buffer.now o.result c.may_write-may.ensures o.ensures.1 c.octet_count-count.ensures.0
+    of_record request_sort a.token a.request a.used a.buffer.now o.result c.may_write.ensures o.ensures.1 c.octet_count.ensures.0
     c.append.ensures

@@ -39,17 +39,17 @@ module _ (c : After-pass_over) where
 pub returns-in_err-next : goal.returns-in_err-next
 returns-in_err-next c =
     let k = (goal.at.returns-in_err-next c).After-pass_over in
-    search rules ∙ cut_after c.fixed_fields-at.result c.id.result (contents_mean c.args.kind) (place k) (said-is k) (sym c.pass_over.ensures ∙ c.in_err-next.was)
+    search rules ∙ cut_after c.fixed_fields-at.result c.id.result (contents_mean c.args.kind) (place k) (said-is k) {x = c.in_err-next.field-0.0} (search rules)
     ∙ by_kind k
 
 pub returns-then-has_left_over : goal.returns-then-has_left_over
 returns-then-has_left_over c =
     let k = (goal.at.returns-then-has_left_over c).After-pass_over in
-    ap Err c.at.ensures ∙ crowded c.fixed_fields-at.result c.id.result (contents_mean c.args.kind) (place k) (said-is k) (sym c.pass_over.ensures ∙ c.in_ok-next.was) (ltb-true _ _ (sym c.has_left_over.ensures ∙ c.if-has_left_over.true))
+    ap Err c.at.ensures ∙ crowded c.fixed_fields-at.result c.id.result (contents_mean c.args.kind) (place k) (said-is k) {k = c.in_ok-next.next} (search rules) (ltb-true _ _ (sym c.has_left_over.ensures ∙ c.if-has_left_over.true))
     ∙ by_kind k
 
 pub returns : goal.returns
 returns c =
     let k = (goal.at.returns c).After-pass_over in
-    good c.fixed_fields-at.result c.id.result (contents_mean c.args.kind) (place k) (said-is k) (sym c.pass_over.ensures ∙ c.in_ok-next.was) (ltb-false _ _ (sym c.has_left_over.ensures ∙ c.if-has_left_over.false))
+    good c.fixed_fields-at.result c.id.result (contents_mean c.args.kind) (place k) (said-is k) {k = c.in_ok-next.next} (search rules) (ltb-false _ _ (sym c.has_left_over.ensures ∙ c.if-has_left_over.false))
     ∙ by_kind k
