@@ -40,13 +40,11 @@ fn read_beacon(
     requires { length body.now ≤ longest_body }
     ensures { (sender : List ℕ) → result ≡ heard_laid index (sent_in_ibss sender broadcast (placed_past header_length (kind_in_ibss interval Subtype.Beacon body.now))) }
 {
-    match beacon::read(body, interval, true, index) {
-        Err(fault) => Err(places::fault_in_frame(fault)),
-        Ok(heard) => Ok(HeardInIbss {
-            received: crate::notice_frame(heard, false, broadcast),
-            dfs: heard.dfs,
-        }),
-    }
+    let heard = places::beacon_body(body, interval, true, index)?;
+    Ok(HeardInIbss {
+        received: crate::notice_frame(heard, false, broadcast),
+        dfs: heard.dfs,
+    })
 }
 
 // A frame with no element 41 read.
