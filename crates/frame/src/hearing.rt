@@ -36,12 +36,10 @@ impl Change {
     fn by_notice(notice: Notice) -> Change
         ensures { result ≡ by_notice notice }
     {
-        let power = notice.power;
-        let switch = notice.switch;
         Change {
             replaces: true,
-            power,
-            switch,
+            power: notice.power,
+            switch: notice.switch,
         }
     }
 
@@ -50,19 +48,15 @@ impl Change {
         ensures { result ≡ by_frame frame }
     {
         match frame {
-            Frame::Beacon(notice) => Change::by_notice(notice),
-            Frame::ProbeResponse(notice) => Change::by_notice(notice),
+            Frame::Beacon(notice) | Frame::ProbeResponse(notice) => Change::by_notice(notice),
             Frame::ChannelSwitch(switch) => Change {
                 switch: Some(switch),
                 ..Change::NOTHING
             },
-            Frame::MeasurementRequest { token: _, count: _ } => Change::NOTHING,
-            Frame::MeasurementReport { token: _, count: _ } => Change::NOTHING,
-            Frame::TpcRequest { token: _ } => Change::NOTHING,
-            Frame::TpcReport {
-                token: _,
-                report: _,
-            } => Change::NOTHING,
+            Frame::MeasurementRequest { .. }
+            | Frame::MeasurementReport { .. }
+            | Frame::TpcRequest { .. }
+            | Frame::TpcReport { .. } => Change::NOTHING,
         }
     }
 }

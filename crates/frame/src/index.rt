@@ -1,5 +1,5 @@
 // A measurement element of a frame by its index from 0 (document 01: one past the last, or any on another kind, is 16).
-ghost use Rattle.std.specs.Prelude.{◌≡◌, ◌-◌, take, drop, MatchOption};
+ghost use Rattle.std.specs.Prelude.{◌≡◌, ◌-◌, take, drop, IfNone, IfSome};
 ghost use Rattle.std.specs.Result.{IsOkAnd};
 ghost use Rattle.answer.specs.declared.Refusal.{Refusal};
 ghost use Rattle.answer.specs.Checks.{and_then};
@@ -33,7 +33,8 @@ pub struct Asked {
 // The contents at a place of a body: no place is 16.
 fn contents_at(body: &[u8], place: Option<Contents>) -> Result<&[u8], Refusal>
     requires { PlaceWithin body.now place }
-    ensures { MatchOption place (result ≡ Err Refusal.Impossible) (λ p. IsOkAnd result (λ contents. contents.now ≡ take (p.end - p.start) (drop p.start body.now))) }
+    ensures nowhere { IfNone place (result ≡ Err Refusal.Impossible) }
+    ensures there { IfSome place (λ p. IsOkAnd result (λ contents. contents.now ≡ take (p.end - p.start) (drop p.start body.now))) }
 {
     match place {
         None => Err(Refusal::Impossible),
@@ -73,10 +74,8 @@ pub fn read_request(body: &[u8], index: usize) -> Result<Asked, Fault>
 pub fn request_in(body: &[u8], index: usize) -> Result<Request, Refusal>
     ensures { result ≡ and_then (without_place (action_means body.now)) (request_in index) }
 {
-    match read_request(body, index) {
-        Err(fault) => Err(fault.refusal),
-        Ok(asked) => asked.request,
-    }
+    let asked = read_request(body, index).map_err(|fault| fault.refusal)?;
+    asked.request
 }
 
 // A frame, and where in its body the element at an index lies: beacons and probe responses have none.

@@ -38,10 +38,7 @@ fn in_frame<T: Copy>(read: Result<T, Fault>) -> Result<T, Fault>
     requires { IfErr read (λ fault. OffsetWithin longest_body fault.offset) }
     ensures { result ≡ placed_past header_length read }
 {
-    match read {
-        Err(fault) => Err(fault_in_frame(fault)),
-        Ok(value) => Ok(value),
-    }
+    read.map_err(fault_in_frame)
 }
 
 // The body of a beacon or a probe response in its frame, as `beacon::read` reads it.
