@@ -64,6 +64,7 @@ impl Row {
     }
 
     // What its station's advance by so many TU leaves, which is the same station where that is refused; a free row stays so.
+    #[tactic(auto, unfolding(crate::specs::Rows::row_ticked))]
     pub fn advance(self, units: u32) -> Row
         requires { ValidRow self }
         ensures value { result ≡ row_ticked units self }
@@ -79,6 +80,7 @@ impl Row {
     }
 
     // Its station hears what was read of a frame.
+    #[tactic(auto, unfolding(crate::specs::Rows::row_heard))]
     pub fn hear(self, received: Result<Received, Fault>) -> Row
         requires { ValidRow self }
         ensures value { result ≡ row_heard received self }
