@@ -24,6 +24,7 @@ fn tbtts_between(moment: u32, later: u32, interval: u16) -> u32
 
 impl Member {
     // A refused advance leaves the clock where it is, so that no TBTT passes.
+    #[tactic(auto, using(crate::proofs::Passing::clock_on))]
     pub fn advance(self, units: u32) -> Stepped
         requires { ValidMember self }
         ensures value { result ≡ advance_of self units }
