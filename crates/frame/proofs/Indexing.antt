@@ -1,7 +1,7 @@
 -- Elements of a body by their index. Assumes nothing.
 use Rattle.std.specs.Prelude.{Ok, Err, Some, None, Option}
 use mathlib.Core.Path.{◌≡◌, refl, sym, ap, subst, ◌∙◌}
-use mathlib.Core.Bool.{Bool, true, false}
+use mathlib.Core.Bool.{Bool}
 use mathlib.Core.List.{List}
 use Prim.Native.Nat.{ℕ}
 use lib.ListN.{length, drop}
@@ -13,7 +13,7 @@ use Rattle.answer.specs.Checks.{Outcome, and_then}
 use Rattle.answer.specs.Faults.{Placed, nowhere, without_place, placed_past}
 use Rattle.answer.specs.declared.Fault.{Fault}
 use Rattle.answer.specs.declared.Refusal.{Refusal}
-use Rattle.beacon.specs.Beacons.{Told, beacon_means}
+use Rattle.beacon.specs.Beacons.{beacon_means}
 use Rattle.element.specs.ChannelSwitch.{switch_means}
 use Rattle.element.specs.TpcReport.{tpc_report_means}
 use Rattle.element.specs.TpcRequest.{tpc_request_means}
@@ -44,8 +44,6 @@ use Rattle.frame.specs.Actions.{Body, requests, reports, tpc_request, tpc_report
 use Rattle.frame.specs.CodeTerms.Located.{unplaced, placed, body_located, located, kind_located, located_in, kind_means, PlaceWithin, means_at, asked_of}
 use Rattle.frame.specs.CodeTerms.SingleFrames.{single_frame, single_opening}
 use Rattle.frame.specs.Frames.{Kind, beacon, probe_response, action, kind_of, sent, frame_means, request_in, report_in, of_kind, element_of}
-use Rattle.frame.specs.Laid.{body_frame, frame_laid, notice_subtype}
-use Rattle.frame.specs.declared.Received.{Received}
 use Rattle.frame.specs.declared.Frame.{Frame}
 use Rattle.frame.specs.declared.bodies.Located.{Located}
 use Rattle.frame.specs.declared.index.Asked.{Asked}
@@ -54,15 +52,6 @@ use Rattle.frame.proofs.ActionParts.{parts}
 -- ---- what is found of a body
 
 module _ (body : List ℕ) (i : ℕ) where
-  -- its frame
-  pub located_frame : (o : Placed Body) → and_then (located i body o) (λ l. Ok l.frame) ≡ body_frame o
-  located_frame (Err r) = refl
-  located_frame (Ok (requests t rs)) = refl
-  located_frame (Ok (reports t rs)) = refl
-  located_frame (Ok (tpc_request t)) = refl
-  located_frame (Ok (tpc_report t r)) = refl
-  located_frame (Ok (switch s)) = refl
-
   -- a body of one element has no place
   one_element : {X : Type 0} (n id : ℕ) (means : List ℕ → Outcome X) (es : Handed) (token : ℕ) (says : X → Single) (make : X → Body)
       → ((a : X) → unplaced (single_frame token (says a)) ≡ body_located i body (make a))
@@ -171,46 +160,6 @@ module _ (body : List ℕ) (i : ℕ) where
       by (Ok (tpc_report t r)) g = refl
       by (Ok (switch s)) g = refl
 
-  -- the request alone
-  pub asked_request : (o : Placed Body) {p : Placed Asked} → p ≡ asked_of i o → and_then (without_place p) (λ a. a.request) ≡ and_then (without_place o) (request_in i)
-  asked_request o e = ap (λ (p : Placed Asked). and_then (without_place p) (λ a. a.request)) e ∙ by o
-    where
-      by : (o : Placed Body) → and_then (without_place (asked_of i o)) (λ a. a.request) ≡ and_then (without_place o) (request_in i)
-      by (Err x) = refl
-      by (Ok b) = refl
-
-  -- ---- in a body of any subtype, with the header before it
-
-  pub of_action : (o : Placed Body) {p : Placed Located} → p ≡ located i body o
-      → placed_past header_length p ≡ located_in i body (placed_past header_length (and_then o (λ a. Ok (action a))))
-  of_action o e = ap (placed_past header_length) e ∙ by o
-    where
-      by : (o : Placed Body) → placed_past header_length (located i body o) ≡ located_in i body (placed_past header_length (and_then o (λ a. Ok (action a))))
-      by (Err x) = refl
-      by (Ok b) = refl
-
-  pub of_notice : (b : ℕ) (probe : Bool) {o : Placed Received} → o ≡ frame_laid (sent false (placed_past header_length (kind_of b (notice_subtype probe) body)))
-      → and_then o (λ v. Ok (unplaced v.frame)) ≡ located_in i body (placed_past header_length (kind_of b (notice_subtype probe) body))
-  of_notice b probe e = ap (λ (o : Placed Received). and_then o (λ v. Ok (unplaced v.frame))) e ∙ by probe
-    where
-      by_probe : (o : Placed Told)
-          → and_then (frame_laid (sent false (placed_past header_length (and_then o (λ t. Ok (probe_response t)))))) (λ v. Ok (unplaced v.frame))
-          ≡ located_in i body (placed_past header_length (and_then o (λ t. Ok (probe_response t))))
-      by_probe (Err x) = refl
-      by_probe (Ok t) = refl
-
-      by_beacon : (o : Placed Told)
-          → and_then (frame_laid (sent false (placed_past header_length (and_then o (λ t. Ok (beacon t)))))) (λ v. Ok (unplaced v.frame))
-          ≡ located_in i body (placed_past header_length (and_then o (λ t. Ok (beacon t))))
-      by_beacon (Err x) = refl
-      by_beacon (Ok t) = refl
-
-      by : (p : Bool)
-          → and_then (frame_laid (sent false (placed_past header_length (kind_of b (notice_subtype p) body)))) (λ v. Ok (unplaced v.frame))
-          ≡ located_in i body (placed_past header_length (kind_of b (notice_subtype p) body))
-      by true = by_probe (beacon_means b body)
-      by false = by_beacon (beacon_means b body)
-
   -- the kind of a body says what is found there
   in_kind : (b : ℕ) (t : Subtype) (k : Kind) → kind_of b t body ≡ Ok k → There (kind_located i body k) (of_kind request_in i k) (of_kind report_in i k)
   in_kind b t (beacon n) e = nothing_there _
@@ -227,11 +176,6 @@ module _ (body : List ℕ) (i : ℕ) where
 module _ (own ap' : List ℕ) (b : ℕ) (f : List ℕ) where
   abbrev kind_in : Head → Placed Kind
   kind_in h = placed_past header_length (kind_of b h.subtype (body_of f))
-
-  -- the kind of a frame, by its header
-  pub by_header : (o : Outcome Head) → o ≡ header_means Cell.Ap own ap' f → and_then (nowhere o) kind_in ≡ kind_means own ap' b f
-  unfolding kind_means
-  by_header o e = ap (λ (x : Outcome Head). and_then (nowhere x) kind_in) e
 
   -- its elements are those of its kind
   by_kind : {A : Type 0} (element_in : ℕ → Body → Outcome A) (i : ℕ)

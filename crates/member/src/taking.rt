@@ -77,6 +77,7 @@ fn heard_by(
 
 impl Member {
     // Element 41 comes before the announcement of its own beacon, and 23 after everything else.
+    #[tactic(auto, unfolding(crate::specs::Members::member_takes), using(crate::proofs::Following::ways))]
     pub fn take(self, frame: &[u8]) -> Taken
         requires { ValidMember self }
         ensures value { result ≡ take_of self frame.now }

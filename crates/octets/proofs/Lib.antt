@@ -1,4 +1,5 @@
 pub mod Bits
+pub mod Copied
 pub mod JoinSplit
 pub mod Overwriting
 pub mod Padding

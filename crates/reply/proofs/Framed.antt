@@ -1,16 +1,20 @@
 -- The parts that a frame is put in, its header and its body. Assumes nothing.
+use Rattle.std.specs.Prelude.{Ok, Err}
 use mathlib.Core.Bool.{true}
 use mathlib.Core.List.{List, [], ◌∷◌, ◌++◌, append-nil}
-use mathlib.Core.Path.{◌≡◌, ap, ◌∙◌}
-use Prim.Native.Nat.{ℕ}
+use mathlib.Core.Path.{◌≡◌, refl, ap, ◌∙◌}
+use Prim.Native.Nat.{ℕ, ◌+◌, ◌-◌, ◌<◌, ◌≤◌}
 use native.Mathlib.Omega.{arith}
-use lib.ListN.{length, length-append, drop_of_length-le}
+use borrow.Rule.Slice.PartMut.{put_mid}
+use lib.ListN.{length, drop, length-append, drop_of_length-le}
+use Rattle.answer.specs.declared.Refusal.{Refusal}
 use Rattle.header.specs.Headers.{header_length}
 use Rattle.octets.specs.Numbers.{octet}
-use Rattle.octets.specs.Writing.{left}
+use Rattle.octets.specs.Writing.{left, Written}
+use Rattle.octets.proofs.Copied.{front_copied, part_copied}
 use Rattle.octets.proofs.JoinSplit.{all_from}
-use Rattle.octets.proofs.Storing.{front_left}
-use Rattle.reply.specs.Frames.{head_to}
+use Rattle.octets.proofs.Storing.{front_left, short_written, all_written}
+use Rattle.reply.specs.Frames.{head_to, frame_to}
 
 -- ---- an address is its six octets
 
@@ -19,6 +23,23 @@ six xs h = all_from 6 xs h
 
 pub head_length_lem : (own to bss : List ℕ) → length own ≡ 6 → length to ≡ 6 → length bss ≡ 6 → length (head_to own to bss) ≡ header_length
 head_length_lem own to bss o t a = simp (length-append, o, t, a)
+
+-- ---- header and body, copied one after the other
+
+module _ (own to bss body buffer : List ℕ) (o : length own ≡ 6) (t : length to ≡ 6) (b : length bss ≡ 6) where
+  frame_length : length (frame_to own to bss body) ≡ header_length + length body
+  frame_length = length-append (head_to own to bss) body ∙ ap (λ (n : ℕ). n + length body) (head_length_lem own to bss o t b)
+
+  pub no_room : length buffer < header_length + length body → Written true (frame_to own to bss body) 0 buffer (Err Refusal.BufferShort) buffer
+  no_room short = short_written (frame_to own to bss body) 0 buffer (omega (arith, short, frame_length))
+
+  pub copied : {head part : List ℕ} → head ≡ head_to own to bss → part ≡ body → header_length + length body ≤ length buffer
+      → Written true (frame_to own to bss body) 0 buffer (Ok (header_length + length body))
+      (put_mid header_length (header_length + length body - header_length) (head ++ drop header_length buffer) part)
+  copied e f fits =
+      let front = front_copied header_length buffer e (head_length_lem own to bss o t b) (omega (arith, fits)) in
+      let whole = part_copied front (length body) f refl (let k : header_length + length body - header_length ≡ length body = omega arith in k) fits in
+      all_written whole.lies (header_length + length body) whole.size
 
 -- ---- a body that is built in a buffer of its own
 

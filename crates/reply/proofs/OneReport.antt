@@ -71,9 +71,9 @@ module _ (token : ℕ) (x : Report) where
     unwritten r e = by_may (report_may x) refl
       where
         by_may : (m : Bool) → report_may x ≡ m → (report_may x ≡ false) × (r ≡ Refusal.Impossible)
-        by_may true f = absurd (never (sym (ap e) ∙ as_meant.answers ∙ enough f))
+        by_may true f = absurd (never (sym e ∙ as_meant.answers ∙ enough f))
         by_may false f =
-            let same : Err r ≡ Err Refusal.Impossible = sym (ap e) ∙ as_meant.answers ∙ not_answer body 0 buffer f in
+            let same : Err r ≡ Err Refusal.Impossible = sym e ∙ as_meant.answers ∙ not_answer body 0 buffer f in
             (f, cc)
 
     -- else the first octets of the buffer are the body
@@ -81,9 +81,9 @@ module _ (token : ℕ) (x : Report) where
     built n e = by_may (report_may x) refl
       where
         by_may : (m : Bool) → report_may x ≡ m → (report_may x ≡ true) × (n ≡ length body) × (take n exit ≡ body)
-        by_may false f = absurd (never (sym (not_answer body 0 buffer f) ∙ sym as_meant.answers ∙ ap e))
+        by_may false f = absurd (never (sym (not_answer body 0 buffer f) ∙ sym as_meant.answers ∙ e))
         by_may true f =
-            let same : Ok n ≡ Ok (length body) = sym (ap e) ∙ as_meant.answers ∙ enough f in
+            let same : Ok n ≡ Ok (length body) = sym e ∙ as_meant.answers ∙ enough f in
             let count : n ≡ length body = cc in
             let leaves = as_meant.leaves ∙ ap (λ (m : Bool). left m body 0 buffer) f ∙ front_left body buffer (omega (arith, size, short_body eight)) in
             (f, count, filled_front body buffer exit leaves n count)

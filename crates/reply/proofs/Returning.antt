@@ -53,7 +53,7 @@ module _ (own to bss body buffer : List ℕ) (some : 0 < length body) where
       → Written true (frame_to own to bss (error_return body)) 0 buffer (Err r) exit
   unfolding left
   not_returned e w =
-      let short = sym (ap e) ∙ w.answers in
+      let short = sym e ∙ w.answers in
       record {
         answers = short ∙ same_answer;
         leaves =
@@ -64,7 +64,7 @@ module _ (own to bss body buffer : List ℕ) (some : 0 < length body) where
   module _ {answer : Outcome ℕ} {n : ℕ} {exit : List ℕ} (o : length own ≡ 6) (t : length to ≡ 6) (a : length bss ≡ 6) (e : answer ≡ Ok n)
       (w : Written true (frame_to own to bss body) 0 buffer answer exit) where
     counted : Ok n ≡ wrote true (frame_to own to bss body) 0 buffer
-    counted = sym (ap e) ∙ w.answers
+    counted = sym e ∙ w.answers
 
     abbrev tail : List ℕ
     tail = drop (length (frame_to own to bss body)) buffer
