@@ -2,7 +2,7 @@
 ghost use Rattle.std.specs.Prelude.{◌≡◌, ◌<◌, ◌≤◌, length};
 ghost use Rattle.octets.specs.Writing.{filled};
 ghost use Rattle.capture.specs.CodeTerms.Following.{Fed};
-ghost use Rattle.capture.specs.CodeTerms.Rooms.{answer_told, room_for, listed_as};
+ghost use Rattle.capture.specs.CodeTerms.Rooms.{room_for, listed_as};
 ghost use Rattle.capture.specs.Feeding.{enough_room, feed_means, FedWith};
 ghost use Rattle.capture.specs.Listers.{block_limit, Fits};
 ghost use Rattle.capture.specs.Lists.{block_told, blocks_in, blocks_told};
@@ -34,7 +34,7 @@ fn put_block(lister: Lister, block: &[u8], out: &mut [u8]) -> Put
 // Whether so many blocks more may be listed into a buffer of so many octets. What the limit and the buffer leave is compared, since a sum or a product could wrap.
 fn room_for(blocks: u64, many: usize, size: usize) -> Result<(), Refusal>
     requires { blocks ≤ block_limit }
-    ensures { answer_told result ≡ room_for blocks many size }
+    ensures { result ≡ room_for blocks many size }
 {
     if Lister::BLOCK_LIMIT - blocks < many as u64 {
         return Err(Refusal::Impossible);
@@ -45,12 +45,24 @@ fn room_for(blocks: u64, many: usize, size: usize) -> Result<(), Refusal>
     Ok(())
 }
 
+// No lines, and the lister as it was.
+fn refused(lister: Lister, refusal: Refusal) -> Listing
+    ensures { result ≡ record { wrote = Err refusal; lister = lister } }
+{
+    Listing {
+        wrote: Err(refusal),
+        lister,
+    }
+}
+
+// The lines that were put.
 fn listed(put: Put) -> Listing
     ensures { result ≡ listed_as put }
 {
-    let lister = put.lister;
-    let wrote = Ok(put.count);
-    Listing { wrote, lister }
+    Listing {
+        wrote: Ok(put.count),
+        lister: put.lister,
+    }
 }
 
 impl Lister {
@@ -61,13 +73,7 @@ impl Lister {
         ensures fits { Fits result.lister }
     {
         match room_for(self.blocks, 1, out.len()) {
-            Err(refusal) => {
-                let wrote = Err(refusal);
-                Listing {
-                    wrote,
-                    lister: self,
-                }
-            }
+            Err(refusal) => refused(self, refusal),
             Ok(()) => listed(put_block(self, block, out)),
         }
     }
@@ -79,13 +85,7 @@ impl Lister {
         ensures fits { Fits result.lister }
     {
         match room_for(self.blocks, block::count_in(blocks.len()), out.len()) {
-            Err(refusal) => {
-                let wrote = Err(refusal);
-                Listing {
-                    wrote,
-                    lister: self,
-                }
-            }
+            Err(refusal) => refused(self, refusal),
             Ok(()) => listed(listing::put_blocks(self, blocks, out)),
         }
     }

@@ -9,8 +9,8 @@ ghost use Rattle.capture.specs.Listers.{line_limit};
 
 use capture_record::{Entry, Found};
 use pen::{Pen, Word};
-use station::Advanced;
 use pending::Switch;
+use station::Advanced;
 
 // What stands at a place of the used part: an advance to a moment, a question that is granted, each with the place where it ends, or another record
 // or none.
@@ -25,23 +25,16 @@ pub enum Plain {
 fn is_known_granted(clock: u32, clear: u64, units: u16) -> bool
     ensures { result ≡ known_granted clock clear units }
 {
-    if units == 0 {
-        return false;
-    }
-    (clock as u64) + (units as u64) <= clear
+    units != 0 && u64::from(clock) + u64::from(units) <= clear
 }
 
 // An advance that ends at a place.
 fn advance(clock: u32, pending: Option<Switch>, units: u16, end: usize) -> Plain
     ensures { result ≡ goes_to (clock_advance clock pending units) end }
 {
-    match station::advance_clock(clock, pending, units as u32) {
-        Advanced::Goes(moment) => Plain::Goes { clock: moment, end },
-        Advanced::Refused => Plain::Other,
-        Advanced::Switches {
-            moment: _,
-            channel: _,
-        } => Plain::Other,
+    match station::advance_clock(clock, pending, u32::from(units)) {
+        Ok(Advanced::Goes(clock)) => Plain::Goes { clock, end },
+        _ => Plain::Other,
     }
 }
 
@@ -49,24 +42,13 @@ fn advance(clock: u32, pending: Option<Switch>, units: u16, end: usize) -> Plain
 fn plain_at(used: &[u8], at: usize, clock: u32, pending: Option<Switch>, clear: u64) -> Plain
     ensures { PlainAt used.now at clock pending clear result }
 {
-    match capture_record::record_at(used, at) {
-        Found::End => Plain::Other,
-        Found::Cut => Plain::Other,
-        Found::Whole { kind, start, end } => match capture_record::entry_of(
-            kind,
-            &used[start..end],
-        ) {
-            Entry::Advance(units) => advance(clock, pending, units, end),
-            Entry::Ask(units) => {
-                if is_known_granted(clock, clear, units) {
-                    return Plain::Granted { end };
-                }
-                Plain::Other
-            }
-            Entry::Malformed => Plain::Other,
-            Entry::Start => Plain::Other,
-            Entry::Frame => Plain::Other,
-        },
+    let Found::Whole { kind, start, end } = capture_record::record_at(used, at) else {
+        return Plain::Other;
+    };
+    match capture_record::entry_of(kind, &used[start..end]) {
+        Entry::Advance(units) => advance(clock, pending, units, end),
+        Entry::Ask(units) if is_known_granted(clock, clear, units) => Plain::Granted { end },
+        _ => Plain::Other,
     }
 }
 

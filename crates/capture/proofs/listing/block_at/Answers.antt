@@ -31,17 +31,17 @@ begins c j told =
     }
 
 -- the end of what is used lies in the block
-pub overflow_add-result-in-Used : goal.overflow_add-result-in-Used
-overflow_add-result-in-Used c =
+pub overflow_add-result-in-Some : goal.overflow_add-result-in-Some
+overflow_add-result-in-Some c =
     let a = c.args in
-    let j = (goal.at.overflow_add-result-in-Used c).After-judge in
+    let j = (goal.at.overflow_add-result-in-Some c).After-judge in
     let e = c.end_after-end.result in
-    let w = used_within _ _ (begins j _ c.in-Used.is).judged in
-    let i = inside (goal.at.overflow_add-result-in-Used c).After-end_after-end in
+    let w = used_within _ _ (begins j _ c.in-Some.is).judged in
+    let i = inside (goal.at.overflow_add-result-in-Some c).After-end_after-end in
     omega (arith, w, i, length-take (e - a.at) (drop a.at a.blocks.now))
 
-pub returns-in-Damaged : goal.returns-in-Damaged
-returns-in-Damaged c = begins (goal.at.returns-in-Damaged c).After-judge None c.in-Damaged.is
+pub returns-in-None : goal.returns-in-None
+returns-in-None c = begins (goal.at.returns-in-None c).After-judge None c.in-None.is
 
-pub returns-in-Used : goal.returns-in-Used
-returns-in-Used c = (c.in-Used.used, refl, begins (goal.at.returns-in-Used c).After-judge _ c.in-Used.is)
+pub returns-in-Some : goal.returns-in-Some
+returns-in-Some c = (c.in-Some.used, refl, begins (goal.at.returns-in-Some c).After-judge _ c.in-Some.is)

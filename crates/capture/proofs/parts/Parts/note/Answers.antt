@@ -11,31 +11,22 @@ use Rattle.capture.proofs.parts.Parts.note.Goals as goal
 pub note-answered-requires : goal.note-answered-requires
 note-answered-requires c =
     record {
-      sound = subst Sound (sym c.whole-lister.ensures) c.requires.sound;
+      sound = subst Sound (sym c.whole.ensures) c.requires.sound;
       active_value =
           λ e.
-          ap (λ (l : Lister). l.active) c.whole-lister.ensures ∙ c.requires.active_value e;
+          ap (λ (l : Lister). l.active) c.whole.ensures ∙ c.requires.active_value e;
     }
-
-pub clear_after-clear-requires : goal.clear_after-clear-requires
-clear_after-clear-requires c = c.note-answered.ensures.follows.sound
-
-pub of-parts-requires : goal.of-parts-requires
-of-parts-requires c = record {
-  sound = c.note-answered.ensures.follows.sound;
-  roomy = c.requires.makes.roomy;
-}
 
 pub returns : goal.returns
 returns c =
     let a = c.args in
     record {
       answered = c.note-answered.result;
-      says = c.note-answered.ensures.result_value ∙ ap (λ (x : Lister). noted x (entry_told a.contents.now a.entry)) c.whole-lister.ensures;
-      follows = subst (λ (x : Lister). Follows x c.note-answered.result.lister) c.whole-lister.ensures c.note-answered.ensures.follows;
+      says = c.note-answered.ensures.result_value ∙ ap (λ (x : Lister). noted x (entry_told a.contents.now a.entry)) c.whole.ensures;
+      follows = subst (λ (x : Lister). Follows x c.note-answered.result.lister) c.whole.ensures c.note-answered.ensures.follows;
       word = refl;
       number = c.number.ensures;
       offset = c.offset.ensures;
-      parts = c.of-parts.ensures;
-      clears = c.clear_after-clear.ensures;
+      parts = c.of.ensures;
+      clears = c.clear_after.ensures;
     }
