@@ -3,99 +3,118 @@ use Rattle.std.specs.Prelude.{Ok, Err}
 use mathlib.Core.Bool.{Bool, true, false, not}
 use mathlib.Core.List.{List, [], ◌∷◌}
 use mathlib.Core.Path.{◌≡◌, refl, sym, ap, ◌∙◌}
-use Prim.Native.Nat.{ℕ}
-use native.Mathlib.Omega.{arith}
+use Prim.Native.Nat.{ℕ, ◌≤◌}
+use lib.ListN.{length}
+use Rattle.answer.proofs.Judged.{never}
 use Rattle.answer.specs.Checks.{Outcome, ◌⇒◌, checked, judged, and_then}
 use Rattle.answer.specs.declared.Refusal.{Refusal}
-use Rattle.measurement_element.specs.MeasurementReport.{report_laid}
-use Rattle.measurement_element.specs.declared.measurement_report.Reading.{Reading}
+use Rattle.element.specs.declared.tpc_report.TpcReport.{TpcReport}
+use Rattle.frame.specs.Actions.{requests, reports, tpc_request, tpc_report, switch}
+use Rattle.header.specs.Headers.{body_of}
+use Rattle.header.specs.declared.address.Cell.{Cell}
+use Rattle.measured_report.specs.Reports.{report_for}
+use Rattle.measured_report.specs.declared.Readings.{Readings}
+use Rattle.measurement_body.specs.Bodies.{longest_body, body_octets}
+use Rattle.measurement_body.specs.Reports.{report_sort}
+use Rattle.measurement_element.specs.MeasurementReport.{report_may}
 use Rattle.measurement_element.specs.declared.measurement_report.Report.{Report}
 use Rattle.measurement_element.specs.declared.measurement_request.Request.{Request}
-use Rattle.element.specs.declared.tpc_report.TpcReport.{TpcReport}
-use Rattle.frame.specs.Actions.{Body, requests, reports, tpc_request, tpc_report, switch}
-use Rattle.measurement_body.specs.Lists.{nth}
-use Rattle.measurement_element.specs.declared.measurement_request.Reading as RequestReading
 use Rattle.octets.specs.Writing.{wrote, left, Written}
 use Rattle.octets.proofs.Storing.{not_answer, left_not}
-use Rattle.reply.specs.CodeTerms.Asked.{request_reading, request_due, due_of}
-use Rattle.reply.specs.Due.{Owed, asks, breaks}
-use Rattle.reply.specs.Replies.{owed_to, tpc_answer_to, measurement_answer_to, left_by, Replied}
+use Rattle.reply.specs.CodeTerms.Asked.{due_of}
+use Rattle.reply.specs.Due.{Owed, asks, breaks, has_category, due_in}
+use Rattle.reply.specs.Frames.{frame_to, error_return, old_sender}
+use Rattle.reply.specs.Replies.{owed_to, tpc_answer_to, measurement_answer_to, tpc_reply_in, measurement_reply_in, left_by, Replied}
 use Rattle.reply.specs.declared.due.Due.{Due}
-use Rattle.measured_report.specs.declared.Readings.{Readings}
+use Rattle.reply.proofs.Owing.{returned, may_return}
+use Rattle.single_body.specs.Singles.{tpc_report_body}
 
-apart : {A : Type 0} → ◌≡◌ {A = ℕ} 0 1 → A
-apart e = absurd (omega arith)
+-- ---- what is answered, by what is due
 
--- ---- what is owed, by what is due
+module _ (cell : Cell) (own to bss f : List ℕ) where
+  -- a broken body is the frame's own, as it is lent
+  abbrev back : Outcome (List ℕ)
+  back = Ok (frame_to own to bss (error_return (body_of f)))
 
-module _ (i : ℕ) where
-  tpc_body : (b : Body) (token : ℕ) → Due.Tpc token ≡ request_due i b → b ≡ tpc_request token
-  tpc_body (requests t rs) token e = apart cc
-  tpc_body (reports t rs) token e = apart cc
-  tpc_body (tpc_request t) token e = ap tpc_request (let same : t ≡ token = cc in same)
-  tpc_body (tpc_report t r) token e = apart cc
-  tpc_body (switch w) token e = apart cc
+  pub sent_back : {lent : List ℕ} → lent ≡ body_of f → Ok (frame_to own to bss (error_return lent)) ≡ back
+  sent_back k = ap (λ (x : List ℕ). Ok (frame_to own to bss (error_return x))) k
 
-  pub tpc_due : (o : Outcome Owed) (token : ℕ) → Due.Tpc token ≡ due_of i o → o ≡ Ok (asks (tpc_request token))
-  tpc_due (Err r) token e = apart cc
-  tpc_due (Ok (asks b)) token e = ap (λ (x : Body). Ok (asks x)) (tpc_body b token e)
-  tpc_due (Ok (breaks b)) token e = apart cc
+  own_back : {body : List ℕ} → due_in cell own bss f ≡ Ok (breaks body) → back ≡ Ok (frame_to own to bss (error_return body))
+  own_back e = ap (λ (x : List ℕ). Ok (frame_to own to bss (error_return x))) (sym (returned cell own bss f e).own_body)
 
-  read_told : {x : RequestReading.Reading} (o : Outcome Request) → x ≡ request_reading o → x ≡ o
-  read_told (Err r) e = ap e
-  read_told (Ok q) e = ap e
+  module _ (sent : to ≡ old_sender cell bss f) where
+    -- to a TPC Request
+    module _ (report : TpcReport) where
+      abbrev pub tpc_due : Due → Outcome (List ℕ)
+      tpc_due Due.Broken = back
+      tpc_due (Due.Measurement token request) = Err Refusal.Impossible
+      tpc_due (Due.Tpc token) = Ok (frame_to own to bss (tpc_report_body token report))
 
-  -- a measurement request, with its elements and the one at the index
-  measurement_body : (b : Body) (token : ℕ) (x : RequestReading.Reading) → Due.Measurement token x ≡ request_due i b
-      → (rs : List Request) × (b ≡ requests token rs) × (x ≡ nth i rs)
-  measurement_body (requests t rs) token x e =
-      let same : x ≡ request_reading (nth i rs) = cc in
-      (rs, ap (λ (n : ℕ). requests n rs) (let k : t ≡ token = cc in k), read_told (nth i rs) same)
-  measurement_body (reports t rs) token x e = apart cc
-  measurement_body (tpc_request t) token x e = apart cc
-  measurement_body (tpc_report t r) token x e = apart cc
-  measurement_body (switch w) token x e = apart cc
+      pub tpc_replied : {d : Outcome Due} → d ≡ due_of 0 (due_in cell own bss f) → and_then d tpc_due ≡ tpc_reply_in cell own bss report f
+      unfolding tpc_reply_in
+      tpc_replied e =
+          ap (λ (d : Outcome Due). and_then d tpc_due) e
+          ∙ by (due_in cell own bss f) refl
+          ∙ ap (λ (t : List ℕ). and_then (due_in cell own bss f) (owed_to own t bss (tpc_answer_to own t bss report))) sent
+        where
+          by : (o : Outcome Owed) → due_in cell own bss f ≡ o → and_then (due_of 0 o) tpc_due ≡ and_then o (owed_to own to bss (tpc_answer_to own to bss report))
+          by (Err r) g = refl
+          by (Ok (asks (requests token rs))) g = refl
+          by (Ok (asks (reports token rs))) g = refl
+          by (Ok (asks (tpc_request token))) g = refl
+          by (Ok (asks (tpc_report token t))) g = refl
+          by (Ok (asks (switch w))) g = refl
+          by (Ok (breaks body)) g = own_back g
 
-  pub measurement_due : (o : Outcome Owed) (token : ℕ) (x : RequestReading.Reading) → Due.Measurement token x ≡ due_of i o
-      → (rs : List Request) × (o ≡ Ok (asks (requests token rs))) × (x ≡ nth i rs)
-  measurement_due (Err r) token x e = apart cc
-  measurement_due (Ok (asks b)) token x e =
-      let p = measurement_body b token x e in
-      (p.0, ap (λ (y : Body). Ok (asks y)) p.1, p.2)
-  measurement_due (Ok (breaks b)) token x e = apart cc
+    -- to an element of a Measurement Request
+    module _ (clock index : ℕ) (readings : Readings) where
+      abbrev pub measurement_due : Due → Outcome (List ℕ)
+      measurement_due Due.Broken = back
+      measurement_due (Due.Measurement token request) =
+          and_then (and_then request (report_for clock readings))
+          (λ x. judged (not (report_may x) ⇒ Refusal.Impossible ∷ []) (frame_to own to bss (body_octets report_sort token (x ∷ []))))
+      measurement_due (Due.Tpc token) = Err Refusal.Impossible
 
-  pub broken_due : (o : Outcome Owed) → Due.Broken ≡ due_of i o → (body : List ℕ) × (o ≡ Ok (breaks body))
-  broken_due (Err r) e = apart cc
-  broken_due (Ok (asks (requests t rs))) e = apart cc
-  broken_due (Ok (asks (reports t rs))) e = apart cc
-  broken_due (Ok (asks (tpc_request t))) e = apart cc
-  broken_due (Ok (asks (tpc_report t r))) e = apart cc
-  broken_due (Ok (asks (switch w))) e = apart cc
-  broken_due (Ok (breaks body)) e = (body, refl)
+      pub measurement_replied : {d : Outcome Due} → d ≡ due_of index (due_in cell own bss f)
+          → and_then d measurement_due ≡ measurement_reply_in cell own bss clock index readings f
+      unfolding measurement_reply_in
+      measurement_replied e =
+          ap (λ (d : Outcome Due). and_then d measurement_due) e
+          ∙ by (due_in cell own bss f) refl
+          ∙ ap (λ (t : List ℕ). and_then (due_in cell own bss f) (owed_to own t bss (measurement_answer_to own t bss clock index readings))) sent
+        where
+          by : (o : Outcome Owed) → due_in cell own bss f ≡ o
+              → and_then (due_of index o) measurement_due ≡ and_then o (owed_to own to bss (measurement_answer_to own to bss clock index readings))
+          by (Err r) g = refl
+          by (Ok (asks (requests token rs))) g = refl
+          by (Ok (asks (reports token rs))) g = refl
+          by (Ok (asks (tpc_request token))) g = refl
+          by (Ok (asks (tpc_report token t))) g = refl
+          by (Ok (asks (switch w))) g = refl
+          by (Ok (breaks body)) g = own_back g
 
-same_refusal : {q r : Refusal} → Due.Refused q ≡ Due.Refused r → q ≡ r
-same_refusal e = cc
+      -- by the report of the element
+      pub report_replied : {d : Outcome Due} {token : ℕ} {request : Request} {report : Outcome Report}
+          → d ≡ due_of index (due_in cell own bss f) → d ≡ Ok (Due.Measurement token (Ok request)) → report ≡ report_for clock readings request
+          → and_then report (λ x. judged (not (report_may x) ⇒ Refusal.Impossible ∷ []) (frame_to own to bss (body_octets report_sort token (x ∷ []))))
+          ≡ measurement_reply_in cell own bss clock index readings f
+      report_replied {token = token} e g k =
+          ap (λ (o : Outcome Report). and_then o (λ x. judged (not (report_may x) ⇒ Refusal.Impossible ∷ []) (frame_to own to bss (body_octets report_sort token (x ∷ []))))) k
+          ∙ measurement_replied (sym g ∙ e)
 
--- where nothing is due, both replies say so
-module _ (own to bss : List ℕ) (q : Refusal) where
-  pub no_tpc : (report : TpcReport) (o : Outcome Owed) → Due.Refused q ≡ due_of 0 o → Err q ≡ and_then o (owed_to own to bss (tpc_answer_to own to bss report))
-  no_tpc report (Err r) e = ap Err (same_refusal e)
-  no_tpc report (Ok (asks (requests t rs))) e = apart cc
-  no_tpc report (Ok (asks (reports t rs))) e = ap Err (same_refusal e)
-  no_tpc report (Ok (asks (tpc_request t))) e = apart cc
-  no_tpc report (Ok (asks (tpc_report t r))) e = ap Err (same_refusal e)
-  no_tpc report (Ok (asks (switch w))) e = ap Err (same_refusal e)
-  no_tpc report (Ok (breaks b)) e = apart cc
-
-  pub no_measurement : (clock index : ℕ) (readings : Readings) (o : Outcome Owed) → Due.Refused q ≡ due_of index o
-      → Err q ≡ and_then o (owed_to own to bss (measurement_answer_to own to bss clock index readings))
-  no_measurement clock index readings (Err r) e = ap Err (same_refusal e)
-  no_measurement clock index readings (Ok (asks (requests t rs))) e = apart cc
-  no_measurement clock index readings (Ok (asks (reports t rs))) e = ap Err (same_refusal e)
-  no_measurement clock index readings (Ok (asks (tpc_request t))) e = apart cc
-  no_measurement clock index readings (Ok (asks (tpc_report t r))) e = ap Err (same_refusal e)
-  no_measurement clock index readings (Ok (asks (switch w))) e = ap Err (same_refusal e)
-  no_measurement clock index readings (Ok (breaks b)) e = apart cc
+-- a body that is owed back may be returned
+pub broken : (cell : Cell) (own bss f : List ℕ) (i : ℕ) → Ok Due.Broken ≡ due_of i (due_in cell own bss f)
+    → {lent : List ℕ} → lent ≡ body_of f → (length lent ≤ longest_body) × (has_category lent ≡ true)
+broken cell own bss f i e {lent} k = by (due_in cell own bss f) refl e
+  where
+    by : (o : Outcome Owed) → due_in cell own bss f ≡ o → Ok Due.Broken ≡ due_of i o → (length lent ≤ longest_body) × (has_category lent ≡ true)
+    by (Err r) g h = absurd (never (sym h))
+    by (Ok (asks (requests token rs))) g h = absurd (cc h)
+    by (Ok (asks (reports token rs))) g h = absurd (never (sym h))
+    by (Ok (asks (tpc_request token))) g h = absurd (cc h)
+    by (Ok (asks (tpc_report token t))) g h = absurd (never (sym h))
+    by (Ok (asks (switch w))) g h = absurd (never (sym h))
+    by (Ok (breaks body)) g h = may_return cell own bss f g k
 
 -- ---- the answer, and the buffer
 
@@ -120,20 +139,3 @@ replied_judged {os = os} {buffer = buffer} false e w =
       answers = w.answers ∙ not_answer os 0 buffer refl ∙ ap (λ (x : Outcome (List ℕ)). and_then x (λ xs. wrote true xs 0 buffer)) e;
       leaves = w.leaves ∙ left_not os 0 buffer ∙ ap (λ (x : Outcome (List ℕ)). left_by x buffer) e;
     }
-
--- ---- the report that is owed
-
-module _ (o : Outcome Report) (v : Reading) (e : v ≡ report_laid o) where
-  pub no_report_lem : (q : Refusal) → v.answer ≡ Err q → o ≡ Err q
-  no_report_lem q f = by_outcome o (sym (ap (λ (x : Reading). x.answer) e) ∙ f)
-    where
-      by_outcome : (p : Outcome Report) → (report_laid p).answer ≡ Err q → p ≡ Err q
-      by_outcome (Err r) g = ap Err (let same : r ≡ q = cc in same)
-      by_outcome (Ok x) g = apart cc
-
-  pub a_report : v.answer ≡ Ok tt → o ≡ Ok v.report
-  a_report f = by_outcome o e
-    where
-      by_outcome : (p : Outcome Report) → v ≡ report_laid p → p ≡ Ok v.report
-      by_outcome (Err r) g = apart (let h : Err r ≡ Ok tt = sym (ap (λ (x : Reading). x.answer) g) ∙ f in cc)
-      by_outcome (Ok x) g = ap Ok (sym (ap (λ (y : Reading). y.report) g))

@@ -8,28 +8,24 @@ use native.Mathlib.Omega.{arith}
 use lib.ListN.{length, length-drop}
 use Rattle.answer.proofs.Booleans.{both, and_go}
 use Rattle.answer.proofs.Judged.{never, followed}
-use Rattle.answer.specs.Checks.{Outcome, pick, and_then}
-use Rattle.answer.specs.Faults.{Placed, without_place}
+use Rattle.answer.specs.Checks.{Outcome, pick}
+use Rattle.answer.specs.Faults.{Placed}
 use Rattle.answer.specs.Numbers.{number_of}
 use Rattle.answer.specs.declared.Fault.{Fault}
 use Rattle.answer.specs.declared.Refusal.{Refusal}
 use Rattle.frame.proofs.BodyFaults.{action_faults}
 use Rattle.frame.specs.Actions.{Body, requests, reports, tpc_request, tpc_report, switch, action_means}
-use Rattle.frame.specs.Frames.{request_in}
-use Rattle.frame.specs.Laid.{action_frame, body_frame}
+use Rattle.frame.specs.CodeTerms.Located.{asked_of}
 use Rattle.frame.specs.declared.Frame.{Frame}
+use Rattle.frame.specs.declared.index.Asked.{Asked}
 use Rattle.measurement_body.specs.Bodies.{longest_body}
-use Rattle.measurement_body.specs.Lists.{nth}
 use Rattle.measurement_element.specs.declared.measurement_request.Request.{Request}
 use Rattle.header.specs.Headers.{body_of, header_length, header_means}
-use Rattle.header.specs.declared.Head.{Head}
 use Rattle.header.proofs.Heard.{not_too_long}
 use Rattle.header.specs.declared.address.Cell.{Cell}
 use Rattle.header.specs.declared.management.Subtype.{Subtype}
-use Rattle.reply.specs.CodeTerms.Asked.{request_reading, request_due, due_of}
-use Rattle.reply.specs.Due.{Owed, asks, breaks, is_returned, has_category, or_return, by_subtype, after_header, due_in}
-use Rattle.reply.specs.Frames.{frame_to, error_return}
-use Rattle.reply.specs.Replies.{owed_to}
+use Rattle.reply.specs.CodeTerms.Asked.{due_of}
+use Rattle.reply.specs.Due.{asks, breaks, is_returned, has_category, or_return, by_subtype, after_header, due_in}
 use Rattle.reply.specs.declared.due.Due.{Due}
 
 -- ---- a broken body
@@ -55,73 +51,43 @@ action_returned body =
           };
     })
 
--- so the category decides
-module _ (body : List ℕ) where
-  by_category : {t : Bool} → has_category body ≡ t → (x : Fault) → action_means body ≡ Err x
-      → or_return body (Err x) ≡ pick t (Ok (breaks body)) (Err Refusal.NoReplyDue)
-  by_category h x e =
-      ap (λ (t : Bool). pick t (Ok (breaks body)) (Err Refusal.NoReplyDue)) (and_go (is_returned (number_of x.refusal)) (action_returned body x e) ∙ h)
-
--- ---- a body
+-- ---- a body, by what is read of it
 
 -- what each kind of frame is due; `request` is its element at the index
-abbrev pub frame_due : Outcome Request → Frame → Due
-frame_due request (Frame.Beacon n) = Due.Refused Refusal.NoReplyDue
-frame_due request (Frame.ProbeResponse n) = Due.Refused Refusal.NoReplyDue
-frame_due request (Frame.MeasurementRequest token count) = Due.Measurement token request
-frame_due request (Frame.MeasurementReport token count) = Due.Refused Refusal.NoReplyDue
-frame_due request (Frame.TpcRequest token) = Due.Tpc token
-frame_due request (Frame.TpcReport token report) = Due.Refused Refusal.NoReplyDue
-frame_due request (Frame.ChannelSwitch w) = Due.Refused Refusal.NoReplyDue
+abbrev frame_due : Outcome Request → Frame → Outcome Due
+frame_due request (Frame.Beacon n) = Err Refusal.NoReplyDue
+frame_due request (Frame.ProbeResponse n) = Err Refusal.NoReplyDue
+frame_due request (Frame.MeasurementRequest token count) = Ok (Due.Measurement token request)
+frame_due request (Frame.MeasurementReport token count) = Err Refusal.NoReplyDue
+frame_due request (Frame.TpcRequest token) = Ok (Due.Tpc token)
+frame_due request (Frame.TpcReport token report) = Err Refusal.NoReplyDue
+frame_due request (Frame.ChannelSwitch w) = Err Refusal.NoReplyDue
 
-read_as_lem : (x : Outcome Request) (o : Outcome Request) → x ≡ o → x ≡ request_reading o
-read_as_lem (Err r) o e = ap request_reading e
-read_as_lem (Ok q) o e = ap request_reading e
+module _ (i : ℕ) (body : List ℕ) where
+  -- a broken one is owed back where its category is free
+  abbrev pub read_due : Placed Asked → Outcome Due
+  read_due (Err x) = pick (has_category body) (Ok Due.Broken) (Err Refusal.NoReplyDue)
+  read_due (Ok a) = frame_due a.request a.frame
 
-module _ (i : ℕ) (x : Outcome Request) where
-  body_due : (body : Body) → x ≡ request_in i body → frame_due x (action_frame body) ≡ request_due i body
-  body_due (requests token rs) e = ap (Due.Measurement token) (read_as_lem x (nth i rs) e)
-  body_due (reports token rs) e = refl
-  body_due (tpc_request token) e = refl
-  body_due (tpc_report token t) e = refl
-  body_due (switch w) e = refl
+  pub owing : {o : Placed Asked} → o ≡ asked_of i (action_means body) → read_due o ≡ due_of i (or_return body (action_means body))
+  owing e = ap read_due e ∙ by (action_means body) refl
+    where
+      by_category : (t : Bool) → pick t (Ok Due.Broken) (Err Refusal.NoReplyDue) ≡ due_of i (pick t (Ok (breaks body)) (Err Refusal.NoReplyDue))
+      by_category true = refl
+      by_category false = refl
 
-  module _ (body : List ℕ) where
-    kind_due : (o : Placed Body) (f : Frame) → x ≡ and_then (without_place o) (request_in i) → Ok f ≡ body_frame o → frame_due x f ≡ due_of i (or_return body o)
-    kind_due (Err r) f q e = absurd (never (sym e))
-    kind_due (Ok b) f q e = ap (frame_due x) (let same : f ≡ action_frame b = cc in same) ∙ body_due b q
+      by : (o : Placed Body) → action_means body ≡ o → read_due (asked_of i o) ≡ due_of i (or_return body o)
+      by (Err x) g =
+          by_category (has_category body)
+          ∙ ap (λ (t : Bool). due_of i (pick t (Ok (breaks body)) (Err Refusal.NoReplyDue))) (sym (and_go (is_returned (number_of x.refusal)) (action_returned body x g)))
+      by (Ok (requests token rs)) g = refl
+      by (Ok (reports token rs)) g = refl
+      by (Ok (tpc_request token)) g = refl
+      by (Ok (tpc_report token t)) g = refl
+      by (Ok (switch w)) g = refl
 
-    pub frame_due_lem : x ≡ and_then (without_place (action_means body)) (request_in i) → (f : Frame) → Ok f ≡ body_frame (action_means body)
-        → frame_due x f ≡ due_of i (or_return body (action_means body))
-    frame_due_lem q f e = kind_due (action_means body) f q e
-
-    -- a body that is broken, by its category
-    pub broken : {y : Fault} → Err y ≡ body_frame (action_means body) → {t : Bool} → has_category body ≡ t
-        → due_of i (pick t (Ok (breaks body)) (Err Refusal.NoReplyDue)) ≡ due_of i (or_return body (action_means body))
-    broken {y} e {t} h = by (action_means body) refl e
-      where
-        by : (o : Placed Body) → action_means body ≡ o → Err y ≡ body_frame o
-            → due_of i (pick t (Ok (breaks body)) (Err Refusal.NoReplyDue)) ≡ due_of i (or_return body o)
-        by (Err z) g e = ap (due_of i) (sym (by_category body h z g))
-        by (Ok b) g e = absurd (never e)
-
--- ---- after the header
-
-module _ (i : ℕ) (cell : Cell) (own bss f : List ℕ) where
-  pub header_refused : (r : Refusal) → Err r ≡ header_means cell own bss f → Due.Refused r ≡ due_of i (due_in cell own bss f)
-  unfolding due_in
-  header_refused r e = ap (λ (o : Outcome Head). due_of i (and_then o (after_header f))) e
-
-  module _ (s : Subtype) (to_all : Bool) (e : Ok (record { subtype = s; to_all = to_all }) ≡ header_means cell own bss f) where
-    after : due_of i (after_header f (record { subtype = s; to_all = to_all })) ≡ due_of i (due_in cell own bss f)
-    unfolding due_in
-    after = ap (λ (o : Outcome Head). due_of i (and_then o (after_header f))) e
-
-    pub to_all_lem : to_all ≡ true → Due.Refused Refusal.NoReplyDue ≡ due_of i (due_in cell own bss f)
-    to_all_lem t = sym (ap (λ (x : Bool). due_of i (after_header f (record { subtype = s; to_all = x }))) t) ∙ after
-
-    pub by_kind : to_all ≡ false → due_of i (by_subtype s (body_of f)) ≡ due_of i (due_in cell own bss f)
-    by_kind t = sym (ap (λ (x : Bool). due_of i (after_header f (record { subtype = s; to_all = x }))) t) ∙ after
+  pub back_due : {x : Fault} → Err x ≡ asked_of i (action_means body) → has_category body ≡ true → Ok Due.Broken ≡ due_of i (or_return body (action_means body))
+  back_due e free = sym (ap (λ (t : Bool). let o : Outcome Due = pick t (Ok Due.Broken) (Err Refusal.NoReplyDue) in o) free) ∙ owing e
 
 -- ---- a body that is owed back is the frame's own
 
@@ -168,11 +134,6 @@ module _ (cell : Cell) (own bss f : List ℕ) where
         let p = followed (header_means cell own bss f) (after_header f) (breaks body) e in
         by_head body p.0.subtype p.0.to_all p.1 p.2
 
-    -- the body as it is lent, and what is answered with it
+    -- the body as it is lent
     pub may_return : {lent : List ℕ} → lent ≡ body_of f → (length lent ≤ longest_body) × (has_category lent ≡ true)
     may_return k = (subst (λ (x : List ℕ). length x ≤ longest_body) (sym k) returned.short, subst (λ (x : List ℕ). has_category x ≡ true) (sym k) returned.free)
-
-    pub answered_back : (to : List ℕ) (answers : Body → Outcome (List ℕ)) {lent : List ℕ} → lent ≡ body_of f
-        → Ok (frame_to own to bss (error_return lent)) ≡ and_then (due_in cell own bss f) (owed_to own to bss answers)
-    answered_back to answers k =
-        ap (λ (x : List ℕ). Ok (frame_to own to bss (error_return x))) (k ∙ sym returned.own_body) ∙ ap (λ (o : Outcome Owed). and_then o (owed_to own to bss answers)) (sym e)

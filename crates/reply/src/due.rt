@@ -32,19 +32,16 @@ fn has_category(body: &[u8]) -> bool
 }
 
 // What an action body is owed. Whatever breaks one is among 1, 5 to 10, 21 and 22; one that asks for nothing is due no reply.
+#[tactic(auto, using(crate::proofs::Owing::owing, crate::proofs::Owing::back_due))]
 fn owed_to(body: &[u8], index: usize) -> Result<Due, Refusal>
     ensures { result ≡ due_of index (or_return body.now (action_means body.now)) }
 {
     match frame::read_request(body, index) {
-        Err(_) => {
-            if has_category(body) {
-                return Ok(Due::Broken);
-            }
-            Err(Refusal::NoReplyDue)
-        }
+        Err(_) if has_category(body) => Ok(Due::Broken),
+        Err(_) => Err(Refusal::NoReplyDue),
         Ok(asked) => match asked.frame {
             Frame::TpcRequest { token } => Ok(Due::Tpc { token }),
-            Frame::MeasurementRequest { token, count: _ } => Ok(Due::Measurement {
+            Frame::MeasurementRequest { token, .. } => Ok(Due::Measurement {
                 token,
                 request: asked.request,
             }),
@@ -54,7 +51,14 @@ fn owed_to(body: &[u8], index: usize) -> Result<Due, Refusal>
 }
 
 // What a frame to the station itself is owed.
-pub fn due_to(frame: &[u8], cell: Cell, own: [u8; 6], bssid: [u8; 6], index: usize) -> Result<Due, Refusal>
+#[tactic(auto, unfolding(crate::specs::Due::due_in))]
+pub fn due_to(
+    frame: &[u8],
+    cell: Cell,
+    own: [u8; 6],
+    bssid: [u8; 6],
+    index: usize,
+) -> Result<Due, Refusal>
     ensures { result ≡ due_of index (due_in cell own bssid frame.now) }
 {
     let head = header::read(frame, cell, own, bssid)?;
@@ -63,7 +67,6 @@ pub fn due_to(frame: &[u8], cell: Cell, own: [u8; 6], bssid: [u8; 6], index: usi
     }
     match head.subtype {
         Subtype::Action => owed_to(header::body(frame), index),
-        Subtype::Beacon => Err(Refusal::NoReplyDue),
-        Subtype::ProbeResponse => Err(Refusal::NoReplyDue),
+        Subtype::Beacon | Subtype::ProbeResponse => Err(Refusal::NoReplyDue),
     }
 }

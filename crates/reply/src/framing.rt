@@ -29,7 +29,13 @@ fn head(own: [u8; 6], to: [u8; 6], bssid: [u8; 6]) -> [u8; header::LENGTH]
 }
 
 // Refuses a buffer that is too short (13) before anything is put, so that no half frame is ever left.
-fn put_frame(own: [u8; 6], to: [u8; 6], bssid: [u8; 6], body: &[u8], buffer: &mut [u8]) -> Result<usize, Refusal>
+fn put_frame(
+    own: [u8; 6],
+    to: [u8; 6],
+    bssid: [u8; 6],
+    body: &[u8],
+    buffer: &mut [u8],
+) -> Result<usize, Refusal>
     requires { length body.now ≤ longest_body }
     ensures { Written true (frame_to own to bssid body.now) 0 buffer.old result buffer.new }
 {

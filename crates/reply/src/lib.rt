@@ -40,10 +40,7 @@ fn tpc_reply(
     let to = old_sender(frame, cell, bssid);
     match due::due_to(frame, cell, own, bssid, 0)? {
         Due::Broken => framing::put_return(own, to, bssid, header::body(frame), buffer),
-        Due::Measurement {
-            token: _,
-            request: _,
-        } => Err(Refusal::Impossible),
+        Due::Measurement { .. } => Err(Refusal::Impossible),
         Due::Tpc { token } => framing::put_tpc_report(own, to, bssid, token, report, buffer),
     }
 }
@@ -64,7 +61,7 @@ fn measurement_reply(
     let to = old_sender(frame, cell, bssid);
     match due::due_to(frame, cell, own, bssid, index)? {
         Due::Broken => framing::put_return(own, to, bssid, header::body(frame), buffer),
-        Due::Tpc { token: _ } => Err(Refusal::Impossible),
+        Due::Tpc { .. } => Err(Refusal::Impossible),
         Due::Measurement { token, request } => {
             let report = measured_report::report_for(request?, clock, readings)?;
             framing::put_report(own, to, bssid, token, report, buffer)
