@@ -18,8 +18,8 @@ fn tbtts_between(moment: u32, later: u32, interval: u16) -> u32
     requires { (1 ≤ interval) × (moment ≤ later) }
     ensures { result ≡ later / interval - moment / interval }
 {
-    let before = moment / (interval as u32);
-    later / (interval as u32) - before
+    let before = moment / u32::from(interval);
+    later / u32::from(interval) - before
 }
 
 impl Member {

@@ -1,5 +1,5 @@
 -- `Member::take` meets its contract, and the station stays valid: what was read is judged by the owner that it names, and heard. Assumes nothing.
-use Rattle.std.specs.Prelude.{Err}
+use Rattle.std.specs.Prelude.{Err, Option}
 use Rattle.std.proofs.Common.{ap, ap₂, false, not, subst, sym, true, ◌&&◌, ◌∙◌, ◌≡◌}
 use Rattle.answer.specs.Checks.{pick}
 use Rattle.answer.specs.declared.Fault.{Fault}
@@ -22,7 +22,7 @@ returns-then-is_foreign c =
     let m = c.args.self in
     let o = ibss_frame_means m.station.own m.station.ap m.station.interval c.args.frame.now in
     let foreign : foreign_in m c.read_in_ibss-heard.result ≡ true =
-    ap (λ (y : Option Owner). announces c.read_in_ibss-heard.result.received.reading && not (is_owner y c.read_in_ibss-heard.result.sender)) (sym c.named_by-named.ensures)
+    ap (λ (y : Option Owner). announces c.read_in_ibss-heard.result.received && not (is_owner y c.read_in_ibss-heard.result.sender)) (sym c.named_by-named.ensures)
     ∙ sym c.is_foreign.ensures ∙ c.if-is_foreign.true in record {
       value = ap (λ (x : Fault). record { verdict = Err x; member = m }) c.nowhere.ensures
           ∙ refused_as m o (subst (λ (v : ReceivedInIbss). foreign_in m v ≡ true) c.read_in_ibss-heard.ensures foreign);
@@ -37,10 +37,10 @@ returns c =
     let f = c.args.frame.now in
     let o = ibss_frame_means m.station.own m.station.ap m.station.interval f in
     let ours : foreign_in m v ≡ false =
-    ap (λ (y : Option Owner). announces v.received.reading && not (is_owner y v.sender)) (sym c.named_by-named.ensures)
+    ap (λ (y : Option Owner). announces v.received && not (is_owner y v.sender)) (sym c.named_by-named.ensures)
     ∙ sym c.is_foreign.ensures ∙ c.if-is_foreign.false in
-    let owner : c.heard_by-owner.result ≡ owner_after m v =
-    c.heard_by-owner.ensures ∙ ap (λ (y : Option Owner). pick (is_beacon v.received.reading) (heard_from y v.sender) y) c.named_by-named.ensures in
+    let owner : c.heard_by.result ≡ owner_after m v =
+    c.heard_by.ensures ∙ ap (λ (y : Option Owner). pick (is_beacon v.received) (heard_from y v.sender) y) c.named_by-named.ensures in
     let read : v ≡ ibss_laid o = c.read_in_ibss-heard.ensures in record {
       value = ap₂ (λ (t : StationTaken.Taken) (y : Option Owner). record { verdict = t.verdict; member = member_of t.station y })
           (c.heard-taken.ensures.value ∙ ap (λ (z : ReceivedInIbss). heard_of m.station z.received) read) (owner ∙ ap (owner_after m) read)
