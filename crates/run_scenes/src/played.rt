@@ -116,16 +116,16 @@ pub fn run<W: Write, P: Played>(page: &mut Page<W>, played: P, call: Call) -> P
 // The reply to a call's frame, which is made in a buffer of the room that the call says.
 pub fn reply<W: Write, F: FnOnce(&[u8], &mut [u8]) -> Result<usize, Refusal> + Drop>(
     page: &mut Page<W>,
-    reply: Reply,
+    to: Reply,
     call: Call,
-    made: F,
+    make: F,
 )
-    requires { F.IsAlwaysCallable made }
+    requires { F.IsAlwaysCallable make }
 {
     let mut frame = [0u8; replies::LONGEST];
-    let length = replies::put(reply, call, &mut frame);
+    let length = replies::put(to, call, &mut frame);
     let room = replies::room(call);
     let mut buffer = [BLANK; ROOM];
-    let wrote = made(&frame[0..length], &mut buffer[0..room]);
+    let wrote = make(&frame[0..length], &mut buffer[0..room]);
     replies::tell(page, wrote, &buffer);
 }

@@ -27,7 +27,8 @@ pub struct Stage {
     pub line: Line,
 }
 
-// The beginning of a scene.
+// The beginning of a scene: all three starts are accepted.
+#[tactic(auto, unfolding(station::specs::Starting::start_means, table::specs::Tables::start_means, answer::specs::Checks::checked))]
 fn fresh(subject: Subject) -> Stage
     ensures { ValidStage result }
 {

@@ -12,12 +12,12 @@ use station::Station;
 use std::io::Write;
 
 // A reply is asked for without a station.
-fn reply<W: Write>(page: &mut Page<W>, reply: Reply, call: Call) {
+fn reply<W: Write>(page: &mut Page<W>, to: Reply, call: Call) {
     played::reply(
         page,
-        reply,
+        to,
         call,
-        |frame: &[u8], buffer: &mut [u8]| match reply {
+        |frame: &[u8], buffer: &mut [u8]| match to {
             Reply::Tpc => reply::to_tpc_request(frame, OWN, AP, replies::report(call), buffer),
             Reply::Measurement => reply::to_measurement_request(
                 frame,

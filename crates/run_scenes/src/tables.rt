@@ -23,12 +23,12 @@ fn row<W: Write>(page: &mut Page<W>, table: Table, own: [u8; 6]) {
     }
 }
 
-fn reply<W: Write>(page: &mut Page<W>, table: Table, reply: Reply, call: Call) {
+fn reply<W: Write>(page: &mut Page<W>, table: Table, to: Reply, call: Call) {
     played::reply(
         page,
-        reply,
+        to,
         call,
-        |frame: &[u8], buffer: &mut [u8]| match reply {
+        |frame: &[u8], buffer: &mut [u8]| match to {
             Reply::Tpc => table.reply_to_tpc_request(frame, replies::report(call), buffer),
             Reply::Measurement => table.reply_to_measurement_request(
                 frame,
@@ -40,6 +40,7 @@ fn reply<W: Write>(page: &mut Page<W>, table: Table, reply: Reply, call: Call) {
     );
 }
 
+// The answer of a step, and the table after it.
 fn parts(stepped: Stepped) -> (Result<(), Refusal>, Table)
     requires { ValidTable stepped.table }
     ensures { ValidTable result.1 }
