@@ -21,14 +21,13 @@ use Rattle.header.specs.declared.Head.{Head}
 use Rattle.header.specs.declared.address.Cell.{Cell}
 use Rattle.header.specs.declared.management.Subtype.{Subtype}
 use Rattle.measurement_body.proofs.PlacesRead.{Reads, place_reads}
-use Rattle.measurement_body.specs.Kinds.{Measurement, sort_of}
+use Rattle.measurement_body.specs.Kinds.{sort_of}
 use Rattle.measurement_body.specs.Lists.{Sort, measurements_in, nth}
 use Rattle.measurement_body.specs.Reports.{report_sort}
 use Rattle.measurement_body.specs.Requests.{request_sort}
 use Rattle.measurement_body.specs.Surveys.{place_in, surveyed_as, surveyed}
 use Rattle.measurement_body.specs.declared.kinds.Kind as Measurements
 use Rattle.walk.specs.declared.Contents.{Contents}
-use Rattle.measurement_body.specs.declared.surveying.Surveyed.{Surveyed}
 use Rattle.measurement_element.specs.MeasurementReport.{report_means}
 use Rattle.measurement_element.specs.MeasurementRequest.{request_means}
 use Rattle.measurement_element.specs.declared.measurement_report.Report.{Report}
@@ -63,45 +62,32 @@ module _ (body : List ℕ) (i : ℕ) where
       by (Err r) = refl
       by (Ok a) = ap Ok (none a)
 
-  pub found_alone : (k : Singles.Kind) (token : ℕ) {o : Placed Single} → o ≡ single (fields_before k) (id_of k) (contents_mean k) (handed_in (drop (fields_before k) body))
-      → and_then o (λ s. Ok (unplaced (single_frame token s))) ≡ located i body (after_opening body (single_opening k token))
-  found_alone k token e = ap (λ (o : Placed Single). and_then o (λ s. Ok (unplaced (single_frame token s)))) e ∙ by k
-    where
-      by : (k : Singles.Kind)
-          → and_then (single (fields_before k) (id_of k) (contents_mean k) (handed_in (drop (fields_before k) body))) (λ s. Ok (unplaced (single_frame token s)))
-          ≡ located i body (after_opening body (single_opening k token))
-      by Singles.Kind.TpcRequest =
-          one_element fixed_fields 34 tpc_request_means (handed_in (drop fixed_fields body)) token (λ u. Single.TpcRequest) (λ u. tpc_request token) (λ u. refl)
-      by Singles.Kind.TpcReport =
-          one_element fixed_fields 35 tpc_report_means (handed_in (drop fixed_fields body)) token Single.TpcReport (tpc_report token) (λ t. refl)
-      by Singles.Kind.ChannelSwitch =
-          one_element switch_fixed_fields 37 switch_means (handed_in (drop switch_fixed_fields body)) token Single.ChannelSwitch switch (λ s. refl)
+  pub found_alone : (k : Singles.Kind) (token : ℕ) → located i body (after_opening body (single_opening k token))
+      ≡ and_then (single (fields_before k) (id_of k) (contents_mean k) (handed_in (drop (fields_before k) body))) (λ s. Ok (unplaced (single_frame token s)))
+  found_alone Singles.Kind.TpcRequest token =
+      sym (one_element fixed_fields 34 tpc_request_means (handed_in (drop fixed_fields body)) token (λ u. Single.TpcRequest) (λ u. tpc_request token) (λ u. refl))
+  found_alone Singles.Kind.TpcReport token =
+      sym (one_element fixed_fields 35 tpc_report_means (handed_in (drop fixed_fields body)) token Single.TpcReport (tpc_report token) (λ t. refl))
+  found_alone Singles.Kind.ChannelSwitch token =
+      sym (one_element switch_fixed_fields 37 switch_means (handed_in (drop switch_fixed_fields body)) token Single.ChannelSwitch switch (λ s. refl))
 
   -- a body of measurement elements has those of its survey
-  module _ (token : ℕ) where
-    made : (k : Measurements.Kind) → List (Measurement k) → Body
-    made Measurements.Kind.Requests xs = requests token xs
-    made Measurements.Kind.Reports xs = reports token xs
+  requested : (token : ℕ) (o : Placed (List Request))
+      → located i body (and_then o (λ rs. Ok (requests token rs)))
+      ≡ and_then (surveyed_as request_sort i 0 body o) (λ v. Ok (placed Measurements.Kind.Requests token v.count v.place))
+  requested token (Err x) = refl
+  requested token (Ok rs) = refl
 
-    after : (k : Measurements.Kind)
-        → and_then (measurements_in (sort_of k) (drop fixed_fields body)) (λ xs. Ok (made k xs)) ≡ after_opening body (Opening.Token (sort_of k).action token)
-    unfolding made
-    after Measurements.Kind.Requests = refl
-    after Measurements.Kind.Reports = refl
+  reported : (token : ℕ) (o : Placed (List Report))
+      → located i body (and_then o (λ rs. Ok (reports token rs)))
+      ≡ and_then (surveyed_as report_sort i 0 body o) (λ v. Ok (placed Measurements.Kind.Reports token v.count v.place))
+  reported token (Err x) = refl
+  reported token (Ok rs) = refl
 
-    pub measured : (k : Measurements.Kind) (t : ℕ) {o : Placed Surveyed} → o ≡ surveyed (sort_of k) i t body
-        → and_then o (λ v. Ok (placed k token v.count v.place)) ≡ located i body (after_opening body (Opening.Token (sort_of k).action token))
-    unfolding made
-    measured k t e =
-        ap (λ (o : Placed Surveyed). and_then o (λ v. Ok (placed k token v.count v.place))) e
-        ∙ by k (measurements_in (sort_of k) (drop fixed_fields body))
-        ∙ ap (located i body) (after k)
-      where
-        by : (k : Measurements.Kind) (o : Placed (List (Measurement k)))
-            → and_then (surveyed_as (sort_of k) i t body o) (λ v. Ok (placed k token v.count v.place)) ≡ located i body (and_then o (λ xs. Ok (made k xs)))
-        by k (Err x) = refl
-        by Measurements.Kind.Requests (Ok xs) = refl
-        by Measurements.Kind.Reports (Ok xs) = refl
+  pub measured : (k : Measurements.Kind) (token : ℕ) → located i body (after_opening body (Opening.Token (sort_of k).action token))
+      ≡ and_then (surveyed (sort_of k) i 0 body) (λ v. Ok (placed k token v.count v.place))
+  measured Measurements.Kind.Requests token = requested token (measurements_in request_sort (drop fixed_fields body))
+  measured Measurements.Kind.Reports token = reported token (measurements_in report_sort (drop fixed_fields body))
 
   -- ---- what is read at a place
 
