@@ -77,6 +77,7 @@ impl Station {
         }
     }
 
+    #[tactic(auto, using(crate::proofs::Received::read_means, frame::proofs::Allowing::read_allowed))]
     pub fn take(self, frame: &[u8]) -> Taken
         requires { Valid self }
         ensures value { result ≡ take_of self frame.now }
