@@ -28,6 +28,7 @@ pub struct Table {
 }
 
 // The answer, and the table after the call: the same as before where the call was refused.
+// Kept beside one another: a refused call gives the table back, and `tick_of` promises which. The field says whose state it is.
 #[derive(Clone, Copy)]
 pub struct Stepped {
     pub answer: Result<(), Refusal>,

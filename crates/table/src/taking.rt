@@ -11,6 +11,7 @@ use answer::Fault;
 use frame::Received;
 
 // The verdict on a frame, and the table after it: the same as before where the frame was refused.
+// Kept beside one another: a refused call gives the table back, and `take_of` promises which. The field says whose state it is.
 #[derive(Clone, Copy)]
 pub struct Taken {
     pub verdict: Result<(), Fault>,
