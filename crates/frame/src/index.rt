@@ -100,7 +100,7 @@ fn locate(
     }
 }
 
-// The request at an index of a frame.
+// The request at an index of a frame. Kept beside that of reports: they differ in the place and the reader, and one over both would be longer.
 #[tactic(auto, using(crate::proofs::Indexing::request_found))]
 pub fn request_at(
     frame: &[u8],
