@@ -6,4 +6,3 @@ pub mod OneOutcome
 pub mod Passes
 pub mod QuietsByIndex
 pub mod SignedAnswers
-pub mod Wholes

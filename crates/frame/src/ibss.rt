@@ -16,6 +16,7 @@ use element::ibss_dfs::{ChannelMap, IbssDfs};
 use header::{Cell, Subtype};
 
 // What was received, who sent it, and the element 41 of a beacon, which names a DFS owner. Of a refused frame the sender is no one, and no owner is named.
+// Kept beside a refusal: the edit `sender_of_a_refused`, which must fail, needs a sender there.
 #[derive(Clone, Copy)]
 pub struct ReceivedInIbss {
     pub received: Result<Received, Fault>,

@@ -100,7 +100,8 @@ fn locate(
     }
 }
 
-// The request at an index of a frame.
+// The request at an index of a frame. Kept beside that of reports: they differ in the place and the reader, and one over both would be longer.
+#[tactic(auto, using(crate::proofs::Indexing::request_found))]
 pub fn request_at(
     frame: &[u8],
     own: [u8; 6],
@@ -110,13 +111,12 @@ pub fn request_at(
 ) -> Result<Request, Refusal>
     ensures { result ≡ element_of request_in index (frame_means own ap interval frame.now) }
 {
-    match locate(frame, own, ap, interval, index) {
-        Err(fault) => Err(fault.refusal),
-        Ok(found) => request_there(header::body(frame), found.request),
-    }
+    let found = locate(frame, own, ap, interval, index).map_err(|fault| fault.refusal)?;
+    request_there(header::body(frame), found.request)
 }
 
 // The report at an index of a frame.
+#[tactic(auto, using(crate::proofs::Indexing::report_found))]
 pub fn report_at(
     frame: &[u8],
     own: [u8; 6],
@@ -126,8 +126,6 @@ pub fn report_at(
 ) -> Result<Report, Refusal>
     ensures { result ≡ element_of report_in index (frame_means own ap interval frame.now) }
 {
-    match locate(frame, own, ap, interval, index) {
-        Err(fault) => Err(fault.refusal),
-        Ok(found) => report_there(header::body(frame), found.report),
-    }
+    let found = locate(frame, own, ap, interval, index).map_err(|fault| fault.refusal)?;
+    report_there(header::body(frame), found.report)
 }

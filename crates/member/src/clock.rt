@@ -7,6 +7,7 @@ use crate::Member;
 use answer::Refusal;
 
 // The answer, and the station after the call: the same as before where the call was refused.
+// Kept beside one another: a refused call gives the station back, and `advance_of` promises which. The field says whose state it is.
 #[derive(Clone, Copy)]
 pub struct Stepped {
     pub answer: Result<(), Refusal>,

@@ -13,6 +13,7 @@ use frame::{Frame, Received};
 use owner::Owner;
 
 // The verdict on a frame, and the station after it: the same as before where the frame was refused.
+// Kept beside one another: a refused call gives the station back, and `take_of` promises which. The field says whose state it is.
 #[derive(Clone, Copy)]
 pub struct Taken {
     pub verdict: Result<(), Fault>,
