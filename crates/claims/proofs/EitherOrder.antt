@@ -37,7 +37,7 @@ use Rattle.claims.specs.Records.{record_from}
 use Rattle.claims.specs.TableHistories.{made_for, history_of, history_for, Stay, joined_at}
 use Rattle.claims.specs.TableRuns.{take, question, TableAnswer, judged, asked, TableMade, Does}
 use Rattle.claims.proofs.TableDemand3.{row_arrives}
-use Rattle.claims.proofs.TableMeans.{asked_as, ap_kept, interval_kept, does_means}
+use Rattle.claims.proofs.TableMeans.{ap_kept, interval_kept, does_means}
 use Rattle.claims.proofs.TableRows.{hearing_keeps, to_another}
 use Rattle.claims.proofs.WhoIsJoined.{heard_seats}
 
@@ -143,7 +143,7 @@ module _ (t : Table) (v : ValidTable t) (f : List ℕ) (alone : to_all f ≡ fal
       let m' = does_means mid' (take f) x' last' q'.valid other-later in
       let still : station_of mid own ≡ station_of t own = ap (λ (u : Table). station_of u own) m.leaves ∙ to_another t v own f (or_go (to_all f) alone ∙ two) in (
         m.answers ∙ ap (λ (u : Table). judged (take_of u f).verdict) (sym q'.leaves) ∙ sym m'.answers,
-        q.answers ∙ ap (λ (o : Outcome Station). asked (asked_as (and_then o (λ s. Ok (permission_of s n))))) still ∙ sym q'.answers,
+        q.answers ∙ ap (λ (o : Outcome Station). asked (and_then o (λ s. Ok (permission_of s n)))) still ∙ sym q'.answers,
         q.leaves ∙ m.leaves ∙ ap (λ (u : Table). (take_of u f).table) (sym q'.leaves) ∙ sym m'.leaves,
       )
 

@@ -1,5 +1,5 @@
 -- Advancing twice is advancing once (02, Seven) for document 01's station, for a station of an IBSS and for a table, over the code's own results. Assumes nothing.
-use Rattle.std.specs.Prelude.{Ok, Err, Some, None, Option}
+use Rattle.std.specs.Prelude.{Ok, Err, Some, None, Option, All}
 use mathlib.Core.Bool.{Bool, true, false, ◌||◌}
 use mathlib.Core.List.{List, [], ◌∷◌, map}
 use mathlib.Core.Logic.{⊎_elim}
@@ -9,6 +9,7 @@ use native.Mathlib.Omega.{arith}
 use borrow.Author.Tests.{ltb-false, lt-ltb, le-ltb}
 use lib.Dec.{ltb}
 use Rattle.answer.proofs.Booleans.{either, neither, or_go}
+use Rattle.answer.proofs.Judged.{never}
 use Rattle.answer.specs.Checks.{Outcome, pick, and_then, checked, Answer}
 use Rattle.answer.specs.declared.Refusal.{Refusal}
 use Rattle.member.specs.Members.{member_of, owner_past, member_advances, stepped as member_stepped, advance_of as member_advance}
@@ -19,7 +20,8 @@ use Rattle.owner.proofs.CountingUnits.{passed_tbtts}
 use Rattle.owner.specs.Owners.{at_tbtt, past_tbtts}
 use Rattle.owner.specs.Tbtts.{tbtts_in}
 use Rattle.owner.specs.declared.Owner.{Owner}
-use Rattle.row.specs.Rows.{seated, All, row_ticked, ticked}
+use Rattle.std.proofs.lemmas.List.Elements.{All-head, All-tail}
+use Rattle.row.specs.Rows.{seated, row_ticked, ticked}
 use Rattle.row.specs.declared.Row.{Row}
 use Rattle.station.specs.Clock.{stepped, reached, clock_advance, advanced_to, advance_means, advance_of}
 use Rattle.station.specs.Stations.{clock_limit, unit_limit, with_clock}
@@ -62,17 +64,17 @@ not_far t n few within = or_go (ltb unit_limit n) (le-ltb unit_limit n few) ∙ 
 
 -- after so many units, whatever the limits
 abbrev gone_to : Station → ℕ → Option Switch → Station
-gone_to s t p = (stepped s (advanced_to s (reached t p))).station
+gone_to s t p = advanced_to s (reached t p)
 
 abbrev gone : Station → ℕ → Station
 gone s n = gone_to s (s.clock + n) s.pending
 
 -- by whether it is too far
 means_by : Station → ℕ → Bool → Outcome Station
-means_by s n far = advanced_to s (pick far Advanced.Refused (reached (s.clock + n) s.pending))
+means_by s n far = and_then (pick far (Err Refusal.PastClock) (Ok (reached (s.clock + n) s.pending))) (λ a. Ok (advanced_to s a))
 
 by_far : (s : Station) (n : ℕ) → advance_means s n ≡ means_by s n (too_far s.clock n)
-unfolding advance_means clock_advance means_by
+unfolding advance_means clock_advance checked means_by
 by_far s n = refl
 
 far_refused : (s : Station) (n : ℕ) → too_far s.clock n ≡ true → advance_means s n ≡ Err Refusal.PastClock
@@ -81,21 +83,12 @@ far_refused s n y = by_far s n ∙ ap (means_by s n) y
 
 near_gone : (s : Station) (n : ℕ) → too_far s.clock n ≡ false → advance_means s n ≡ Ok (gone s n)
 unfolding means_by
-near_gone s n e = by_far s n ∙ ap (means_by s n) e ∙ by_pending s.pending
-  where
-    by : (b : Bool) (t channel : ℕ) → advanced_to s (pick b (Advanced.Goes t) (Advanced.Switches t channel))
-        ≡ Ok (stepped s (advanced_to s (pick b (Advanced.Goes t) (Advanced.Switches t channel)))).station
-    by true t channel = refl
-    by false t channel = refl
-
-    by_pending : (p : Option Switch) → advanced_to s (reached (s.clock + n) p) ≡ Ok (gone_to s (s.clock + n) p)
-    by_pending None = refl
-    by_pending (Some x) = by (ltb (s.clock + n) x.at) (s.clock + n) x.channel
+near_gone s n e = by_far s n ∙ ap (means_by s n) e
 
 gone_clock : (s : Station) (n : ℕ) → (gone s n).clock ≡ s.clock + n
 gone_clock s n = by_pending s.pending
   where
-    by : (b : Bool) (channel : ℕ) → (stepped s (advanced_to s (pick b (Advanced.Goes (s.clock + n)) (Advanced.Switches (s.clock + n) channel)))).station.clock ≡ s.clock + n
+    by : (b : Bool) (channel : ℕ) → (advanced_to s (pick b (Advanced.Goes (s.clock + n)) (Advanced.Switches (s.clock + n) channel))).clock ≡ s.clock + n
     by true channel = refl
     by false channel = refl
 
@@ -106,7 +99,7 @@ gone_clock s n = by_pending s.pending
 gone_interval : (s : Station) (n : ℕ) → (gone s n).interval ≡ s.interval
 gone_interval s n = by_pending s.pending
   where
-    by : (b : Bool) (channel : ℕ) → (stepped s (advanced_to s (pick b (Advanced.Goes (s.clock + n)) (Advanced.Switches (s.clock + n) channel)))).station.interval ≡ s.interval
+    by : (b : Bool) (channel : ℕ) → (advanced_to s (pick b (Advanced.Goes (s.clock + n)) (Advanced.Switches (s.clock + n) channel))).interval ≡ s.interval
     by true channel = refl
     by false channel = refl
 
@@ -131,18 +124,18 @@ gone_adds s a b = by_pending s.pending refl ∙ ap (λ (t : ℕ). gone_to s t s.
         ⊎_elim
         (λ (y : ltb t x.at ≡ true).
         ap (λ (p : Option Switch). gone (gone_to s t p) b) e
-        ∙ ap (λ (c : Bool). gone (stepped s (advanced_to s (pick c (Advanced.Goes t) (Advanced.Switches t x.channel)))).station b) y
+        ∙ ap (λ (c : Bool). gone (advanced_to s (pick c (Advanced.Goes t) (Advanced.Switches t x.channel))) b) y
         ∙ ap (gone_to (with_clock s t) u) e ∙ same_switch (ltb u x.at) ∙ ap (gone_to s u) (sym e))
         (λ (n : ltb t x.at ≡ false).
         ap (λ (p : Option Switch). gone (gone_to s t p) b) e
-        ∙ ap (λ (c : Bool). gone (stepped s (advanced_to s (pick c (Advanced.Goes t) (Advanced.Switches t x.channel)))).station b) n
-        ∙ ap (λ (c : Bool). (stepped s (advanced_to s (pick c (Advanced.Goes u) (Advanced.Switches u x.channel)))).station)
+        ∙ ap (λ (c : Bool). gone (advanced_to s (pick c (Advanced.Goes t) (Advanced.Switches t x.channel))) b) n
+        ∙ ap (λ (c : Bool). advanced_to s (pick c (Advanced.Goes u) (Advanced.Switches u x.channel)))
         (sym (le-ltb u x.at (let l = ltb-false t x.at n in omega (arith, l))))
         ∙ ap (gone_to s u) (sym e))
         (either (ltb t x.at))
       where
-        same_switch : (c : Bool) → (stepped (with_clock s t) (advanced_to (with_clock s t) (pick c (Advanced.Goes u) (Advanced.Switches u x.channel)))).station
-            ≡ (stepped s (advanced_to s (pick c (Advanced.Goes u) (Advanced.Switches u x.channel)))).station
+        same_switch : (c : Bool) → advanced_to (with_clock s t) (pick c (Advanced.Goes u) (Advanced.Switches u x.channel))
+            ≡ advanced_to s (pick c (Advanced.Goes u) (Advanced.Switches u x.channel))
         same_switch true = refl
         same_switch false = refl
 
@@ -153,16 +146,13 @@ gone_nowhere s v = ap (λ (t : ℕ). gone_to s t s.pending) (let e : s.clock + 0
     by : (p : Option Switch) → PendingFits s.clock p → gone_to s s.clock p ≡ s
     by None fits = refl
     by (Some x) fits =
-        ap (λ (c : Bool). (stepped s (advanced_to s (pick c (Advanced.Goes s.clock) (Advanced.Switches s.clock x.channel)))).station) (lt-ltb s.clock x.at fits.0)
+        ap (λ (c : Bool). advanced_to s (pick c (Advanced.Goes s.clock) (Advanced.Switches s.clock x.channel))) (lt-ltb s.clock x.at fits.0)
 
 -- what is accepted is not too far
-refused_never : {A : Type 0} {r : Refusal} → Err r ≡ Ok tt → A
-refused_never {A} {r} z = absurd (let f : ◌≡◌ {A = ℕ} 0 1 = cc in omega arith)
-
 accepted_near : (t n : ℕ) (answer : Answer) → (too_far t n ≡ true → answer ≡ Err Refusal.PastClock) → answer ≡ Ok tt → too_far t n ≡ false
 accepted_near t n answer far e =
     ⊎_elim
-    (λ (y : too_far t n ≡ true). refused_never (sym (far y) ∙ e))
+    (λ (y : too_far t n ≡ true). absurd (never (sym (far y) ∙ e)))
     (λ (m : too_far t n ≡ false). m)
     (either (too_far t n))
 
@@ -295,20 +285,19 @@ module _ (t : Table) where
   station_of_lem w h j = let s = subst (λ (c : Bool). Holds t.ap t.interval t.clock c w.station) j h in (s.valid, s.same_clock)
 
   rows_stay : (ws : List Row) → All (RowOf t) ws → map (row_gone 0) ws ≡ ws
-  unfolding All
   rows_stay [] v = refl
   rows_stay (w ∷ ws) v =
-      ap₂ (λ (u : Row) (us : List Row). u ∷ us) (row_by (λ s. gone s 0) w (λ j. gone_nowhere w.station (station_of_lem w v.0 j).0)) (rows_stay ws v.1)
+      ap₂ (λ (u : Row) (us : List Row). u ∷ us) (row_by (λ s. gone s 0) w (λ j. gone_nowhere w.station (station_of_lem w (All-head (RowOf t) w ws v) j).0)) (rows_stay ws (All-tail (RowOf t) w ws v))
 
   rows_tick : (n : ℕ) → too_far t.clock n ≡ false → (ws : List Row) → All (RowOf t) ws → ticked n ws ≡ map (row_gone n) ws
-  unfolding All row_ticked
+  unfolding row_ticked
   rows_tick n close [] v = refl
-  rows_tick n close (w ∷ ws) v = ap₂ (λ (u : Row) (us : List Row). u ∷ us) (by w.joined refl) (rows_tick n close ws v.1)
+  rows_tick n close (w ∷ ws) v = ap₂ (λ (u : Row) (us : List Row). u ∷ us) (by w.joined refl) (rows_tick n close ws (All-tail (RowOf t) w ws v))
     where
       by : (j : Bool) → w.joined ≡ j → pick w.joined (seated (advance_of w.station n).station) w ≡ row_gone n w
       by true e =
           ap (λ (s : Station). pick w.joined (seated s) w)
-          (ap (λ (o : Outcome Station). (stepped w.station o).station) (near_gone w.station n (ap (λ (c : ℕ). too_far c n) (station_of_lem w v.0 e).1 ∙ close)))
+          (ap (λ (o : Outcome Station). (stepped w.station o).station) (near_gone w.station n (ap (λ (c : ℕ). too_far c n) (station_of_lem w (All-head (RowOf t) w ws v) e).1 ∙ close)))
       by false e = ap (λ (c : Bool). pick c (seated (advance_of w.station n).station) w) e ∙ ap (λ (c : Bool). pick c (seated (gone w.station n)) w) (sym e)
 
   tick_by : ℕ → Bool → TableStepped

@@ -35,7 +35,7 @@ use Rattle.table.specs.declared.Table.{Table}
 use Rattle.table.specs.declared.taking.Taken.{Taken as TableTaken}
 use Rattle.claims.specs.TableHistories.{concerns, Leaves}
 use Rattle.claims.specs.TableRuns.{TableCall, join, leave, tick, take, question, tpc, measurement, TableAnswer, answered, judged, asked}
-use Rattle.claims.proofs.TableMeans.{asked_as, replied_with, table_answers, table_after, far, through_checks}
+use Rattle.claims.proofs.TableMeans.{replied_with, table_answers, table_after, far, through_checks}
 use Rattle.pending.specs.declared.Switch.{Switch}
 
 -- ---- what document 01's station does and answers
@@ -63,22 +63,14 @@ row_answers r (leave a) = answered (Ok tt)
 
 module _ (r : Station) (n : ℕ) where
   abbrev advanced_by : Bool → Stepped
-  advanced_by b = station_stepped r (advanced_to r (pick b Advanced.Refused (reached (r.clock + n) r.pending)))
+  advanced_by b = station_stepped r (and_then (pick b (Err Refusal.PastClock) (Ok (reached (r.clock + n) r.pending))) (λ a. Ok (advanced_to r a)))
 
   pub by_far : advance_of r n ≡ advanced_by (ltb unit_limit n || ltb clock_limit (r.clock + n))
-  unfolding advance_means clock_advance
+  unfolding advance_means clock_advance checked
   by_far = refl
 
   pub goes_accepted : (advanced_by false).answer ≡ Ok tt
-  goes_accepted = by_pending r.pending
-    where
-      by_test_lem : (b : Bool) (t channel : ℕ) → (station_stepped r (advanced_to r (pick b (Advanced.Goes t) (Advanced.Switches t channel)))).answer ≡ Ok tt
-      by_test_lem true t channel = refl
-      by_test_lem false t channel = refl
-
-      by_pending : (p : Option Switch) → (station_stepped r (advanced_to r (reached (r.clock + n) p))).answer ≡ Ok tt
-      by_pending None = refl
-      by_pending (Some x) = by_test_lem (ltb (r.clock + n) x.at) (r.clock + n) x.channel
+  goes_accepted = refl
 
 -- ---- a row of the station's address does what its station does
 
@@ -288,7 +280,7 @@ module _ (t : Table) (v : ValidTable t) (own : List ℕ) where
     concerned (take f) e stays = let w = taken_alike f e in record { answers = w.0; leaves = w.1 }
     concerned (question a n) e stays = record {
       answers =
-          ap (λ (o : Outcome Station). asked (asked_as (and_then o (λ s. Ok (permission_of s n)))))
+          ap (λ (o : Outcome Station). asked (and_then o (λ s. Ok (permission_of s n))))
           (ap (λ (b : List ℕ). station_of t b) (same_is a own e) ∙ is);
       leaves = is;
     }

@@ -34,7 +34,7 @@ use Rattle.claims.specs.Runs.{GoesOn, Ran}
 use Rattle.claims.specs.TableRuns.{TableCall, join, leave, tick, take, question, tpc, measurement, TableAnswer, answered, asked, TableMade, started_with, Does, table}
 use Rattle.claims.proofs.JoinedRows.{some_found, is_in, not_found, none_left, seats, seats_within, seats_same, one_more, one_less, none_free}
 use Rattle.claims.proofs.RunsMeant.{throughout}
-use Rattle.claims.proofs.TableMeans.{asked_as, table_answers, table_after, table_means, TableMeant, through_checks, through_take, does_means, ap_kept, interval_kept, starts_empty}
+use Rattle.claims.proofs.TableMeans.{table_answers, table_after, table_means, TableMeant, through_checks, through_take, does_means, ap_kept, interval_kept, starts_empty}
 use Rattle.claims.proofs.TableRows.{joined_apart, left_apart}
 use Rattle.claims.proofs.TableStays.{reaches, join_seats}
 
@@ -263,7 +263,7 @@ module _ (ap' : List ℕ) (b : ℕ) (ms : List TableMade) (t : Table) (ran : Ran
   question_exactly own n r next does = (λ e. by (station_of t own) refl e, λ none. is ∙ ap answer_by (not_found (is_of own) t.rows (joined_exactly own ∙ none)))
     where
       answer_by : Outcome Station → TableAnswer
-      answer_by o = asked (asked_as (and_then o (λ s. Ok (permission_of s n))))
+      answer_by o = asked (and_then o (λ s. Ok (permission_of s n)))
 
       is : r ≡ answer_by (station_of t own)
       is = (does_means t (question own n) r next valid does).answers
