@@ -1,6 +1,6 @@
 -- What the calls leave is a valid table. Assumes nothing.
 use Rattle.std.specs.Prelude.{All, Ok, Some, None, Option}
-use Rattle.std.proofs.lemmas.List.Elements.{All-replicate, All-weaker}
+use Rattle.std.proofs.lemmas.List.Elements.{All-replicate}
 use mathlib.Core.Bool.{Bool, true, false, ◌||◌}
 use mathlib.Core.List.{List, map}
 use mathlib.Core.Path.{◌≡◌, refl, sym, ap, ◌∙◌, subst}
@@ -17,7 +17,7 @@ use Rattle.frame.specs.Allowed.{KindAllowed}
 use Rattle.frame.specs.Frames.{Kind}
 use Rattle.frame.specs.Laid.{frame_of, quiets_of}
 use Rattle.octets.specs.Numbers.{bit, octet}
-use Rattle.row.specs.Rows.{row_count, free, seated, is_free, Occupied, ValidRow, ValidRows, row_ticked}
+use Rattle.row.specs.Rows.{row_count, free, seated, is_free, row_ticked}
 use Rattle.row.specs.declared.Row.{Row}
 use Rattle.station.proofs.KeptThroughout.{Unchanged, heard_unchanged, KeptThroughout, advance_keeps}
 use Rattle.station.proofs.StaysValid.{valid_fresh, advanced, valid_changed}
@@ -87,17 +87,6 @@ goes_on s n near =
     by_pending (Some x) = by_test_lem (ltb (s.clock + n) x.at) x.channel
 
 module _ (t : Table) (v : ValidTable t) where
-  -- what a row of it asks of a station, without the table
-  pub rows_valid : ValidRows t.rows
-  rows_valid = record { sixteen = v.sixteen; each = All-weaker (RowOf t) ValidRow row_valid t.rows v.each }
-    where
-      by : (b : Bool) (s : Station) → Holds t.ap t.interval t.clock b s → Occupied Valid b s
-      by true s h = h.valid
-      by false s h = h
-
-      row_valid : (w : Row) → RowOf t w → ValidRow w
-      row_valid w h = by w.joined w.station h
-
   -- other rows in it, as many, each of this table and all apart
   pub valid_rows : (ws : List Row) → length ws ≡ length t.rows → All (RowOf t) ws → Apart ws → ValidTable (with_rows t ws)
   valid_rows ws l each apart = record {
