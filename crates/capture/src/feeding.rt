@@ -32,6 +32,7 @@ fn put_block(lister: Lister, block: &[u8], out: &mut [u8]) -> Put
 }
 
 // Whether so many blocks more may be listed into a buffer of so many octets. What the limit and the buffer leave is compared, since a sum or a product could wrap.
+#[tactic(auto, unfolding(crate::specs::CodeTerms::Rooms::room_for, answer::specs::Checks::checked))]
 fn room_for(blocks: u64, many: usize, size: usize) -> Result<(), Refusal>
     requires { blocks ≤ block_limit }
     ensures { result ≡ room_for blocks many size }
