@@ -7,8 +7,8 @@ ghost use Rattle.table.specs.Tables.{take_of, with_rows};
 ghost use Rattle.table.specs.Validity.{ValidTable};
 
 use crate::Table;
-use frame::Received;
 use answer::Fault;
+use frame::Received;
 
 // The verdict on a frame, and the table after it: the same as before where the frame was refused.
 #[derive(Clone, Copy)]
@@ -35,6 +35,7 @@ impl Table {
     }
 
     // The frame is read once, whatever rows it goes to.
+    #[tactic(auto, using(crate::proofs::Outcomes::taking))]
     pub fn take(self, frame: &[u8]) -> Taken
         requires { ValidTable self }
         ensures value { result ≡ take_of self frame.now }
