@@ -2,18 +2,15 @@
 use Rattle.std.specs.Prelude.{Ok, Err}
 use mathlib.Core.List.{List}
 use mathlib.Core.Path.{◌≡◌, refl, sym, ap, ◌∙◌, subst}
-use Prim.Native.Nat.{ℕ, ◌≤◌}
-use lib.Dec.{lit≤}
-use lib.ListN.{length, take}
+use Prim.Native.Nat.{ℕ}
+use lib.ListN.{take}
 use Rattle.answer.specs.Checks.{and_then}
 use Rattle.answer.specs.Faults.{Placed}
 use Rattle.answer.specs.declared.Fault.{Fault}
-use Rattle.beacon.specs.Beacons.{quiet_limit}
-use Rattle.frame.proofs.Allowing.{frame_allowed, read_allowed}
-use Rattle.frame.specs.Allowed.{KindAllowed}
-use Rattle.frame.specs.Frames.{Kind, beacon, probe_response, action, Sent, frame_means}
+use Rattle.frame.proofs.Allowing.{read_allowed}
+use Rattle.frame.specs.Frames.{frame_means}
 use Rattle.frame.specs.Hearing.{hearing_of}
-use Rattle.frame.specs.Laid.{quiets_of, frame_laid}
+use Rattle.frame.specs.Laid.{frame_laid}
 use Rattle.frame.specs.declared.Received.{Received}
 use Rattle.frame.specs.declared.hearing.Hearing.{Hearing}
 use Rattle.station.proofs.Received.{heard_as, valid_heard, read_means}
@@ -25,21 +22,6 @@ use Rattle.station.specs.declared.taking.Taken.{Taken}
 use Rattle.apart.specs.Apart.{whole_of, rows_heard, rows_by, HeardAs}
 use Rattle.apart.specs.declared.Apart.{Apart}
 use Rattle.apart.specs.declared.columns.Columns.{Columns}
-
--- ---- no more Quiet elements are heard than there are slots
-
-few_quiets : (b : ℕ) (k : Kind) → KindAllowed b k → length (quiets_of k) ≤ quiet_limit
-few_quiets b (beacon t) h = h.few
-few_quiets b (probe_response t) h = h.few
-few_quiets b (action body) h = lit≤ tt
-
-abbrev count_of : Placed Hearing → ℕ
-count_of (Err x) = 0
-count_of (Ok h) = h.count
-
-few_laid : (b : ℕ) (o : Placed Sent) → ((x : Sent) → o ≡ Ok x → KindAllowed b x.kind) → count_of (hearing_of (frame_laid o)) ≤ quiet_limit
-few_laid b (Err x) allowed = lit≤ tt
-few_laid b (Ok s) allowed = few_quiets b s.kind (allowed s refl)
 
 -- ---- the station's taking of a frame, by what is heard of it
 
@@ -63,10 +45,6 @@ module _ (s : Station) where
       subst (λ (next : Placed Station). Valid (taken s next).station) (read_means s f o refl) (valid_heard s v o (read_allowed s.interval s.own s.ap f))
 
 -- ---- the parts after a frame, by what is heard of it
-
-pub few_heard : (a : Apart) (f : List ℕ) (h : Hearing) → Ok h ≡ hearing_of (frame_laid (frame_means a.own a.ap a.rest.interval f)) → h.count ≤ quiet_limit
-few_heard a f h e =
-    subst (λ (o : Placed Hearing). count_of o ≤ quiet_limit) (sym e) (few_laid a.rest.interval (frame_means a.own a.ap a.rest.interval f) (frame_allowed a.rest.interval a.own a.ap f))
 
 module _ (a : Apart) (c : Columns) (f : List ℕ) where
   by_parts : (r : Placed Hearing) → r ≡ hearing_of (frame_laid (frame_means a.own a.ap a.rest.interval f)) → taken (whole_of a c) (after (whole_of a c) r) ≡ take_of (whole_of a c) f

@@ -36,6 +36,7 @@ pub struct Apart {
 }
 
 // The verdict on a frame, and the station after it: the same as before where the frame was refused.
+// Kept beside one another: a refused call gives the station back, and `HeardAs` promises which. The field says whose state it is.
 #[derive(Clone, Copy)]
 pub struct Told {
     pub verdict: Result<(), Fault>,

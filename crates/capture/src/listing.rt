@@ -6,14 +6,18 @@ ghost use Rattle.capture.specs.CodeTerms.Following.{Fed};
 ghost use Rattle.capture.specs.CodeTerms.Noting.{heard_by};
 ghost use Rattle.capture.specs.Feeding.{enough_room};
 ghost use Rattle.capture.specs.Listers.{block_limit, Fits};
-ghost use Rattle.capture.specs.Lists.{blocks_in, blocks_told};
+ghost use Rattle.capture.specs.Lists.{answer_line, blocks_in, blocks_told};
+ghost use Rattle.capture.specs.declared.response.Response.{Response};
+ghost use Rattle.pen.specs.Penning.{Ready, Penned};
+ghost use Rattle.pen.specs.declared.words.Word.{Word};
 
 use crate::parts::Parts;
+use crate::plain::Ran;
 use crate::{Lister, plain};
-use answer::Refusal;
+use answer::{Fault, Refusal};
 use apart::Columns;
 use capture_record::{Entry, Found};
-use pen::Word;
+use pen::{Pen, Word};
 
 // The lister, and how many octets of the buffer are lines by now.
 #[derive(Clone, Copy)]
@@ -30,6 +34,7 @@ enum BlockAt {
     Whole { stop: usize, end: usize },
 }
 
+#[tactic(auto, using(block::proofs::Ending::end_inside))]
 fn block_at(blocks: &[u8], at: usize) -> BlockAt
     ensures { BlockFound blocks.now at result }
 {
@@ -66,6 +71,20 @@ fn is_heard(entry: Entry, active: bool) -> bool
     }
 }
 
+// The line of a frame that a station heard.
+fn put_verdict(pen: Pen, digits: &mut [u8], verdict: Result<(), Fault>, out: &mut [u8]) -> Pen
+    requires { Ready pen digits.old out.old }
+    ensures { Penned (answer_line (pen.lines + 1) Word.Frame (Response.Frame verdict)) pen out.old result digits.new out.new }
+{
+    match verdict {
+        Ok(()) => pen::put_accepted(pen, digits, Word::Frame, out),
+        Err(fault) => {
+            let number = fault.refusal.number();
+            pen::put_told(pen, digits, Word::Frame, number, fault.offset, out)
+        }
+    }
+}
+
 // The lines of the blocks. The listing stands at a place `at` of a block whose records end at `stop`, and the next block begins at `after`. In place: a
 // lister is long to copy.
 pub fn put_blocks(lister: Lister, blocks: &[u8], out: &mut [u8]) -> Put
@@ -85,14 +104,17 @@ pub fn put_blocks(lister: Lister, blocks: &[u8], out: &mut [u8]) -> Put
     loop {
         let used = &blocks[..stop];
         let rest = parts.apart.rest;
+        let here = Ran {
+            at,
+            clock: rest.clock,
+            pen,
+        };
         let ran = plain::run(
             used,
-            at,
+            here,
             parts.active,
-            rest.clock,
             rest.pending,
             clear,
-            pen,
             &mut digits,
             out,
         );
@@ -136,22 +158,7 @@ pub fn put_blocks(lister: Lister, blocks: &[u8], out: &mut [u8]) -> Put
                 if is_heard(entry, parts.active) {
                     let told = parts.apart.hear(contents, &mut columns);
                     parts.apart = told.apart;
-                    match told.verdict {
-                        Ok(()) => {
-                            pen = pen::put_accepted(pen, &mut digits, Word::Frame, out);
-                        }
-                        Err(fault) => {
-                            let number = fault.refusal.number();
-                            pen = pen::put_told(
-                                pen,
-                                &mut digits,
-                                Word::Frame,
-                                number,
-                                fault.offset,
-                                out,
-                            );
-                        }
-                    }
+                    pen = put_verdict(pen, &mut digits, told.verdict, out);
                     clear = 0;
                     at = end;
                 } else {

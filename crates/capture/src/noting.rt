@@ -34,6 +34,7 @@ pub fn malformed(lister: Lister) -> Answered
 }
 
 // A start, refused or accepted.
+#[tactic(auto, unfolding(crate::specs::Lists::noted), using(crate::proofs::StaysSound::sound_without, crate::proofs::StaysSound::sound_following))]
 fn start(lister: Lister, contents: &[u8]) -> Answered
     ensures result_value { line_for result ≡ noted lister (starting (settings_of contents.now)) }
     ensures follows { Follows lister result.lister }
@@ -72,6 +73,7 @@ fn unstarted(lister: Lister, word: Word) -> Answered
 }
 
 // An advance, refused or accepted.
+#[tactic(auto, using(crate::proofs::Answering::no_advance, crate::proofs::Answering::an_advance, crate::proofs::StaysSound::sound_following))]
 fn advance(lister: Lister, units: u16) -> Answered
     requires { Sound lister }
     ensures result_value { line_for result ≡ noted lister (advancing units) }
@@ -89,6 +91,7 @@ fn advance(lister: Lister, units: u16) -> Answered
 }
 
 // A question.
+#[tactic(auto, using(crate::proofs::Answering::no_ask, crate::proofs::Answering::an_ask))]
 fn ask(lister: Lister, units: u16) -> Answered
     requires { Sound lister }
     ensures result_value { line_for result ≡ noted lister (asking units) }
@@ -105,6 +108,7 @@ fn ask(lister: Lister, units: u16) -> Answered
 }
 
 // Any record, by what it notes, but for the frames that a station hears. A malformed one is 20 with a station or without, and a start needs none.
+#[tactic(auto, unfolding(crate::specs::Lists::noted), using(crate::proofs::Answering::no_frame))]
 pub fn note(lister: Lister, entry: Entry, contents: &[u8]) -> Answered
     requires sound { Sound lister }
     requires active_value { entry ≡ Entry.Frame → lister.active ≡ false }

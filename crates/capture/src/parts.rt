@@ -32,6 +32,7 @@ pub struct Noted {
 }
 
 // Until when it is known to be clear after a record: it is worked out where a question was asked, since more of them may follow.
+#[tactic(auto, using(station::proofs::Clearing::until_clear))]
 fn clear_after(lister: Lister, entry: Entry) -> u64
     requires { Sound lister }
     ensures { lister.active ≡ true → Clear lister.station result }

@@ -52,7 +52,7 @@ fn plain_at(used: &[u8], at: usize, clock: u32, pending: Option<Switch>, clear: 
     }
 }
 
-// Where the first other record stands, the clock there, and the lines by then.
+// A place among the records, the clock there, and the lines by then.
 #[derive(Clone, Copy)]
 pub struct Ran {
     pub at: usize,
@@ -60,46 +60,43 @@ pub struct Ran {
     pub pen: Pen,
 }
 
-// The lines of such records from a place on; where no station is followed there are none.
+// The lines of such records from a place on, up to the first other record; where no station is followed there are none.
 pub fn run(
     used: &[u8],
-    start: usize,
+    from: Ran,
     active: bool,
-    moment: u32,
     pending: Option<Switch>,
     clear: u64,
-    begun: Pen,
     digits: &mut [u8],
     out: &mut [u8],
 ) -> Ran
-    requires spells { Spells begun.lines digits.old begun.from }
-    requires start_in_bounds { start ≤ length used.now }
-    requires start_bound { (begun.lines + lines_left (length used.now - start) ≤ line_limit) × (begun.count + line_room * lines_left (length used.now - start) ≤ length out.old) }
-    ensures { RanFrom used.now start active moment pending clear begun out.old result digits.new out.new }
+    requires spells { Spells from.pen.lines digits.old from.pen.from }
+    requires in_bounds { from.at ≤ length used.now }
+    requires room { (from.pen.lines + lines_left (length used.now - from.at) ≤ line_limit) × (from.pen.count + line_room * lines_left (length used.now - from.at) ≤ length out.old) }
+    ensures { RanFrom used.now from.at active from.clock pending clear from.pen out.old result digits.new out.new }
 {
     if !active {
-        return Ran {
-            at: start,
-            clock: moment,
-            pen: begun,
-        };
+        return from;
     }
-    let mut at = start;
-    let mut clock = moment;
-    let mut pen = begun;
+    let mut ran = from;
     loop {
-        match plain_at(used, at, clock, pending, clear) {
-            Plain::Other => {
-                return Ran { at, clock, pen };
-            }
-            Plain::Goes { clock: later, end } => {
-                pen = pen::put_accepted(pen, digits, Word::Advance, out);
-                clock = later;
-                at = end;
+        match plain_at(used, ran.at, ran.clock, pending, clear) {
+            Plain::Other => return ran,
+            Plain::Goes { clock, end } => {
+                let pen = pen::put_accepted(ran.pen, digits, Word::Advance, out);
+                ran = Ran {
+                    at: end,
+                    clock,
+                    pen,
+                };
             }
             Plain::Granted { end } => {
-                pen = pen::put_accepted(pen, digits, Word::Ask, out);
-                at = end;
+                let pen = pen::put_accepted(ran.pen, digits, Word::Ask, out);
+                ran = Ran {
+                    at: end,
+                    pen,
+                    ..ran
+                };
             }
         }
     }

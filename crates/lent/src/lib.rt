@@ -1,5 +1,5 @@
-// A station that lives at one address (document 02, Eight): "the record is lent and changed there". Both calls are thin over those that take the station by value,
-// which decide everything.
+// A station that lives at one address (document 02, Eight): "the record is lent and changed there". Both calls are thin over those that take the station by
+// value, which decide everything.
 #![tactic(auto)]
 
 ghost use Rattle.std.specs.Prelude.{◌≡◌};

@@ -153,3 +153,6 @@ module _ (own bss : List ℕ) (b : ℕ) (f : List ℕ) where
       by : (x.dfs ≡ None) ⊎ ((told : Told) × (d' : Dfs) × (x.sent.kind ≡ beacon told) × (x.dfs ≡ Some d') × (1 ≤ d'.recovery)) → 1 ≤ d.recovery
       by (inl z) = absurd (let c : None ≡ Some d = sym z ∙ y in let q : ◌≡◌ {A = ℕ} 0 1 = cc in omega arith)
       by (inr (told, d', k, z, some)) = subst (λ (n : ℕ). 1 ≤ n) (same_recovery (sym z ∙ y)) some
+
+-- the two ways out of a frame
+pub ruleset ways = (refused_as, taken_as_lem)

@@ -78,7 +78,9 @@ module _ (m : Member) (n : ℕ) (pos : 1 ≤ m.station.interval) where
   unfolding member_advances
   advanced_as = by_outcome (advance_means s n) refl
 
-  pub advanced_by_lem : (x : ClockStepped.Stepped) (o : Option Owner) → x ≡ Clock.advance_of s n → o ≡ past_tbtts (x.station.clock / b - s.clock / b) m.owner
+  -- by how many TBTTs pass, and what that makes of the owner
+  pub advanced_by_lem : (x : ClockStepped.Stepped) (k : ℕ) (o : Option Owner) → x ≡ Clock.advance_of s n → k ≡ x.station.clock / b - s.clock / b → o ≡ past_tbtts k m.owner
       → record { answer = x.answer; member = member_of x.station o } ≡ advance_of m n
-  advanced_by_lem x o e past =
-      ap (λ (y : Option Owner). record { answer = x.answer; member = member_of x.station y }) past ∙ ap stepped_by e ∙ advanced_as
+  advanced_by_lem x k o e count past =
+      ap (λ (y : Option Owner). record { answer = x.answer; member = member_of x.station y }) (past ∙ ap (λ (i : ℕ). past_tbtts i m.owner) count)
+      ∙ ap stepped_by e ∙ advanced_as

@@ -7,6 +7,7 @@ use crate::Member;
 use answer::Refusal;
 
 // The answer, and the station after the call: the same as before where the call was refused.
+// Kept beside one another: a refused call gives the station back, and `advance_of` promises which. The field says whose state it is.
 #[derive(Clone, Copy)]
 pub struct Stepped {
     pub answer: Result<(), Refusal>,
@@ -24,6 +25,7 @@ fn tbtts_between(moment: u32, later: u32, interval: u16) -> u32
 
 impl Member {
     // A refused advance leaves the clock where it is, so that no TBTT passes.
+    #[tactic(auto, using(crate::proofs::Passing::clock_on))]
     pub fn advance(self, units: u32) -> Stepped
         requires { ValidMember self }
         ensures value { result ≡ advance_of self units }

@@ -2,7 +2,7 @@
 use Rattle.std.specs.Prelude.{Ok, Err}
 use mathlib.Core.Bool.{true}
 use mathlib.Core.List.{List, [], ◌∷◌, ◌++◌, append-nil}
-use mathlib.Core.Path.{◌≡◌, refl, ap, ◌∙◌}
+use mathlib.Core.Path.{◌≡◌, sym, ap, ◌∙◌}
 use Prim.Native.Nat.{ℕ, ◌+◌, ◌-◌, ◌<◌, ◌≤◌}
 use native.Mathlib.Omega.{arith}
 use borrow.Rule.Slice.PartMut.{put_mid}
@@ -11,9 +11,9 @@ use Rattle.answer.specs.declared.Refusal.{Refusal}
 use Rattle.header.specs.Headers.{header_length}
 use Rattle.octets.specs.Numbers.{octet}
 use Rattle.octets.specs.Writing.{left, Written}
-use Rattle.octets.proofs.Copied.{front_copied, part_copied}
+use Rattle.octets.proofs.Copied.{front_over, first_put, next_copied, all_put}
 use Rattle.octets.proofs.JoinSplit.{all_from}
-use Rattle.octets.proofs.Storing.{front_left, short_written, all_written}
+use Rattle.octets.proofs.Storing.{front_left, short_written}
 use Rattle.reply.specs.Frames.{head_to, frame_to}
 
 -- ---- an address is its six octets
@@ -37,9 +37,10 @@ module _ (own to bss body buffer : List ℕ) (o : length own ≡ 6) (t : length 
       → Written true (frame_to own to bss body) 0 buffer (Ok (header_length + length body))
       (put_mid header_length (header_length + length body - header_length) (head ++ drop header_length buffer) part)
   copied e f fits =
-      let front = front_copied header_length buffer e (head_length_lem own to bss o t b) (omega (arith, fits)) in
-      let whole = part_copied front (length body) f refl (let k : header_length + length body - header_length ≡ length body = omega arith in k) fits in
-      all_written whole.lies (header_length + length body) whole.size
+      let long = head_length_lem own to bss o t b in
+      let front = first_put 0 (head_to own to bss) buffer (omega (arith, fits, long)) (front_over header_length buffer e (sym long)) in
+      let whole = next_copied front header_length (omega (arith, long)) body (omega (arith, fits, long)) f (omega arith) in
+      all_put whole (header_length + length body) (sym frame_length)
 
 -- ---- a body that is built in a buffer of its own
 

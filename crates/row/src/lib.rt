@@ -19,7 +19,8 @@ pub use ticking::{tick, tick_all};
 // How many rows a table has.
 pub const ROWS: usize = 16;
 
-// Where it is free, `station` is one fixed station that no call may be handed.
+// Where it is free, `station` is one fixed station that no call may be handed. Kept as a flag beside it: the edit `old_schedules_kept`, which must
+// fail, needs a station in a row that is free.
 #[derive(Clone, Copy)]
 pub struct Row {
     pub joined: bool,

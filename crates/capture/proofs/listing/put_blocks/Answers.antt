@@ -31,7 +31,6 @@ use Rattle.capture.proofs.Plainly.{may_put_lem}
 use Rattle.capture.proofs.Together.{is_frame, no_hearer, heard_parts, answered, frame_says, frame_follows, frame_same, frame_few}
 use Rattle.capture.proofs.listing.put_blocks.Goals as goal
 use Rattle.capture.proofs.listing.put_blocks.Goals.{After-run-ran, After-entry_of-entry}
-use Rattle.answer.specs.Faults.{Verdict}
 
 -- ---- before the first block
 
@@ -241,36 +240,15 @@ hear-told-requires c =
     let f = frame c.is_heard.ensures c.if-is_heard.true in
     (standing r).sound.followed f.1
 
-pub loop-columns-preserved-in-Ok : goal.loop-columns-preserved-in-Ok
-loop-columns-preserved-in-Ok c =
-    let r = (goal.at.loop-columns-preserved-in-Ok c).After-run-ran in
-    let n = notes (goal.at.loop-columns-preserved-in-Ok c).After-entry_of-entry in
+pub loop-columns-preserved-then-is_heard : goal.loop-columns-preserved-then-is_heard
+loop-columns-preserved-then-is_heard c =
+    let r = (goal.at.loop-columns-preserved-then-is_heard c).After-run-ran in
+    let n = notes (goal.at.loop-columns-preserved-then-is_heard c).After-entry_of-entry in
     let f = frame c.is_heard.ensures c.if-is_heard.true in
-    let k = c.run-ran.result.pen.lines + 1 in
     record {
       standing =
           heard-standing (parts_in r) (columns_in r) (fits₀ r) (limit r) (big r) (standing r)
-          (frame-notes f.0 n) f.1 c.hear-told.ensures
-          (penned_as
-          (ap (λ (v : Verdict). answer_line k Word.Frame (Response.Frame v)) (sym c.in-Ok.is))
-          c.put_accepted-pen.ensures.penned);
-      few = frame_few (parts_in r) (columns_in r) f.1 _ _ _ c.hear-told.ensures;
-    }
-
-pub loop-columns-preserved-in-Err : goal.loop-columns-preserved-in-Err
-loop-columns-preserved-in-Err c =
-    let r = (goal.at.loop-columns-preserved-in-Err c).After-run-ran in
-    let n = notes (goal.at.loop-columns-preserved-in-Err c).After-entry_of-entry in
-    let f = frame c.is_heard.ensures c.if-is_heard.true in
-    let k = c.run-ran.result.pen.lines + 1 in
-    record {
-      standing =
-          heard-standing (parts_in r) (columns_in r) (fits₀ r) (limit r) (big r) (standing r)
-          (frame-notes f.0 n) f.1 c.hear-told.ensures
-          (penned_as
-          (ap (λ (m : ℕ). line_of k Word.Frame m c.in-Err.fault.offset) c.number-number-in-Err.ensures
-          ∙ ap (λ (v : Verdict). answer_line k Word.Frame (Response.Frame v)) (sym c.in-Err.is))
-          c.put_told-pen-in-Err.ensures.penned);
+          (frame-notes f.0 n) f.1 c.hear-told.ensures c.put_verdict-pen.ensures;
       few = frame_few (parts_in r) (columns_in r) f.1 _ _ _ c.hear-told.ensures;
     }
 
