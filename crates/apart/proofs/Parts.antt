@@ -12,10 +12,6 @@ use Rattle.answer.proofs.Booleans.{either}
 use Rattle.answer.specs.Checks.{pick}
 use Rattle.beacon.specs.Beacons.{quiet_limit}
 use Rattle.element.specs.declared.quiet.Quiet.{Quiet}
-use Rattle.frame.specs.Frames.{frame_means}
-use Rattle.frame.specs.Hearing.{hearing_of}
-use Rattle.frame.specs.Laid.{frame_laid}
-use Rattle.frame.specs.declared.hearing.Hearing.{Hearing}
 use Rattle.schedule.specs.declared.Schedule.{Schedule}
 use Rattle.station.proofs.InUse.{in_use_slotted}
 use Rattle.station.specs.Rests.{at_once, rest_constrained, rest_announced}
@@ -25,7 +21,8 @@ use Rattle.station.specs.Validity.{Valid}
 use Rattle.station.specs.declared.Station.{Station}
 use Rattle.station.specs.declared.changing.Rest.{Rest}
 use Rattle.apart.specs.Apart.{apart_of, whole_of, HoldsSchedules}
-use Rattle.apart.specs.Columns.{Columns, schedules_in}
+use Rattle.apart.specs.Columns.{schedules_in}
+use Rattle.apart.specs.declared.columns.Columns.{Columns}
 use Rattle.apart.specs.declared.Apart.{Apart}
 use Rattle.apart.proofs.Rows.{rows_many}
 use Rattle.element.specs.declared.power_constraint.PowerConstraint.{PowerConstraint}
@@ -41,7 +38,7 @@ rest_until r e = record { interval = r.interval; clock = r.clock; channel = r.ch
 
 pub put_back : (s : Station) (c : Columns) → HoldsSchedules s c → s.count ≤ quiet_limit → slotted (in_use s) ≡ s.schedules → whole_of (apart_of s) c ≡ s
 unfolding whole_of
-put_back s c h few e = rw (h.rows s.count few) (rw e refl)
+put_back s c h few e = rw (h s.count few) (rw e refl)
 
 pub put_back_valid : (s : Station) (c : Columns) → HoldsSchedules s c → Valid s → whole_of (apart_of s) c ≡ s
 put_back_valid s c h v = put_back s c h v.few (in_use_slotted s v)
@@ -103,11 +100,3 @@ module _ (a : Apart) (c : Columns) (v : Valid (whole_of a c)) where
   pub some_interval : 1 ≤ a.rest.interval
   unfolding whole_of
   some_interval = v.interval_positive
-
--- ---- a frame is heard by the settings of the whole
-
-pub by_settings : (a : Apart) (c : Columns) (f : List ℕ) (h : Hearing) → h ≡ hearing_of (frame_laid (frame_means a.own a.ap a.rest.interval f))
-    → let s = whole_of a c in
-    h ≡ hearing_of (frame_laid (frame_means s.own s.ap s.interval f))
-unfolding whole_of
-by_settings a c f h e = e

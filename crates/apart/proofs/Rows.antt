@@ -18,7 +18,14 @@ use Rattle.schedule.specs.declared.Schedule.{Schedule}
 use Rattle.station.proofs.OneWay.{latest_append}
 use Rattle.station.specs.Stations.{no_schedule}
 use Rattle.station.specs.Taking.{schedules_of, later, latest_end}
-use Rattle.apart.specs.Columns.{Columns, Roomy, schedule_at, schedules_in, with_row, rows_over}
+use Rattle.apart.specs.Columns.{schedule_at, schedules_in, with_row, rows_over}
+use Rattle.apart.specs.declared.columns.Columns.{Columns}
+
+-- every slot of a station has its row
+pub record Roomy (c : Columns) : Type 0 where
+  pub starts : length c.starts ≡ quiet_limit
+  pub periods : length c.periods ≡ quiet_limit
+  pub durations : length c.durations ≡ quiet_limit
 
 pub rows_many : (n : ℕ) (c : Columns) → length (schedules_in n c) ≡ n
 unfolding schedules_in

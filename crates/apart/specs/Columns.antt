@@ -1,21 +1,10 @@
 -- Quiet schedules in three columns of numbers: where they start, their periods, how long they last. A row is a schedule.
-use Rattle.std.specs.Prelude.{List, [], ◌∷◌, ◌++◌, map, ◌≡◌, ℕ, zero, suc, length, drop, get_or, set}
-use Rattle.beacon.specs.Beacons.{quiet_limit}
+use Rattle.std.specs.Prelude.{List, [], ◌∷◌, ◌++◌, map, ℕ, zero, suc, length, drop, get_or, set}
 use Rattle.schedule.specs.declared.Schedule.{Schedule}
-
-pub record Columns : Type 0 where
-  pub starts : List ℕ
-  pub periods : List ℕ
-  pub durations : List ℕ
+use Rattle.apart.specs.declared.columns.Columns.{Columns}
 
 abbrev pub columns : List ℕ → List ℕ → List ℕ → Columns
 columns ss ps ds = record { starts = ss; periods = ps; durations = ds }
-
--- every slot of a station has its row
-pub record Roomy (c : Columns) : Type 0 where
-  pub starts : length c.starts ≡ quiet_limit
-  pub periods : length c.periods ≡ quiet_limit
-  pub durations : length c.durations ≡ quiet_limit
 
 abbrev pub schedule_at : Columns → ℕ → Schedule
 schedule_at c i = record { start = get_or c.starts i 0; period = get_or c.periods i 0; duration = get_or c.durations i 0 }

@@ -1,10 +1,7 @@
 pub mod Coded
+pub mod FieldByField
 pub mod FieldLengths
-pub mod IbssParts
-pub mod OnStations
 pub mod OneOutcome
 pub mod Passes
 pub mod QuietsByIndex
 pub mod SignedAnswers
-pub mod Unlaid
-pub mod Wholes

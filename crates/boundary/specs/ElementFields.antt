@@ -36,7 +36,7 @@ asked_by (Asks.Matter.Measure span) = record { asks = 1; request = 0; report = 0
 asked_by Asks.Matter.Uninterpreted = record { asks = 2; request = 0; report = 0; span = no_span }
 
 -- token, type, what is asked, Request, Report; channel, start (8), duration (2)
-abbrev pub request_fields : Request → List ℕ
+unfoldable pub request_fields : Request → List ℕ
 request_fields q =
     let a = asked_by q.matter in
     (q.token ∷ q.kind ∷ a.asks ∷ a.request ∷ a.report ∷ []) ++ span_octets a.span
@@ -64,7 +64,7 @@ said_by (Says.Matter.Measured span f) = record { says = found_number f; value = 
 said_by Says.Matter.Uninterpreted = record { says = 6; value = 0; span = no_span }
 
 -- token, type, what is said, the map or the busy fraction; channel, start (8), duration (2); densities (8)
-abbrev pub report_fields : Report → List ℕ
+unfoldable pub report_fields : Report → List ℕ
 report_fields q =
     let s = said_by q.matter in
     (q.token ∷ q.kind ∷ s.says ∷ s.value ∷ []) ++ span_octets s.span ++ q.densities

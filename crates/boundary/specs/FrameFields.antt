@@ -45,7 +45,7 @@ held_switch (Some s) = 1 ∷ switch_contents s
 
 -- kind, to all ones, token; measurement elements (8), Quiet elements (8), timestamp (8), capability (2); constraint (2), TPC Report (3),
 -- announcement (4)
-abbrev pub field_octets : Fields → Bool → ℕ → List ℕ
+unfoldable pub field_octets : Fields → Bool → ℕ → List ℕ
 field_octets f to_all quiets =
     (f.kind ∷ flag to_all ∷ f.token ∷ [])
     ++ split 8 f.elements ++ split 8 quiets ++ split 8 f.notice.timestamp ++ split 2 f.notice.capability
@@ -56,5 +56,5 @@ abbrev pub received_octets : Received → List ℕ
 received_octets v = field_octets (fields_of v.frame) v.broadcast v.count
 
 -- of what was received, or its refusal
-unfoldable pub frame_fields : Placed Received → Outcome (List ℕ)
+abbrev pub frame_fields : Placed Received → Outcome (List ℕ)
 frame_fields o = and_then (without_place o) (λ v. Ok (received_octets v))

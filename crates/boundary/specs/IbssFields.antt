@@ -21,7 +21,7 @@ abbrev pub with_sender : ReceivedInIbss → List ℕ → List ℕ
 with_sender h os = os ++ h.sender ++ held_dfs h.dfs
 
 -- of what was received, or its refusal
-unfoldable pub ibss_fields : ReceivedInIbss → Outcome (List ℕ)
+abbrev pub ibss_fields : ReceivedInIbss → Outcome (List ℕ)
 ibss_fields h = and_then (frame_fields h.received) (λ os. Ok (with_sender h os))
 
 -- ---- a Quiet element by its index, of what 01 reads of the frame

@@ -1,11 +1,9 @@
 // An element of a frame as its fields, each at its place (docs/BOUNDARY.md). What it has not got is 0.
-ghost use Rattle.std.specs.Prelude.{true, ◌≡◌};
+ghost use Rattle.std.specs.Prelude.{◌≡◌};
 ghost use Rattle.element.specs.Quiet.{quiet_contents};
-ghost use Rattle.octets.specs.Writing.{Written};
 ghost use Rattle.boundary.specs.ElementFields.{pair_fields, asked_by, request_fields, reason_number, found_number, found_value, said_by, report_fields};
 
 use crate::frame_fields;
-use answer::Refusal;
 use element::ibss_dfs::ChannelMap;
 use element::quiet::Quiet;
 use measurement_element::measurement_report::{Reason, Report};
@@ -15,37 +13,35 @@ use measurement_element::{Found, Span, measurement_report, measurement_request};
 // Where the span of a request stands, and that of a report with its densities, and how many octets the fields of each are.
 const REQUEST_SPAN: usize = 5;
 
-const REQUEST: usize = 16;
+pub const REQUEST: usize = 16;
 
 const REPORT_SPAN: usize = 4;
 
 const DENSITIES: usize = 15;
 
-const REPORT: usize = 23;
+pub const REPORT: usize = 23;
 
 // A Quiet element as in its contents: count, period, duration, offset.
-pub fn put_quiet(quiet: Quiet, out: &mut [u8]) -> Result<usize, Refusal>
-    ensures { Written true (quiet_contents quiet) 0 out.old result out.new }
+pub fn of_quiet(quiet: Quiet) -> [u8; 6]
+    ensures { result ≡ quiet_contents quiet }
 {
     let duration = octets::octets16(quiet.duration);
     let offset = octets::octets16(quiet.offset);
-    let fields = [
+    [
         quiet.count,
         quiet.period,
         duration[0],
         duration[1],
         offset[0],
         offset[1],
-    ];
-    octets::put(true, &fields, out, 0)
+    ]
 }
 
 // A pair of element 41.
-pub fn put_pair(pair: ChannelMap, out: &mut [u8]) -> Result<usize, Refusal>
-    ensures { Written true (pair_fields pair) 0 out.old result out.new }
+pub fn of_pair(pair: ChannelMap) -> [u8; 2]
+    ensures { result ≡ pair_fields pair }
 {
-    let fields = [pair.channel, pair.map];
-    octets::put(true, &fields, out, 0)
+    [pair.channel, pair.map]
 }
 
 // What is asked, by the numbers that a writer takes.
@@ -82,15 +78,10 @@ fn asked_by(matter: measurement_request::Matter) -> Asked
     }
 }
 
-// Refuses a buffer that is too short before anything is put.
-pub fn put_request(request: Request, out: &mut [u8]) -> Result<usize, Refusal>
-    ensures { Written true (request_fields request) 0 out.old result out.new }
+pub fn of_request(request: Request) -> [u8; REQUEST]
+    ensures { result ≡ request_fields request }
 {
-    if out.len() < REQUEST {
-        return Err(Refusal::BufferShort);
-    }
-    let matter = request.matter;
-    let asked = asked_by(matter);
+    let asked = asked_by(request.matter);
     let front = [
         request.token,
         request.kind,
@@ -98,10 +89,10 @@ pub fn put_request(request: Request, out: &mut [u8]) -> Result<usize, Refusal>
         asked.request,
         asked.report,
     ];
-    octets::put(true, &front, out, 0);
-    let span = asked.span.to_octets();
-    octets::put(true, &span, out, REQUEST_SPAN);
-    Ok(REQUEST)
+    let mut fields = [0; REQUEST];
+    fields[..REQUEST_SPAN].copy_from_slice(&front);
+    fields[REQUEST_SPAN..].copy_from_slice(&asked.span.to_octets());
+    fields
 }
 
 // What is said, by the numbers that a writer takes; the value is the map or the busy fraction.
@@ -164,20 +155,13 @@ fn said_by(matter: measurement_report::Matter) -> Said
     }
 }
 
-// Refuses a buffer that is too short before anything is put.
-pub fn put_report(report: Report, out: &mut [u8]) -> Result<usize, Refusal>
-    ensures { Written true (report_fields report) 0 out.old result out.new }
+pub fn of_report(report: Report) -> [u8; REPORT]
+    ensures { result ≡ report_fields report }
 {
-    if out.len() < REPORT {
-        return Err(Refusal::BufferShort);
-    }
-    let matter = report.matter;
-    let said = said_by(matter);
-    let front = [report.token, report.kind, said.says, said.value];
-    octets::put(true, &front, out, 0);
-    let span = said.span.to_octets();
-    octets::put(true, &span, out, REPORT_SPAN);
-    let densities = report.densities;
-    octets::put(true, &densities, out, DENSITIES);
-    Ok(REPORT)
+    let said = said_by(report.matter);
+    let mut fields = [0; REPORT];
+    fields[..REPORT_SPAN].copy_from_slice(&[report.token, report.kind, said.says, said.value]);
+    fields[REPORT_SPAN..DENSITIES].copy_from_slice(&said.span.to_octets());
+    fields[DENSITIES..].copy_from_slice(&report.densities);
+    fields
 }

@@ -1,17 +1,13 @@
 // A frame as its fields, each at its place (docs/BOUNDARY.md). What a kind has not got is 0.
-ghost use Rattle.std.specs.Prelude.{true, ◌≡◌};
-ghost use Rattle.octets.specs.Writing.{Written};
-ghost use Rattle.boundary.specs.FrameFields.{flag, fields, fields_of, held_report, held_switch, field_octets};
+ghost use Rattle.std.specs.Prelude.{◌≡◌};
+ghost use Rattle.boundary.specs.FrameFields.{flag, fields, fields_of, held_report, held_switch, received_octets};
 
-use answer::Refusal;
 use beacon::Notice;
-use frame::Frame;
-use element::tpc_report::TpcReport;
 use element::channel_switch::ChannelSwitch;
+use element::tpc_report::TpcReport;
+use frame::{Frame, Received};
 
-// Where each field stands, and how many octets they are. The kind is followed by whether the frame went to all ones and by the dialog token.
-const KIND: usize = 0;
-
+// Where the fields stand after the first three, which are the kind, whether the frame went to all ones and the dialog token; and how many octets they all are.
 const ELEMENTS: usize = 3;
 
 const QUIETS: usize = 11;
@@ -26,7 +22,7 @@ const REPORT: usize = 31;
 
 const SWITCH: usize = 34;
 
-const LENGTH: usize = 38;
+pub const LENGTH: usize = 38;
 
 // What the seven kinds have in common: the kind's number, its token, how many measurement elements it has, and what it says of a notice's fields.
 #[derive(Clone, Copy)]
@@ -84,9 +80,11 @@ fn held_report(report: Option<TpcReport>) -> [u8; 3]
 {
     match report {
         None => [0, 0, 0],
-        Some(told) => {
-            [1, octets::from_signed(told.power), octets::from_signed(told.margin)]
-        }
+        Some(told) => [
+            1,
+            octets::from_signed(told.power),
+            octets::from_signed(told.margin),
+        ],
     }
 }
 
@@ -111,21 +109,20 @@ pub fn flag(answer: bool) -> u8
     u8::from(answer)
 }
 
-// Refuses a buffer that is too short before anything is put.
-pub fn put(fields: Fields, broadcast: bool, quiets: u64, out: &mut [u8]) -> Result<usize, Refusal>
-    ensures { Written true (field_octets fields broadcast quiets) 0 out.old result out.new }
+// The fields of what was received.
+pub fn of_received(received: Received) -> [u8; LENGTH]
+    ensures { result ≡ received_octets received }
 {
-    if out.len() < LENGTH {
-        return Err(Refusal::BufferShort);
-    }
-    let notice = fields.notice;
-    out[KIND..ELEMENTS].copy_from_slice(&[fields.kind, flag(broadcast), fields.token]);
-    out[ELEMENTS..QUIETS].copy_from_slice(&octets::octets64(fields.elements));
-    out[QUIETS..TIMESTAMP].copy_from_slice(&octets::octets64(quiets));
-    out[TIMESTAMP..CAPABILITY].copy_from_slice(&octets::octets64(notice.timestamp));
-    out[CAPABILITY..POWER].copy_from_slice(&octets::octets16(notice.capability));
-    out[POWER..REPORT].copy_from_slice(&beacon::held_power(notice.power));
-    out[REPORT..SWITCH].copy_from_slice(&held_report(notice.report));
-    out[SWITCH..LENGTH].copy_from_slice(&held_switch(notice.switch));
-    Ok(LENGTH)
+    let common = of_frame(received.frame);
+    let notice = common.notice;
+    let mut fields = [0; LENGTH];
+    fields[..ELEMENTS].copy_from_slice(&[common.kind, flag(received.broadcast), common.token]);
+    fields[ELEMENTS..QUIETS].copy_from_slice(&octets::octets64(common.elements));
+    fields[QUIETS..TIMESTAMP].copy_from_slice(&octets::octets64(received.count as u64));
+    fields[TIMESTAMP..CAPABILITY].copy_from_slice(&octets::octets64(notice.timestamp));
+    fields[CAPABILITY..POWER].copy_from_slice(&octets::octets16(notice.capability));
+    fields[POWER..REPORT].copy_from_slice(&beacon::held_power(notice.power));
+    fields[REPORT..SWITCH].copy_from_slice(&held_report(notice.report));
+    fields[SWITCH..].copy_from_slice(&held_switch(notice.switch));
+    fields
 }

@@ -1,6 +1,5 @@
 // The records of a TPC Report and of the measurement elements, as a caller gives them by numbers.
 ghost use Rattle.std.specs.Prelude.{◌≡◌};
-ghost use Rattle.measurement_element.specs.declared.measurement_report.Matter.{Matter};
 ghost use Rattle.boundary.specs.Given.{tpc_given, asks_given, says_given, request_given, report_given};
 
 use element::tpc_report::TpcReport;
@@ -19,16 +18,15 @@ pub fn tpc(power: u8, margin: u8) -> TpcReport
 }
 
 // 0 an Enable element, 1 a measurement; every other number stands for what is not interpreted, which no writer takes.
+#[tactic(auto, unfolding(crate::specs::Given::asks_given))]
 fn asks(number: u8, request: bool, report: bool, span: Span) -> measurement_request::Matter
     ensures { result ≡ asks_given number request report span }
 {
-    if number == 0 {
-        return measurement_request::Matter::Enable { request, report };
+    match number {
+        0 => measurement_request::Matter::Enable { request, report },
+        1 => measurement_request::Matter::Measure(span),
+        _ => measurement_request::Matter::Uninterpreted,
     }
-    if number == 1 {
-        return measurement_request::Matter::Measure(span);
-    }
-    measurement_request::Matter::Uninterpreted
 }
 
 pub fn request(
@@ -48,16 +46,16 @@ pub fn request(
         start,
         duration,
     };
-    let matter = asks(number, request, report, span);
     Request {
         token,
         kind,
-        matter,
+        matter: asks(number, request, report, span),
     }
 }
 
 // 0 Late, 1 Incapable, 2 Refused, 3 a basic report, 4 a CCA report, 5 an RPI histogram; every other number stands for what is not interpreted,
 // which no writer takes. The value is the map or the busy fraction.
+#[tactic(auto, unfolding(crate::specs::Given::says_given))]
 fn says(number: u8, value: u8, span: Span) -> Matter
     ensures { result ≡ says_given number value span }
 {
@@ -65,17 +63,20 @@ fn says(number: u8, value: u8, span: Span) -> Matter
         0 => Matter::NotMeasured(Reason::Late),
         1 => Matter::NotMeasured(Reason::Incapable),
         2 => Matter::NotMeasured(Reason::Refused),
-        3 => measured(span, Found::Map(value)),
-        4 => measured(span, Found::Busy(value)),
-        5 => measured(span, Found::Densities),
+        3 => Matter::Measured {
+            span,
+            found: Found::Map(value),
+        },
+        4 => Matter::Measured {
+            span,
+            found: Found::Busy(value),
+        },
+        5 => Matter::Measured {
+            span,
+            found: Found::Densities,
+        },
         _ => Matter::Uninterpreted,
     }
-}
-
-fn measured(span: Span, found: Found) -> Matter
-    ensures { result ≡ Matter.Measured span found }
-{
-    Matter::Measured { span, found }
 }
 
 // The densities are eight octets, the first of them the least significant.
@@ -96,12 +97,10 @@ pub fn report(
         start,
         duration,
     };
-    let matter = says(number, value, span);
-    let densities = octets::octets64(densities);
     Report {
         token,
         kind,
-        matter,
-        densities,
+        matter: says(number, value, span),
+        densities: octets::octets64(densities),
     }
 }

@@ -24,7 +24,13 @@ pub extern "C" fn oneiralth_read_ibss_frame(
     let own = codes::address(own);
     let bssid = codes::address(bssid);
     let heard = frame::read_in_ibss(frame, own, bssid, interval);
-    codes::wrote(ibss_fields::put(heard, out))
+    match heard.received {
+        Err(fault) => codes::refused(fault.refusal),
+        Ok(received) => codes::given(
+            &ibss_fields::of_accepted(received, heard.sender, heard.dfs),
+            out,
+        ),
+    }
 }
 
 // Where a frame that is refused broke, as `oneiralth_fault_offset`.
@@ -78,6 +84,6 @@ pub extern "C" fn oneiralth_read_dfs_pair(
     let bssid = codes::address(bssid);
     match frame::dfs_pair_at(frame, own, bssid, interval, index) {
         Err(refusal) => codes::refused(refusal),
-        Ok(pair) => codes::wrote(element_fields::put_pair(pair, out)),
+        Ok(pair) => codes::given(&element_fields::of_pair(pair), out),
     }
 }

@@ -44,6 +44,6 @@ pub extern "C" fn oneiralth_rpi_densities(
 {
     match fraction::rpi_densities([t0, t1, t2, t3, t4, t5, t6, t7], duration) {
         Err(refusal) => codes::refused(refusal),
-        Ok(densities) => codes::wrote(octets::put(true, &densities, out, 0)),
+        Ok(densities) => codes::given(&densities, out),
     }
 }

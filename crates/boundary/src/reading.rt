@@ -9,7 +9,7 @@ ghost use Rattle.boundary.specs.ElementFields.{quiet_of, request_fields, report_
 ghost use Rattle.boundary.specs.FaultOffsets.{fault_offset};
 ghost use Rattle.boundary.specs.FrameFields.{frame_fields};
 
-use crate::{codes, element_fields, received};
+use crate::{codes, element_fields, frame_fields, received};
 
 #[unsafe(no_mangle)]
 pub extern "C" fn oneiralth_read_frame(
@@ -23,7 +23,7 @@ pub extern "C" fn oneiralth_read_frame(
 {
     match frame::read(frame, codes::address(own), codes::address(ap), interval) {
         Err(fault) => codes::refused(fault.refusal),
-        Ok(received) => codes::wrote(received::put_frame(received, out)),
+        Ok(received) => codes::given(&frame_fields::of_received(received), out),
     }
 }
 
@@ -32,12 +32,7 @@ pub extern "C" fn oneiralth_read_frame(
 pub extern "C" fn oneiralth_fault_offset(frame: &[u8], own: u64, ap: u64, interval: u16) -> u64
     ensures { result ≡ code_of (fault_offset (frame_means (address_of own) (address_of ap) interval frame.now)) }
 {
-    received::fault_offset(frame::read(
-        frame,
-        codes::address(own),
-        codes::address(ap),
-        interval,
-    ))
+    received::fault_offset(frame::read(frame, codes::address(own), codes::address(ap), interval))
 }
 
 // A Quiet element by its index, as the measurement elements are.
@@ -73,7 +68,7 @@ pub extern "C" fn oneiralth_read_request(
     let ap = codes::address(ap);
     match frame::request_at(frame, own, ap, interval, index) {
         Err(refusal) => codes::refused(refusal),
-        Ok(request) => codes::wrote(element_fields::put_request(request, out)),
+        Ok(request) => codes::given(&element_fields::of_request(request), out),
     }
 }
 
@@ -92,6 +87,6 @@ pub extern "C" fn oneiralth_read_report(
     let ap = codes::address(ap);
     match frame::report_at(frame, own, ap, interval, index) {
         Err(refusal) => codes::refused(refusal),
-        Ok(report) => codes::wrote(element_fields::put_report(report, out)),
+        Ok(report) => codes::given(&element_fields::of_report(report), out),
     }
 }

@@ -1,27 +1,16 @@
 // What the two readers of frames, document 01's and that of an IBSS, hand out alike, as their callers get it.
-ghost use Rattle.std.specs.Prelude.{true, ◌≡◌, ◌≤◌, Ok};
+ghost use Rattle.std.specs.Prelude.{◌≡◌, ◌≤◌, Ok};
 ghost use Rattle.answer.specs.Checks.{and_then};
 ghost use Rattle.beacon.specs.Beacons.{quiet_limit};
 ghost use Rattle.element.specs.Quiet.{quiet_contents};
-ghost use Rattle.octets.specs.Writing.{Written};
 ghost use Rattle.reply.specs.Replies.{Replied};
 ghost use Rattle.boundary.specs.CodeTerms.HeldQuiets.{held_quiet};
 ghost use Rattle.boundary.specs.Codes.{code_of};
 ghost use Rattle.boundary.specs.FaultOffsets.{fault_offset};
-ghost use Rattle.boundary.specs.FrameFields.{received_octets};
 
-use crate::{codes, element_fields, frame_fields};
-use answer::Refusal;
+use crate::{codes, element_fields};
+use answer::{Fault, Refusal};
 use frame::Received;
-use answer::Fault;
-
-// A frame's fields from the front of the buffer on.
-pub fn put_frame(received: Received, out: &mut [u8]) -> Result<usize, Refusal>
-    ensures { Written true (received_octets received) 0 out.old result out.new }
-{
-    let fields = frame_fields::of_frame(received.frame);
-    frame_fields::put(fields, received.broadcast, received.count as u64, out)
-}
 
 // The offset of the octet at fault. A refusal that has none is answered again, and an accepted frame is 16.
 pub fn fault_offset(received: Result<Received, Fault>) -> u64
@@ -44,5 +33,10 @@ pub fn put_quiet(received: Received, index: usize, out: &mut [u8]) -> Result<usi
     if received.count <= index {
         return Err(Refusal::Impossible);
     }
-    element_fields::put_quiet(received.quiets[index], out)
+    octets::put(
+        true,
+        &element_fields::of_quiet(received.quiets[index]),
+        out,
+        0,
+    )
 }

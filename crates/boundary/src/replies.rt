@@ -26,19 +26,16 @@ pub extern "C" fn oneiralth_reply_to_tpc_request(
 }
 
 // 0 the caller refuses, 1 a map, 2 a busy time; every other number stands for the eight times.
+#[tactic(auto, unfolding(crate::specs::Findings::finding_given))]
 pub fn finding(number: u8, value: u32) -> Finding
     ensures { result ≡ finding_given number value }
 {
-    if number == 0 {
-        return Finding::Refused;
+    match number {
+        0 => Finding::Refused,
+        1 => Finding::Map((value % 256) as u8),
+        2 => Finding::Busy(value),
+        _ => Finding::Times,
     }
-    if number == 1 {
-        return Finding::Map((value % 256) as u8);
-    }
-    if number == 2 {
-        return Finding::Busy(value);
-    }
-    Finding::Times
 }
 
 #[unsafe(no_mangle)]

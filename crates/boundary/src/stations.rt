@@ -111,13 +111,7 @@ pub extern "C" fn oneiralth_station_reply_to_measurement_request(
                 times: [t0, t1, t2, t3, t4, t5, t6, t7],
             };
             codes::wrote(reply::to_measurement_request(
-                frame,
-                held.own,
-                held.ap,
-                held.clock,
-                index,
-                readings,
-                out,
+                frame, held.own, held.ap, held.clock, index, readings, out,
             ))
         }
     }

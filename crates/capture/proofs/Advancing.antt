@@ -23,8 +23,8 @@ module _ (l : Lister) (e : l.active ≡ true) (v : Valid l.station) (n : ℕ) wh
   as_followed : (s : Station) → with_station l l.active s ≡ following l s
   as_followed s = ap (λ (b : Bool). with_station l b s) e
 
-  module _ (t : ℕ) (k : clock_advance l.station.clock l.station.pending n ≡ Advanced.Goes t) where
+  module _ (t : ℕ) (k : clock_advance l.station.clock l.station.pending n ≡ Ok (Advanced.Goes t)) where
     pub clock_line : line (clocked_at l t) Word.Advance (Response.Call (Ok tt)) ≡ noted l (advancing n)
     clock_line =
         ap (λ (x : Lister). line x Word.Advance (Response.Call (Ok tt))) (as_followed (with_clock l.station t))
-        ∙ ap (stepped l) (advanced l.station n (Advanced.Goes t) k v).0 ∙ an_advance l e n
+        ∙ ap (stepped l) (advanced l.station n (Ok (Advanced.Goes t)) k v).0 ∙ an_advance l e n

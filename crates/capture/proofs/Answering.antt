@@ -1,18 +1,14 @@
 -- What the list says of a record, with a station and without one. Assumes nothing.
-use mathlib.Core.Bool.{Bool, true, false, not}
+use mathlib.Core.Bool.{Bool, true, false}
 use mathlib.Core.List.{List}
 use mathlib.Core.Path.{◌≡◌, sym, ap}
 use Prim.Native.Nat.{ℕ}
-use borrow.Author.Tests.{not-true}
-use Rattle.answer.proofs.Booleans.{clash}
 use Rattle.answer.specs.Checks.{pick}
-use Rattle.capture_record.specs.Entries.{advancing, hearing, asking, entry_told}
-use Rattle.capture_record.specs.declared.entry.Entry.{Entry}
+use Rattle.capture_record.specs.Entries.{advancing, hearing, asking}
 use Rattle.pen.specs.declared.words.Word.{Word}
 use Rattle.station.specs.Asking.{permission_of}
 use Rattle.station.specs.Clock.{advance_of}
 use Rattle.station.specs.Taking.{take_of}
-use Rattle.capture.specs.CodeTerms.Noting.{lacks_station, word_for}
 use Rattle.capture.specs.Lists.{line, stepped, taken, no_station, noted}
 use Rattle.capture.specs.declared.lister.Lister.{Lister}
 use Rattle.capture.specs.declared.response.Response.{Response}
@@ -25,7 +21,7 @@ none {A} b x y e = ap (λ (t : Bool). pick t x y) (sym e)
 
 module _ (l : Lister) where
   module _ (e : l.active ≡ false) where
-    no_advance : (n : ℕ) → no_station l Word.Advance ≡ noted l (advancing n)
+    pub no_advance : (n : ℕ) → no_station l Word.Advance ≡ noted l (advancing n)
     unfolding noted
     no_advance n = none l.active _ _ e
 
@@ -33,16 +29,9 @@ module _ (l : Lister) where
     unfolding noted
     no_frame f = none l.active _ _ e
 
-    no_ask : (n : ℕ) → no_station l Word.Ask ≡ noted l (asking n)
+    pub no_ask : (n : ℕ) → no_station l Word.Ask ≡ noted l (asking n)
     unfolding noted
     no_ask n = none l.active _ _ e
-
-  pub lacking : (c : List ℕ) (x : Entry) → lacks_station (not l.active) x ≡ true → no_station l (word_for x) ≡ noted l (entry_told c x)
-  lacking c Entry.Malformed e = clash (sym e)
-  lacking c Entry.Start e = clash (sym e)
-  lacking c (Entry.Advance n) e = no_advance (not-true l.active e) n
-  lacking c Entry.Frame e = clash (sym e)
-  lacking c (Entry.Ask n) e = no_ask (not-true l.active e) n
 
   module _ (e : l.active ≡ true) where
     pub an_advance : (n : ℕ) → stepped l (advance_of l.station n) ≡ noted l (advancing n)

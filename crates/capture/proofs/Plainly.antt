@@ -1,5 +1,5 @@
 -- The lines of plain records, one after the other. Assumes nothing.
-use Rattle.std.specs.Prelude.{Ok, Some, None, Option}
+use Rattle.std.specs.Prelude.{Ok, Err, Some, None, Option}
 use mathlib.Core.Bool.{Bool, true, false, not, ◌||◌, ◌&&◌}
 use mathlib.Core.List.{List, [], ◌++◌, append-nil}
 use mathlib.Core.Path.{◌≡◌, refl, sym, ap, ap₂, ◌∙◌, subst}
@@ -9,7 +9,8 @@ use borrow.Author.Tests.{eqb-false, leb-true}
 use lib.Dec.{ltb, leb, eqb}
 use lib.ListN.{length, take, drop, length-append, take-append-drop}
 use Rattle.answer.proofs.Booleans.{clash}
-use Rattle.answer.specs.Checks.{pick}
+use Rattle.answer.specs.Checks.{Outcome, pick, checked}
+use Rattle.answer.specs.declared.Refusal.{Refusal}
 use Rattle.capture_record.specs.Entries.{Noted, advancing, asking}
 use Rattle.capture_record.specs.Records.{Records, records_in}
 use Rattle.octets.proofs.Storing.{over_length}
@@ -88,26 +89,25 @@ known_granted_lem t c n e = by (eqb n 0) refl e
         some (suc m) g = omega arith
 
 -- an advance does not go back
-no_earlier : (t : ℕ) (p : Option Switch) (n later : ℕ) → clock_advance t p n ≡ Advanced.Goes later → t ≤ later
-unfolding clock_advance
+no_earlier : (t : ℕ) (p : Option Switch) (n later : ℕ) → clock_advance t p n ≡ Ok (Advanced.Goes later) → t ≤ later
+unfolding clock_advance checked
 no_earlier t p n later e = by_test_lem (ltb unit_limit n || ltb clock_limit (t + n)) e
   where
-    goes : Advanced → ℕ
-    goes (Advanced.Goes u) = u
-    goes Advanced.Refused = 0
-    goes (Advanced.Switches u channel) = 0
+    goes : Outcome Advanced → ℕ
+    goes (Ok (Advanced.Goes u)) = u
+    goes _ = 0
 
     by_pending : (q : Option Switch) → reached (t + n) q ≡ Advanced.Goes later → t ≤ later
-    by_pending None f = omega (arith, ap goes f)
+    by_pending None f = omega (arith, ap (λ (a : Advanced). goes (Ok a)) f)
     by_pending (Some x) f = by_switch (ltb (t + n) x.at) f
       where
         by_switch : (b : Bool) → pick b (Advanced.Goes (t + n)) (Advanced.Switches (t + n) x.channel) ≡ Advanced.Goes later → t ≤ later
-        by_switch true g = omega (arith, ap goes g)
+        by_switch true g = omega (arith, ap (λ (a : Advanced). goes (Ok a)) g)
         by_switch false g = absurd (let z : ◌≡◌ {A = ℕ} 0 1 = cc in omega arith)
 
-    by_test_lem : (far : Bool) → pick far Advanced.Refused (reached (t + n) p) ≡ Advanced.Goes later → t ≤ later
+    by_test_lem : (far : Bool) → pick far (Err Refusal.PastClock) (Ok (reached (t + n) p)) ≡ Ok (Advanced.Goes later) → t ≤ later
     by_test_lem true f = absurd (let z : ◌≡◌ {A = ℕ} 0 1 = cc in omega arith)
-    by_test_lem false f = by_pending p f
+    by_test_lem false f = by_pending p cc
 
 -- ---- one more
 
@@ -182,8 +182,8 @@ module _ {used : List ℕ} {start t : ℕ} {p : Option Switch} {c : ℕ} {begun 
     (big : begun.count + line_room * lines_left (length used - start) ≤ length out) (i : RanFrom used start true t p c begun out r digits exit)
     (n end : ℕ) (pen : Pen) (digits' exit' : List ℕ) where
   -- the clock at `later`
-  module _ (later : ℕ) (e : clock_advance r.clock p n ≡ Advanced.Goes later) where
-    goes : (l : Lister) → Watched l true r.clock p c → clock_advance l.station.clock l.station.pending n ≡ Advanced.Goes later
+  module _ (later : ℕ) (e : clock_advance r.clock p n ≡ Ok (Advanced.Goes later)) where
+    goes : (l : Lister) → Watched l true r.clock p c → clock_advance l.station.clock l.station.pending n ≡ Ok (Advanced.Goes later)
     goes l w = ap₂ (λ (u : ℕ) (q : Option Switch). clock_advance u q n) w.clock w.pending ∙ e
 
     pub ran_advance : Notes used r.at end (advancing n) → Penned (answer_line (r.pen.lines + 1) Word.Advance (Response.Call (Ok tt))) r.pen exit pen digits' exit'
@@ -196,7 +196,7 @@ module _ {used : List ℕ} {start t : ℕ} {p : Option Switch} {c : ℕ} {begun 
           same = w.same;
           clock = refl;
           pending = w.pending;
-          valid = λ f. (advanced l.station n (Advanced.Goes later) (goes l w) (w.valid refl)).1;
+          valid = λ f. (advanced l.station n (Ok (Advanced.Goes later)) (goes l w) (w.valid refl)).1;
           clear = λ f. later_clear later (omega (arith, w.clock, no_earlier r.clock p n later e)) (w.clear refl);
         })
         pen digits' exit'

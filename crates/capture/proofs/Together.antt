@@ -7,8 +7,8 @@ use Prim.Native.Nat.{ℕ, ◌≤◌}
 use lib.Dec.{lit≤}
 use Rattle.answer.proofs.Booleans.{clash, either}
 use Rattle.apart.proofs.Parts.{put_back, put_back_valid, few_rows}
-use Rattle.apart.specs.Apart.{apart_of, whole_of, HoldsSchedules, Makes, HeardAs}
-use Rattle.apart.specs.Columns.{Columns}
+use Rattle.apart.specs.Apart.{apart_of, whole_of, HoldsSchedules, HeardAs}
+use Rattle.apart.specs.declared.columns.Columns.{Columns}
 use Rattle.apart.specs.declared.Apart.{Apart}
 use Rattle.apart.specs.declared.Told.{Told}
 use Rattle.beacon.specs.Beacons.{quiet_limit}
@@ -60,7 +60,7 @@ module _ (l : Lister) (sound : Sound l) where
   parts_of a c e h =
       subst (λ (x : Apart). PartsOf l (parts_with x) c) (sym e)
       (record {
-        makes = record { roomy = h.roomy; few = few };
+        few = few;
         same = λ n. ap (λ (s : Station). record { lines = n; blocks = l.blocks; damaged = l.damaged; active = l.active; station = s }) (back c h);
       })
 
@@ -95,11 +95,11 @@ module _ (p : Parts) (c : Columns) (there : p.active ≡ true) (f : List ℕ) (t
       ∙ a_frame (lister_of p n c) there f
 
   pub frame_follows : (n : ℕ) → Follows (lister_of p n c) (answered n).lister
-  frame_follows n = sound_following (lister_of p n c) (take_of hearer f).station (subst Valid h.station h.held.valid)
+  frame_follows n = sound_following (lister_of p n c) (take_of hearer f).station (subst Valid h.station h.valid)
 
   pub frame_same : (n : ℕ) → lister_of heard_parts n after ≡ following (lister_of p n c) (take_of hearer f).station
   frame_same n =
       ap₂ (λ (b : Bool) (x : Station). record { lines = n; blocks = p.blocks; damaged = p.damaged; active = b; station = x }) there h.station
 
-  pub frame_makes : Makes t.apart after
-  frame_makes = record { roomy = h.held.roomy; few = few_rows t.apart after h.held.valid }
+  pub frame_few : t.apart.count ≤ quiet_limit
+  frame_few = few_rows t.apart after h.valid

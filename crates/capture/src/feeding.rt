@@ -2,7 +2,7 @@
 ghost use Rattle.std.specs.Prelude.{◌≡◌, ◌<◌, ◌≤◌, length};
 ghost use Rattle.octets.specs.Writing.{filled};
 ghost use Rattle.capture.specs.CodeTerms.Following.{Fed};
-ghost use Rattle.capture.specs.CodeTerms.Rooms.{answer_told, room_for, listed_as};
+ghost use Rattle.capture.specs.CodeTerms.Rooms.{room_for, listed_as};
 ghost use Rattle.capture.specs.Feeding.{enough_room, feed_means, FedWith};
 ghost use Rattle.capture.specs.Listers.{block_limit, Fits};
 ghost use Rattle.capture.specs.Lists.{block_told, blocks_in, blocks_told};
@@ -32,9 +32,10 @@ fn put_block(lister: Lister, block: &[u8], out: &mut [u8]) -> Put
 }
 
 // Whether so many blocks more may be listed into a buffer of so many octets. What the limit and the buffer leave is compared, since a sum or a product could wrap.
+#[tactic(auto, unfolding(crate::specs::CodeTerms::Rooms::room_for, answer::specs::Checks::checked))]
 fn room_for(blocks: u64, many: usize, size: usize) -> Result<(), Refusal>
     requires { blocks ≤ block_limit }
-    ensures { answer_told result ≡ room_for blocks many size }
+    ensures { result ≡ room_for blocks many size }
 {
     if Lister::BLOCK_LIMIT - blocks < many as u64 {
         return Err(Refusal::Impossible);
@@ -45,47 +46,49 @@ fn room_for(blocks: u64, many: usize, size: usize) -> Result<(), Refusal>
     Ok(())
 }
 
+// No lines, and the lister as it was.
+fn refused(lister: Lister, refusal: Refusal) -> Listing
+    ensures { result ≡ record { wrote = Err refusal; lister = lister } }
+{
+    Listing {
+        wrote: Err(refusal),
+        lister,
+    }
+}
+
+// The lines that were put.
 fn listed(put: Put) -> Listing
     ensures { result ≡ listed_as put }
 {
-    let lister = put.lister;
-    let wrote = Ok(put.count);
-    Listing { wrote, lister }
+    Listing {
+        wrote: Ok(put.count),
+        lister: put.lister,
+    }
 }
 
 impl Lister {
     // The lines of a block, from the front of the buffer on. Any octets may be handed in as a block: a short last one is damaged.
+    #[tactic(auto, using(crate::proofs::Fitting::roomy))]
     pub fn feed(self, block: &[u8], out: &mut [u8]) -> Listing
         requires { Fits self }
         ensures fed_with { FedWith (feed_means self 1 (block_told block.now self) (length out.old)) self out.old result out.new }
         ensures fits { Fits result.lister }
     {
         match room_for(self.blocks, 1, out.len()) {
-            Err(refusal) => {
-                let wrote = Err(refusal);
-                Listing {
-                    wrote,
-                    lister: self,
-                }
-            }
+            Err(refusal) => refused(self, refusal),
             Ok(()) => listed(put_block(self, block, out)),
         }
     }
 
     // The lines of the blocks of some octets, in the same way.
+    #[tactic(auto, using(crate::proofs::Fitting::roomy, crate::proofs::FedBlocks::blocks_counted))]
     pub fn feed_all(self, blocks: &[u8], out: &mut [u8]) -> Listing
         requires { Fits self }
         ensures fed_with { FedWith (feed_means self (length (blocks_in blocks.now)) (blocks_told (blocks_in blocks.now) self) (length out.old)) self out.old result out.new }
         ensures fits { Fits result.lister }
     {
         match room_for(self.blocks, block::count_in(blocks.len()), out.len()) {
-            Err(refusal) => {
-                let wrote = Err(refusal);
-                Listing {
-                    wrote,
-                    lister: self,
-                }
-            }
+            Err(refusal) => refused(self, refusal),
             Ok(()) => listed(listing::put_blocks(self, blocks, out)),
         }
     }

@@ -14,6 +14,7 @@ pub struct Lister {
     pub blocks: u64,
     pub damaged: u64,
     // Whether a station is followed; where none is, `station` is one fixed station that no call may be handed.
+    // Kept as a flag beside it: while blocks are listed the station lies in parts, of which an Option would hold only one.
     pub active: bool,
     pub station: Station,
 }
@@ -51,25 +52,19 @@ impl Lister {
 }
 
 // The lister with no station until the next start.
-pub fn without(lister: Lister) -> Lister
+pub fn without(mut lister: Lister) -> Lister
     ensures { result ≡ without lister }
 {
-    let active = false;
-    let nobody = Station::nobody();
-    Lister {
-        active,
-        station: nobody,
-        ..lister
-    }
+    lister.active = false;
+    lister.station = Station::nobody();
+    lister
 }
 
 // The lister that follows a station.
-pub fn following(lister: Lister, station: Station) -> Lister
+pub fn following(mut lister: Lister, station: Station) -> Lister
     ensures { result ≡ following lister station }
 {
-    Lister {
-        active: true,
-        station,
-        ..lister
-    }
+    lister.active = true;
+    lister.station = station;
+    lister
 }

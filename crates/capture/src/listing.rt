@@ -6,15 +6,18 @@ ghost use Rattle.capture.specs.CodeTerms.Following.{Fed};
 ghost use Rattle.capture.specs.CodeTerms.Noting.{heard_by};
 ghost use Rattle.capture.specs.Feeding.{enough_room};
 ghost use Rattle.capture.specs.Listers.{block_limit, Fits};
-ghost use Rattle.capture.specs.Lists.{blocks_in, blocks_told};
+ghost use Rattle.capture.specs.Lists.{answer_line, blocks_in, blocks_told};
+ghost use Rattle.capture.specs.declared.response.Response.{Response};
+ghost use Rattle.pen.specs.Penning.{Ready, Penned};
+ghost use Rattle.pen.specs.declared.words.Word.{Word};
 
 use crate::parts::Parts;
+use crate::plain::Ran;
 use crate::{Lister, plain};
-use answer::Refusal;
-use beacon::QUIETS;
-use block::Block;
+use answer::{Fault, Refusal};
+use apart::Columns;
 use capture_record::{Entry, Found};
-use pen::Word;
+use pen::{Pen, Word};
 
 // The lister, and how many octets of the buffer are lines by now.
 #[derive(Clone, Copy)]
@@ -31,6 +34,7 @@ enum BlockAt {
     Whole { stop: usize, end: usize },
 }
 
+#[tactic(auto, using(block::proofs::Ending::end_inside))]
 fn block_at(blocks: &[u8], at: usize) -> BlockAt
     ensures { BlockFound blocks.now at result }
 {
@@ -39,8 +43,8 @@ fn block_at(blocks: &[u8], at: usize) -> BlockAt
     }
     let end = block::end_after(at, blocks.len());
     match block::judge(&blocks[at..end]) {
-        Block::Damaged => BlockAt::Damaged { end },
-        Block::Used(used) => BlockAt::Whole {
+        None => BlockAt::Damaged { end },
+        Some(used) => BlockAt::Whole {
             stop: at + 2 + used,
             end,
         },
@@ -53,10 +57,7 @@ fn goes_on(entry: Entry, end: usize, stop: usize) -> usize
 {
     match entry {
         Entry::Malformed => stop,
-        Entry::Start => end,
-        Entry::Advance(_) => end,
-        Entry::Frame => end,
-        Entry::Ask(_) => end,
+        _ => end,
     }
 }
 
@@ -66,10 +67,21 @@ fn is_heard(entry: Entry, active: bool) -> bool
 {
     match entry {
         Entry::Frame => active,
-        Entry::Malformed => false,
-        Entry::Start => false,
-        Entry::Advance(_) => false,
-        Entry::Ask(_) => false,
+        _ => false,
+    }
+}
+
+// The line of a frame that a station heard.
+fn put_verdict(pen: Pen, digits: &mut [u8], verdict: Result<(), Fault>, out: &mut [u8]) -> Pen
+    requires { Ready pen digits.old out.old }
+    ensures { Penned (answer_line (pen.lines + 1) Word.Frame (Response.Frame verdict)) pen out.old result digits.new out.new }
+{
+    match verdict {
+        Ok(()) => pen::put_accepted(pen, digits, Word::Frame, out),
+        Err(fault) => {
+            let number = fault.refusal.number();
+            pen::put_told(pen, digits, Word::Frame, number, fault.offset, out)
+        }
     }
 }
 
@@ -81,29 +93,28 @@ pub fn put_blocks(lister: Lister, blocks: &[u8], out: &mut [u8]) -> Put
     ensures fed { Fed lister (blocks_told (blocks_in blocks.now) lister) result }
     ensures out_after { out.new ≡ filled (blocks_told (blocks_in blocks.now) lister).text out.old }
 {
-    let mut starts = [0u64; QUIETS];
-    let mut periods = [0u64; QUIETS];
-    let mut durations = [0u16; QUIETS];
-    let mut parts = Parts::of(lister, &mut starts, &mut periods, &mut durations);
+    let mut columns = Columns::BLANK;
+    let mut parts = Parts::of(lister, &mut columns);
     let mut digits = [0u8; pen::DIGITS];
     let mut pen = pen::begin(lister.lines, &mut digits);
-    let mut clear: u64 = 0;
+    let mut clear = 0;
     let mut at = 0;
     let mut stop = 0;
     let mut after = 0;
     loop {
         let used = &blocks[..stop];
-        let apart = parts.apart;
-        let rest = apart.rest;
-        let pending = rest.pending;
+        let rest = parts.apart.rest;
+        let here = Ran {
+            at,
+            clock: rest.clock,
+            pen,
+        };
         let ran = plain::run(
             used,
-            at,
+            here,
             parts.active,
-            rest.clock,
-            pending,
+            rest.pending,
             clear,
-            pen,
             &mut digits,
             out,
         );
@@ -113,10 +124,9 @@ pub fn put_blocks(lister: Lister, blocks: &[u8], out: &mut [u8]) -> Put
         match capture_record::record_at(used, at) {
             Found::End => match block_at(blocks, after) {
                 BlockAt::End => {
-                    let count = pen.count;
                     return Put {
-                        lister: parts.whole(pen.lines, &starts, &periods, &durations),
-                        count,
+                        lister: parts.whole(pen.lines, &columns),
+                        count: pen.count,
                     };
                 }
                 BlockAt::Damaged { end } => {
@@ -146,43 +156,22 @@ pub fn put_blocks(lister: Lister, blocks: &[u8], out: &mut [u8]) -> Put
                 let contents = &used[start..end];
                 let entry = capture_record::entry_of(kind, contents);
                 if is_heard(entry, parts.active) {
-                    let apart = parts.apart;
-                    let told = apart.hear(contents, &mut starts, &mut periods, &mut durations);
-                    let verdict = told.verdict;
-                    let next = told.apart;
-                    parts.apart = next;
-                    match verdict {
-                        Ok(()) => {
-                            pen = pen::put_accepted(pen, &mut digits, Word::Frame, out);
-                        }
-                        Err(_) => {
-                            let number = verdict.number();
-                            pen = pen::put_told(
-                                pen,
-                                &mut digits,
-                                Word::Frame,
-                                number,
-                                verdict.offset(),
-                                out,
-                            );
-                        }
-                    }
+                    let told = parts.apart.hear(contents, &mut columns);
+                    parts.apart = told.apart;
+                    pen = put_verdict(pen, &mut digits, told.verdict, out);
                     clear = 0;
                     at = end;
                 } else {
-                    let noted = parts.note(
-                        pen.lines,
-                        entry,
-                        contents,
-                        &mut starts,
-                        &mut periods,
-                        &mut durations,
+                    let noted = parts.note(pen.lines, entry, contents, &mut columns);
+                    pen = pen::put_told(
+                        pen,
+                        &mut digits,
+                        noted.word,
+                        noted.number,
+                        noted.offset,
+                        out,
                     );
-                    let word = noted.word;
-                    let offset = noted.offset;
-                    pen = pen::put_told(pen, &mut digits, word, noted.number, offset, out);
-                    let next = noted.parts;
-                    parts = next;
+                    parts = noted.parts;
                     clear = noted.clear;
                     at = goes_on(entry, end, stop);
                 }

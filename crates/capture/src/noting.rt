@@ -3,7 +3,6 @@ ghost use Rattle.std.specs.Prelude.{◌≡◌, true, false};
 ghost use Rattle.capture_record.specs.declared.entry.Entry.{Entry};
 ghost use Rattle.capture_record.specs.Entries.{starting, settings_of, advancing, asking, entry_told};
 ghost use Rattle.capture.specs.CodeTerms.Following.{line_for, Follows};
-ghost use Rattle.capture.specs.CodeTerms.Noting.{lacks_station, word_for};
 ghost use Rattle.capture.specs.Listers.{Sound};
 ghost use Rattle.capture.specs.Lists.{bad_record, no_station, noted};
 
@@ -35,61 +34,28 @@ pub fn malformed(lister: Lister) -> Answered
 }
 
 // A start, refused or accepted.
+#[tactic(auto, unfolding(crate::specs::Lists::noted), using(crate::proofs::StaysSound::sound_without, crate::proofs::StaysSound::sound_following))]
 fn start(lister: Lister, contents: &[u8]) -> Answered
     ensures result_value { line_for result ≡ noted lister (starting (settings_of contents.now)) }
     ensures follows { Follows lister result.lister }
 {
     let settings = capture_record::settings_in(contents);
-    let own = settings.own;
-    let ap = settings.ap;
-    let started = Station::start(own, ap, settings.interval, settings.channel);
-    let answer = started.answer;
-    let station = started.station;
-    match answer {
-        Ok(()) => Answered {
+    match Station::start(
+        settings.own,
+        settings.ap,
+        settings.interval,
+        settings.channel,
+    ) {
+        Ok(station) => Answered {
             lister: lister::following(lister, station),
             word: Word::Start,
-            answer: Response::Call(answer),
+            answer: Response::Call(Ok(())),
         },
-        Err(_) => Answered {
+        Err(refusal) => Answered {
             lister: lister::without(lister),
             word: Word::Start,
-            answer: Response::Call(answer),
+            answer: Response::Call(Err(refusal)),
         },
-    }
-}
-
-// An advance, refused or accepted.
-fn advance(lister: Lister, units: u16) -> Answered
-    requires sound { Sound lister }
-    requires active_value { lister.active ≡ true }
-    ensures result_value { line_for result ≡ noted lister (advancing units) }
-    ensures follows { Follows lister result.lister }
-{
-    let station = lister.station;
-    let stepped = station.advance(units as u32);
-    let answer = stepped.answer;
-    let next = stepped.station;
-    Answered {
-        lister: lister::following(lister, next),
-        word: Word::Advance,
-        answer: Response::Call(answer),
-    }
-}
-
-// A question.
-fn ask(lister: Lister, units: u16) -> Answered
-    requires sound { Sound lister }
-    requires active_value { lister.active ≡ true }
-    ensures result_value { line_for result ≡ noted lister (asking units) }
-    ensures follows { Follows lister result.lister }
-{
-    let station = lister.station;
-    let permission = station.ask(units as u32);
-    Answered {
-        lister,
-        word: Word::Ask,
-        answer: Response::Question(permission),
     }
 }
 
@@ -106,43 +72,49 @@ fn unstarted(lister: Lister, word: Word) -> Answered
     }
 }
 
-// Whether an advance or a question comes with no station (19). A malformed record is 20 before a station is asked for, and the frames that come here have
-// none.
-fn lacks_station(missing: bool, entry: Entry) -> bool
-    ensures { result ≡ lacks_station missing entry }
+// An advance, refused or accepted.
+#[tactic(auto, using(crate::proofs::Answering::no_advance, crate::proofs::Answering::an_advance, crate::proofs::StaysSound::sound_following))]
+fn advance(lister: Lister, units: u16) -> Answered
+    requires { Sound lister }
+    ensures result_value { line_for result ≡ noted lister (advancing units) }
+    ensures follows { Follows lister result.lister }
 {
-    match entry {
-        Entry::Malformed => false,
-        Entry::Start => false,
-        Entry::Advance(_) => missing,
-        Entry::Frame => false,
-        Entry::Ask(_) => missing,
+    if !lister.active {
+        return unstarted(lister, Word::Advance);
+    }
+    let stepped = lister.station.advance(u32::from(units));
+    Answered {
+        lister: lister::following(lister, stepped.station),
+        word: Word::Advance,
+        answer: Response::Call(stepped.answer),
     }
 }
 
-// The word of a record's line.
-fn word_of(entry: Entry) -> Word
-    ensures { result ≡ word_for entry }
+// A question.
+#[tactic(auto, using(crate::proofs::Answering::no_ask, crate::proofs::Answering::an_ask))]
+fn ask(lister: Lister, units: u16) -> Answered
+    requires { Sound lister }
+    ensures result_value { line_for result ≡ noted lister (asking units) }
+    ensures follows { Follows lister result.lister }
 {
-    match entry {
-        Entry::Malformed => Word::Record,
-        Entry::Start => Word::Start,
-        Entry::Advance(_) => Word::Advance,
-        Entry::Frame => Word::Frame,
-        Entry::Ask(_) => Word::Ask,
+    if !lister.active {
+        return unstarted(lister, Word::Ask);
+    }
+    Answered {
+        lister,
+        word: Word::Ask,
+        answer: Response::Question(lister.station.ask(u32::from(units))),
     }
 }
 
-// Any record, by what it notes, but for the frames that a station hears.
+// Any record, by what it notes, but for the frames that a station hears. A malformed one is 20 with a station or without, and a start needs none.
+#[tactic(auto, unfolding(crate::specs::Lists::noted), using(crate::proofs::Answering::no_frame))]
 pub fn note(lister: Lister, entry: Entry, contents: &[u8]) -> Answered
     requires sound { Sound lister }
     requires active_value { entry ≡ Entry.Frame → lister.active ≡ false }
     ensures result_value { line_for result ≡ noted lister (entry_told contents.now entry) }
     ensures follows { Follows lister result.lister }
 {
-    if lacks_station(!lister.active, entry) {
-        return unstarted(lister, word_of(entry));
-    }
     match entry {
         Entry::Malformed => malformed(lister),
         Entry::Start => start(lister, contents),

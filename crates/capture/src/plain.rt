@@ -9,8 +9,8 @@ ghost use Rattle.capture.specs.Listers.{line_limit};
 
 use capture_record::{Entry, Found};
 use pen::{Pen, Word};
-use station::Advanced;
 use pending::Switch;
+use station::Advanced;
 
 // What stands at a place of the used part: an advance to a moment, a question that is granted, each with the place where it ends, or another record
 // or none.
@@ -25,23 +25,16 @@ pub enum Plain {
 fn is_known_granted(clock: u32, clear: u64, units: u16) -> bool
     ensures { result ≡ known_granted clock clear units }
 {
-    if units == 0 {
-        return false;
-    }
-    (clock as u64) + (units as u64) <= clear
+    units != 0 && u64::from(clock) + u64::from(units) <= clear
 }
 
 // An advance that ends at a place.
 fn advance(clock: u32, pending: Option<Switch>, units: u16, end: usize) -> Plain
     ensures { result ≡ goes_to (clock_advance clock pending units) end }
 {
-    match station::advance_clock(clock, pending, units as u32) {
-        Advanced::Goes(moment) => Plain::Goes { clock: moment, end },
-        Advanced::Refused => Plain::Other,
-        Advanced::Switches {
-            moment: _,
-            channel: _,
-        } => Plain::Other,
+    match station::advance_clock(clock, pending, u32::from(units)) {
+        Ok(Advanced::Goes(clock)) => Plain::Goes { clock, end },
+        _ => Plain::Other,
     }
 }
 
@@ -49,28 +42,17 @@ fn advance(clock: u32, pending: Option<Switch>, units: u16, end: usize) -> Plain
 fn plain_at(used: &[u8], at: usize, clock: u32, pending: Option<Switch>, clear: u64) -> Plain
     ensures { PlainAt used.now at clock pending clear result }
 {
-    match capture_record::record_at(used, at) {
-        Found::End => Plain::Other,
-        Found::Cut => Plain::Other,
-        Found::Whole { kind, start, end } => match capture_record::entry_of(
-            kind,
-            &used[start..end],
-        ) {
-            Entry::Advance(units) => advance(clock, pending, units, end),
-            Entry::Ask(units) => {
-                if is_known_granted(clock, clear, units) {
-                    return Plain::Granted { end };
-                }
-                Plain::Other
-            }
-            Entry::Malformed => Plain::Other,
-            Entry::Start => Plain::Other,
-            Entry::Frame => Plain::Other,
-        },
+    let Found::Whole { kind, start, end } = capture_record::record_at(used, at) else {
+        return Plain::Other;
+    };
+    match capture_record::entry_of(kind, &used[start..end]) {
+        Entry::Advance(units) => advance(clock, pending, units, end),
+        Entry::Ask(units) if is_known_granted(clock, clear, units) => Plain::Granted { end },
+        _ => Plain::Other,
     }
 }
 
-// Where the first other record stands, the clock there, and the lines by then.
+// A place among the records, the clock there, and the lines by then.
 #[derive(Clone, Copy)]
 pub struct Ran {
     pub at: usize,
@@ -78,46 +60,43 @@ pub struct Ran {
     pub pen: Pen,
 }
 
-// The lines of such records from a place on; where no station is followed there are none.
+// The lines of such records from a place on, up to the first other record; where no station is followed there are none.
 pub fn run(
     used: &[u8],
-    start: usize,
+    from: Ran,
     active: bool,
-    moment: u32,
     pending: Option<Switch>,
     clear: u64,
-    begun: Pen,
     digits: &mut [u8],
     out: &mut [u8],
 ) -> Ran
-    requires spells { Spells begun.lines digits.old begun.from }
-    requires start_in_bounds { start ≤ length used.now }
-    requires start_bound { (begun.lines + lines_left (length used.now - start) ≤ line_limit) × (begun.count + line_room * lines_left (length used.now - start) ≤ length out.old) }
-    ensures { RanFrom used.now start active moment pending clear begun out.old result digits.new out.new }
+    requires spells { Spells from.pen.lines digits.old from.pen.from }
+    requires in_bounds { from.at ≤ length used.now }
+    requires room { (from.pen.lines + lines_left (length used.now - from.at) ≤ line_limit) × (from.pen.count + line_room * lines_left (length used.now - from.at) ≤ length out.old) }
+    ensures { RanFrom used.now from.at active from.clock pending clear from.pen out.old result digits.new out.new }
 {
     if !active {
-        return Ran {
-            at: start,
-            clock: moment,
-            pen: begun,
-        };
+        return from;
     }
-    let mut at = start;
-    let mut clock = moment;
-    let mut pen = begun;
+    let mut ran = from;
     loop {
-        match plain_at(used, at, clock, pending, clear) {
-            Plain::Other => {
-                return Ran { at, clock, pen };
-            }
-            Plain::Goes { clock: later, end } => {
-                pen = pen::put_accepted(pen, digits, Word::Advance, out);
-                clock = later;
-                at = end;
+        match plain_at(used, ran.at, ran.clock, pending, clear) {
+            Plain::Other => return ran,
+            Plain::Goes { clock, end } => {
+                let pen = pen::put_accepted(ran.pen, digits, Word::Advance, out);
+                ran = Ran {
+                    at: end,
+                    clock,
+                    pen,
+                };
             }
             Plain::Granted { end } => {
-                pen = pen::put_accepted(pen, digits, Word::Ask, out);
-                at = end;
+                let pen = pen::put_accepted(ran.pen, digits, Word::Ask, out);
+                ran = Ran {
+                    at: end,
+                    pen,
+                    ..ran
+                };
             }
         }
     }

@@ -2,10 +2,8 @@
 ghost use Rattle.std.specs.Prelude.{◌≡◌};
 ghost use Rattle.capture.specs.Lists.{response_number, response_offset};
 
+use answer::{Fault, Refusal};
 use station::Permission;
-use answer::Refusal;
-use answer::Fault;
-use frame::Frame;
 
 #[derive(Clone, Copy)]
 pub enum Response {
@@ -23,8 +21,8 @@ impl Response {
         ensures { result ≡ response_number self }
     {
         match self {
-            Response::Call(answer) => answer.number(),
-            Response::Frame(verdict) => verdict.number(),
+            Response::Call(answer) => answer::number(answer),
+            Response::Frame(verdict) => answer::verdict_number(verdict),
             Response::Question(permission) => permission.number(),
         }
     }
@@ -34,9 +32,8 @@ impl Response {
         ensures { result ≡ response_offset self }
     {
         match self {
-            Response::Call(_) => None,
-            Response::Frame(verdict) => verdict.offset(),
-            Response::Question(_) => None,
+            Response::Frame(verdict) => answer::verdict_offset(verdict),
+            _ => None,
         }
     }
 }

@@ -2,7 +2,7 @@
 ghost use Rattle.std.specs.Prelude.{◌≡◌};
 ghost use Rattle.capture_record.specs.Entries.{settings_of, entry_told, entry_means};
 
-// A frame's octets and a start's settings stay in the contents.
+// A frame's octets and a start's settings stay in the contents. What is malformed is a case and no refusal: the list notes it as a record of its own.
 #[derive(Clone, Copy)]
 pub enum Entry {
     // An unknown kind, or a wrong length.

@@ -9,6 +9,7 @@ use native.Mathlib.Omega.{arith}
 use borrow.Author.Tests.{ltb-true, ltb-false, eqb-true, eqb-false}
 use lib.Dec.{ltb, eqb}
 use lib.Seq.{take_at}
+use Rattle.answer.specs.Checks.{checked}
 use Rattle.answer.proofs.Booleans.{either, neither}
 use Rattle.beacon.specs.Allowed.{QuietsAllowed}
 use Rattle.beacon.specs.Beacons.{Told}
@@ -18,7 +19,7 @@ use Rattle.frame.specs.Announcements.{announcement_in}
 use Rattle.frame.specs.Actions.{Body, requests, reports, tpc_request, tpc_report, switch}
 use Rattle.frame.specs.Allowed.{KindAllowed}
 use Rattle.frame.specs.Frames.{Kind, beacon, probe_response, action}
-use Rattle.station.specs.Clock.{stepped, switched, reached, clock_advance, advanced_to, advance_means, advance_of}
+use Rattle.station.specs.Clock.{switched, reached, clock_advance, advanced_to, advance_means, advance_of}
 use Rattle.station.specs.Stations.{in_use, fresh, with_clock, with_until}
 use Rattle.station.specs.Taking.{schedules_of, latest_end, outlasting, rescheduled, constrained, announced, announced_if, informed, heard}
 use Rattle.station.specs.declared.Station.{Station}
@@ -263,10 +264,10 @@ module _ (l : Listener) (sound : Sound l) (pos : 1 ≤ l.interval) where
             until_told = until_gone l (advance n) h w x;
           }
 
-      reaches : Agreeing l (advance n ∷ h) (stepped r (advanced_to r (reached t r.pending))).station
+      reaches : Agreeing l (advance n ∷ h) (advanced_to r (reached t r.pending))
       reaches = by_pending r.pending refl
         where
-          by_pending : (p : Option Switch) → r.pending ≡ p → Agreeing l (advance n ∷ h) (stepped r (advanced_to r (reached t p))).station
+          by_pending : (p : Option Switch) → r.pending ≡ p → Agreeing l (advance n ∷ h) (advanced_to r (reached t p))
           by_pending None e =
               let before = subst (PendingIs l h) e a.pending_told in
               goes_on (nothing_reached l sound pos (advance n) h onward nobody before)
@@ -296,7 +297,7 @@ module _ (l : Listener) (sound : Sound l) (pos : 1 ≤ l.interval) where
       refused_stays still = unheard (advance n) still (sound.advance_unheard n h)
 
       advances : Agreeing l (advance n ∷ h) (advance_of r n).station
-      unfolding advance_means clock_advance clock_from
+      unfolding advance_means clock_advance clock_from checked
       advances =
           ⊎_elim
           (λ (y : too_far r.clock n ≡ true). simp y (refused_stays (simp (sym same_test ∙ y))))

@@ -1,6 +1,6 @@
 -- What a frame that is due a reply says of itself (01, "Replies": "Due only for accepted Action frames whose DA is the station"; 02, One): its three
 -- addresses, and its body. Assumes nothing.
-use Rattle.std.specs.Prelude.{Ok, Err}
+use Rattle.std.specs.Prelude.{Ok, Err, Some, None, Option}
 use mathlib.Core.Bool.{Bool, true, false, ◌&&◌, ◌||◌}
 use mathlib.Core.List.{List}
 use mathlib.Core.Path.{◌≡◌, refl, sym, ap, ◌∙◌, subst}
@@ -25,12 +25,12 @@ use Rattle.measurement_body.proofs.PlacesRead.{Reads, place_reads}
 use Rattle.measurement_body.specs.Lists.{measurements_in, nth}
 use Rattle.measurement_body.specs.Requests.{request_sort}
 use Rattle.measurement_body.specs.Surveys.{place_in}
-use Rattle.measurement_body.specs.declared.surveying.Place.{Place}
 use Rattle.measurement_element.proofs.RequestTrip.{request_trip}
 use Rattle.measurement_element.specs.MeasurementRequest.{request_means, request_forbids, RequestFits}
 use Rattle.measurement_element.specs.declared.measurement_request.Request.{Request}
 use Rattle.octets.specs.Numbers.{Octets}
 use Rattle.reply.specs.Due.{Owed, asks, breaks, is_returned, has_category, or_return, after_header, due_means, due_in}
+use Rattle.walk.specs.declared.Contents.{Contents}
 use Rattle.claims.proofs.OctetsWithin.{octets_take, octets_drop}
 
 first_holds : (a b : Bool) → (a || b) ≡ true → b ≡ false → a ≡ true
@@ -95,12 +95,12 @@ record Said (f : List ℕ) (q : Request) : Type 0 where
   means : request_means contents ≡ Ok q
 
 module _ (own ap' f : List ℕ) (token : ℕ) (rs : List Request) (i : ℕ) (q : Request) (due : due_means own ap' f ≡ Ok (asks (requests token rs))) (at : nth i rs ≡ Ok q) where
-  by_place : (p : Place) → Reads request_sort (body_of f) (nth i rs) p → Said f q
-  by_place Place.Absent e = absurd (never (sym e ∙ at))
-  by_place (Place.Contents start stop) e =
+  by_place : (p : Option Contents) → Reads request_sort (body_of f) (nth i rs) p → Said f q
+  by_place None e = absurd (never (sym e ∙ at))
+  by_place (Some c) e =
       record {
-        contents = take (stop - start) (drop start (body_of f));
-        octets = λ o. octets_take (stop - start) (drop start (body_of f)) (octets_drop start (body_of f) (octets_drop header_length f o));
+        contents = take (c.end - c.start) (drop c.start (body_of f));
+        octets = λ o. octets_take (c.end - c.start) (drop c.start (body_of f)) (octets_drop c.start (body_of f) (octets_drop header_length f o));
         means = e.2 ∙ at;
       }
 

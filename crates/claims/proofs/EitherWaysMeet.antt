@@ -9,7 +9,8 @@ use native.Mathlib.Omega.{arith}
 use seplogic.Ra.Ura.{Ura}
 use base.Logic.{SProp, ent, emp, via, emp∗, mono∗}
 use base.Fml.{Lft, GName}
-use base.Stored.{Coded-set}
+use base.Stored.{Coded-set, coded_unit}
+use Rattle.std.specs.Coded.{coded_result}
 use borrow.Author.Tests.{ltb-false}
 use prog.Memory.{Memory}
 use prog.Routine.{Routine}
@@ -18,7 +19,7 @@ use contract.Monad.{Fun, fact_i}
 use denote.Triple.Clauses.{at_exit}
 use lib.ListN.{length, drop, length-append, length-drop}
 use Rattle.answer.proofs.Judged.{never, passed, kept, followed}
-use Rattle.answer.specs.contracts.Answer as AnswerRow
+use Rattle.answer.specs.contracts.Refusal as RefusalRow
 use Rattle.answer.specs.Checks.{Outcome, and_then, answer_of, Answer}
 use Rattle.answer.specs.Faults.{Placed, nowhere, verdict_of}
 use Rattle.capture_record.specs.declared.entry.Settings.{Settings}
@@ -102,11 +103,6 @@ take_said r f = by (take_means r f)
     by (Err q) = refl
     by (Ok t) = refl
 
--- an answer to a question that stands for a permission is that permission
-asked_is : (x : Outcome Permission) (p : Permission) → x ≡ Ok p → x ≡ Ok p
-asked_is (Err q) p e = absurd (never e)
-asked_is (Ok q) p e = cc
-
 -- ---- any calls
 
 -- an accepted start into octets
@@ -130,9 +126,9 @@ record_does before c x os (RecordDoes.advances {n = n} (κs, a, y, e, promise, (
       ap answered (sym told ∙ promise.0 ∙ ap answer_of comes ∙ advance_said r n),
       subst (λ (b : List ℕ). Holds b (advance_of r n).station) (sym (sym left ∙ promise.1 ∙ ap₂ (λ (b : List ℕ) (o : Outcome Station). relaid b o) at_entry_lem comes)) (after_advance before r h n),
     )
-record_does before c x os (RecordDoes.asks {n = n} {v = v} (κs, a, y, e, promise, (at_entry_lem, units, told))) r h =
+record_does before c x os (RecordDoes.asks {n = n} (κs, a, y, e, promise, (at_entry_lem, units, told))) r h =
     let comes : asked_in a.1.0 a.0.now ≡ Ok (permission_of r n) = ap₂ (λ (k : ℕ) (b : List ℕ). asked_in k b) units at_entry_lem ∙ ap (λ (o : Outcome Station). and_then o (λ z. Ok (permission_of z n))) h.held in
-    (ap asked (asked_is v (permission_of r n) (ap (sym told) ∙ promise ∙ comes)), h)
+    (ap asked (sym told ∙ promise ∙ comes), h)
 
 module _ (s : Settings) (f : SettingsFit s) where
   record_starts : (os : List ℕ) → RecordStarts s os → Holds os (record_after s [])
@@ -171,7 +167,7 @@ stations_set : IsSet Station
 stations_set = Coded-set (StationRow.the_row).coded
 
 answers_set : IsSet Answer
-answers_set = Coded-set (AnswerRow.the_row).coded
+answers_set = Coded-set (coded_result coded_unit (RefusalRow.the_row).coded)
 
 permissions_set : IsSet Permission
 permissions_set = Coded-set (PermissionRow.the_row).coded

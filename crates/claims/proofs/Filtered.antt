@@ -14,7 +14,7 @@ use Rattle.action.specs.Openings.{fixed_fields, switch_fixed_fields, opens_with}
 use Rattle.answer.proofs.Judged.{never, followed}
 use Rattle.answer.proofs.Yielding.{Yields, of_value, either_way_lem, after_value}
 use Rattle.answer.specs.Checks.{Outcome, pick}
-use Rattle.answer.specs.Faults.{placed_at, nowhere, placed_past}
+use Rattle.answer.specs.Faults.{Placed, placed_at, nowhere, placed_past}
 use Rattle.answer.proofs.Placing.{placed_value, past_value}
 use Rattle.beacon.specs.Beacons.{Told, fixed_length, beacon_means}
 use Rattle.element.specs.ChannelSwitch.{switch_means}
@@ -23,7 +23,7 @@ use Rattle.element.specs.TpcReport.{tpc_report_means}
 use Rattle.element.specs.TpcRequest.{tpc_request_means}
 use Rattle.frame.specs.Actions.{after_opening, action_means}
 use Rattle.frame.specs.Frames.{Kind, beacon, probe_response, action, Sent, kind_of, frame_means}
-use Rattle.frame.specs.Laid.{quiets_of, frame_laid}
+use Rattle.frame.specs.Laid.{received, frame_of, quiets_of, frame_laid}
 use Rattle.frame.specs.declared.Received.{Received}
 use Rattle.header.specs.Headers.{header_length, body_of, header_means}
 use Rattle.header.specs.declared.address.Cell.{Cell}
@@ -149,11 +149,14 @@ module _ (own ap' : List ℕ) (b : ℕ) (f : List ℕ) where
       notice (probe_response u) same n = subst (NoticeOf b (body_of f)) same n
       notice (action a) impossible n = absurd impossible
 
-  -- which `frame::read` hands out
-  pub handed_out : (v : Received) (s : Sent) (t : Told) → v ≡ frame_laid (frame_means own ap' b f)
-      → frame_means own ap' b f ≡ Ok s → Says s.kind t → take v.count v.quiets ≡ t.quiets
-  handed_out v s t e h says =
-      ap (λ (x : Received). take x.count x.quiets) (e ∙ ap frame_laid h) ∙ take-append_seam (quiets_of s.kind) _ ∙ told s.kind says
+  -- which `frame::read` hands out: it hands out something, whose Quiet elements are these
+  pub handed_out : (v : Placed Received) (s : Sent) (t : Told) → v ≡ frame_laid (frame_means own ap' b f) → frame_means own ap' b f ≡ Ok s → Says s.kind t
+      → (x : Received) × (v ≡ Ok x) × (take x.count x.quiets ≡ t.quiets)
+  handed_out v s t e h says = (
+    received (frame_of s.kind) s.to_all (quiets_of s.kind),
+    e ∙ ap frame_laid h,
+    take-append_seam (quiets_of s.kind) _ ∙ told s.kind says,
+  )
     where
       told : (k : Kind) → Says k t → quiets_of k ≡ t.quiets
       told (beacon u) same = ap (λ (x : Told). x.quiets) same

@@ -63,20 +63,16 @@ interval_positive : (own ap' : List ℕ) (b channel : ℕ) → start_forbids own
 interval_positive own ap' b channel e = let w = eqb-false b 0 (neither (eqb b 0) _ e).0 in omega (arith, w)
 
 advance_number : (r : Station) (n : ℕ) → answer_number (advance_of r n).answer ≡ pick (too_far r.clock n) 14 0
-unfolding advance_means clock_advance
+unfolding advance_means clock_advance checked
 advance_number r n = by_test_lem (too_far r.clock n)
   where
-    by_switch : (coming : Bool) (t channel : ℕ) → answer_number (Clock.stepped r (Clock.advanced_to r (pick coming (Advanced.Goes t) (Advanced.Switches t channel)))).answer ≡ 0
-    by_switch true t channel = refl
-    by_switch false t channel = refl
+    goes_on : Advanced
+    goes_on = Clock.reached (r.clock + n) r.pending
 
-    by_pending : (p : Option Switch) (t : ℕ) → answer_number (Clock.stepped r (Clock.advanced_to r (Clock.reached t p))).answer ≡ 0
-    by_pending None t = refl
-    by_pending (Some q) t = by_switch (ltb t q.at) t q.channel
-
-    by_test_lem : (far : Bool) → answer_number (Clock.stepped r (Clock.advanced_to r (pick far Advanced.Refused (Clock.reached (r.clock + n) r.pending)))).answer ≡ pick far 14 0
+    by_test_lem : (far : Bool)
+        → answer_number (Clock.stepped r (and_then (pick far (Err Refusal.PastClock) (Ok goes_on)) (λ a. Ok (Clock.advanced_to r a)))).answer ≡ pick far 14 0
     by_test_lem true = refl
-    by_test_lem false = by_pending r.pending (r.clock + n)
+    by_test_lem false = refl
 
 -- what the line of a frame says
 abbrev verdict_said : Verdict → Said

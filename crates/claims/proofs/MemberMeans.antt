@@ -7,17 +7,17 @@ use Prim.Native.Nat.{ℕ, zero, suc, ◌+◌}
 use native.Mathlib.Omega.{arith}
 use lib.Dec.{leb}
 use Rattle.answer.proofs.Booleans.{clash}
+use Rattle.answer.proofs.Judged.{never}
 use Rattle.answer.specs.Checks.{Outcome, pick, and_then, Answer}
 use Rattle.answer.specs.Faults.{Placed, Verdict}
 use Rattle.capture_record.specs.declared.entry.Settings.{Settings}
 use Rattle.frame.specs.IbssFrames.{SentInIbss, ibss_frame_means}
 use Rattle.frame.specs.IbssLaid.{ibss_laid}
 use Rattle.member.proofs.Following.{foreign_in, refused_as, taken_as_lem, owner_fits_after, laid_allowed, named_recovery}
-use Rattle.member.specs.Members.{member_of, member_started, follows, member_takes, taken, take_of, stepped, owner_past, member_advances, advance_of, start_of}
+use Rattle.member.specs.Members.{member_of, follows, member_takes, taken, take_of, stepped, owner_past, member_advances, advance_of, start_of}
 use Rattle.member.specs.Validity.{ValidMember}
 use Rattle.member.specs.declared.Member.{Member}
 use Rattle.member.specs.declared.clock.Stepped.{Stepped}
-use Rattle.member.specs.declared.starting.Started.{Started}
 use Rattle.member.specs.declared.taking.Taken.{Taken}
 use Rattle.owner.specs.Owners.{missing, at_tbtt, past_tbtts, KeptFits}
 use Rattle.owner.specs.Tbtts.{tbtts_in}
@@ -35,6 +35,7 @@ use Rattle.claims.specs.MemberRuns.{MemberStarts, MemberTakes, MemberAdvances, M
 use Rattle.claims.specs.Records.{record_from}
 use Rattle.claims.specs.StationRuns.{Said, answered, judged, asked}
 use Rattle.claims.proofs.RunsMeant.{Meaning, kept_after, Meant, Exactly, Meets, meets_exactly}
+use Rattle.claims.proofs.Same.{accepted_once}
 use Rattle.claims.proofs.StationMeans.{valid_advance as station_advance, is_fresh}
 
 -- ---- what each call means
@@ -109,15 +110,15 @@ valid_start s r e = record { station_valid = (is_fresh s r e).1; owner_fits = tt
 
 pub starts_means : (s : Settings) (m : Member) → MemberStarts s m → Exactly ValidMember m (member_after s [])
 unfolding member_after record_from
-starts_means s m (κs, a, x, e, promise, (own, bssid, interval, channel, accepts, result)) =
-    let same : x ≡ start_of s.own s.ap s.interval s.channel = rw (← own, ← bssid, ← interval, ← channel) promise.0 in (
-      sym result ∙ ap (λ (y : Started). y.member) same ∙ by (start_means s.own s.ap s.interval s.channel) refl (ap (λ (y : Started). y.answer) (sym same) ∙ accepts),
-      subst ValidMember result (promise.1 accepts),
-    )
+starts_means s m (κs, a, x, e, promise, (own, bssid, interval, channel, accepts)) =
+    let same : x ≡ start_of s.own s.ap s.interval s.channel = rw (← own, ← bssid, ← interval, ← channel) promise.0 in
+    by (start_means s.own s.ap s.interval s.channel) refl (sym same ∙ accepts)
   where
-    by : (o : Outcome Station) → start_means s.own s.ap s.interval s.channel ≡ o → (member_started o).answer ≡ Ok tt → (member_started o).member ≡ member_after s []
-    by (Err q) given says = absurd (let z : ◌≡◌ {A = ℕ} 0 1 = cc in omega arith)
-    by (Ok t) given says = ap (λ (r : Station). member_of r None) (is_fresh s t given).0
+    by : (o : Outcome Station) → start_means s.own s.ap s.interval s.channel ≡ o → and_then o (λ t. Ok (member_of t None)) ≡ Ok m → Exactly ValidMember m (member_after s [])
+    by (Err q) given says = absurd (never says)
+    by (Ok t) given says =
+        let same = accepted_once (sym says) in
+        (same ∙ ap (λ (r : Station). member_of r None) (is_fresh s t given).0, subst ValidMember (sym same) (valid_start s t given))
 
 pub takes_means : {before m : Member} {f : List ℕ} {v : Verdict} → MemberTakes before f v m → (v ≡ (take_of before f).verdict) × (m ≡ (take_of before f).member) × ValidMember m
 takes_means {before} {m} {f} (κs, a, x, e, promise, (self, octets, verdict, result)) =

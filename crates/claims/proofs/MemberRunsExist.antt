@@ -1,17 +1,18 @@
 -- After a start that is not forbidden any calls of a station of an IBSS can be made (02, Five). Assumes nothing.
+use Rattle.std.specs.Prelude.{Ok, None, IfOk}
 use mathlib.Core.Bool.{false}
 use mathlib.Core.List.{List, []}
 use mathlib.Core.Path.{◌≡◌, refl, sym, ap, subst}
 use Prim.Native.Nat.{ℕ}
 use borrow.Fn.Kinds.{ended_of}
 use denote.Triple.Clauses.{at_exit}
-use Rattle.answer.specs.Checks.{Outcome}
+use Rattle.answer.specs.Checks.{Outcome, and_then}
 use Rattle.capture_record.specs.declared.entry.Settings.{Settings}
 use Rattle.member.proofs.Member.advance as Advance
 use Rattle.member.proofs.Member.ask as Ask
 use Rattle.member.proofs.Member.start as Start
 use Rattle.member.proofs.Member.take as Take
-use Rattle.member.specs.Members.{member_started, take_of, advance_of, start_of}
+use Rattle.member.specs.Members.{member_of, take_of, advance_of, start_of}
 use Rattle.member.specs.Validity.{ValidMember}
 use Rattle.member.specs.declared.Member.{Member}
 use Rattle.station.specs.Asking.{permission_of}
@@ -25,6 +26,10 @@ use Rattle.claims.specs.Runs.{CanRun}
 use Rattle.claims.proofs.MemberMeans.{member_means, valid_advance, valid_take, valid_start, member_meets}
 use Rattle.claims.proofs.RunsExist.{can_run_exactly, lent, accepts}
 
+-- a station that was started, as one of an IBSS: its owner is unknown
+abbrev begun : Outcome Station → Outcome Member
+begun o = and_then o (λ r. Ok (member_of r None))
+
 starts_can : (s : Settings) → start_forbids s.own s.ap s.interval s.channel ≡ false → MemberStarts s (member_after s [])
 unfolding member_after record_from
 starts_can s may = (
@@ -32,8 +37,8 @@ starts_can s may = (
   (s.own, (s.ap, (s.interval, (s.channel, tt)))),
   start_of s.own s.ap s.interval s.channel,
   at_exit (ended_of 0 Start.Kinds.ps Start.Kinds.r) tt (s.own, (s.ap, (s.interval, (s.channel, tt)))) (tt, (tt, (tt, (tt, tt)))),
-  (refl, λ e. subst (λ (o : Outcome Station). ValidMember (member_started o).member) (sym (accepts s may)) (valid_start s (record_after s []) (accepts s may))),
-  (refl, refl, refl, refl, ap (λ (o : Outcome Station). (member_started o).answer) (accepts s may), ap (λ (o : Outcome Station). (member_started o).member) (accepts s may)),
+  (refl, subst (λ (o : Outcome Station). IfOk (begun o) ValidMember) (sym (accepts s may)) (valid_start s (record_after s []) (accepts s may))),
+  (refl, refl, refl, refl, ap begun (accepts s may)),
 )
 
 module _ (m : Member) (v : ValidMember m) where

@@ -11,11 +11,11 @@ use Rattle.apart.proofs.Apart.nobody as Nobody
 use Rattle.apart.proofs.Apart.of as Of
 use Rattle.apart.proofs.Apart.whole as Whole
 use Rattle.apart.specs.Apart.{apart_of, whole_of}
-use Rattle.apart.specs.Columns.{Columns, columns}
+use Rattle.apart.specs.Columns.{columns}
 use Rattle.apart.specs.declared.Apart.{Apart}
+use Rattle.apart.specs.declared.columns.Columns.{Columns}
 use Rattle.frame.proofs.hear as FrameHear
-use Rattle.frame.proofs.hearing.Change.by_reading as ByReading
-use Rattle.frame.proofs.verdict_on as VerdictOn
+use Rattle.frame.proofs.hearing.Change.by_frame as ByFrame
 use Rattle.station.proofs.Station.rest as StationRest
 use Rattle.station.proofs.changing.Rest.announced as RestAnnounced
 use Rattle.station.proofs.changing.Rest.constrained as RestConstrained
@@ -30,11 +30,8 @@ use Rattle.answer.specs.Faults.{Verdict}
 pub frame_hear : OneResult 1 FrameHear.Kinds.ps FrameHear.Kinds.r FrameHear.Reads.Post
 frame_hear κs a e f x y p q = once p q
 
-pub verdict_on_lem : OneResult 0 VerdictOn.Kinds.ps VerdictOn.Kinds.r VerdictOn.Reads.Post
-verdict_on_lem κs a e f x y p q = once p q
-
-pub change_by_reading : OneResult 0 ByReading.Kinds.ps ByReading.Kinds.r ByReading.Reads.Post
-change_by_reading κs a e f x y p q = once p q
+pub change_by_frame : OneResult 0 ByFrame.Kinds.ps ByFrame.Kinds.r ByFrame.Reads.Post
+change_by_frame κs a e f x y p q = once p q
 
 -- ---- what it keeps beside its schedules
 
@@ -69,17 +66,15 @@ same_parts a b c d e = sym (parts_back a c) ∙ ap apart_of e ∙ parts_back b d
 pub apart_nobody : OneResult 0 Nobody.Kinds.ps Nobody.Kinds.r Nobody.Reads.Post
 apart_nobody κs a e f x y p q = let c = columns [] [] [] in same_parts x y c c (once (p c) (q c))
 
-pub apart_whole : OneResult 3 Whole.Kinds.ps Whole.Kinds.r Whole.Reads.Post
+pub apart_whole : OneResult 1 Whole.Kinds.ps Whole.Kinds.r Whole.Reads.Post
 apart_whole κs a e f x y p q = once p q
 
-pub apart_of_lem : (κs : Lfts 3) (a : Dens κs Of.Kinds.ps) (e f : AtExit (ended_of 3 Of.Kinds.ps Of.Kinds.r) κs) (x y : (res_t Of.Kinds.r κs).Denot)
-    → Of.Reads.Post κs a x e → Of.Reads.Post κs a y f
-    → (x ≡ y) × (columns e.1.0.now e.1.1.0.now e.1.1.1.0.now ≡ columns f.1.0.now f.1.1.0.now f.1.1.1.0.now)
-apart_of_lem κs a e f x y p q = (once p.0 q.0, once p.1.1 q.1.1)
+pub apart_of_lem : (κs : Lfts 1) (a : Dens κs Of.Kinds.ps) (e f : AtExit (ended_of 1 Of.Kinds.ps Of.Kinds.r) κs) (x y : (res_t Of.Kinds.r κs).Denot)
+    → Of.Reads.Post κs a x e → Of.Reads.Post κs a y f → (x ≡ y) × (e.1.0.now ≡ f.1.0.now)
+apart_of_lem κs a e f x y p q = (once p.0 q.0, once p.2 q.2)
 
-pub apart_hear : (κs : Lfts 4) (a : Dens κs Hear.Kinds.ps) (e f : AtExit (ended_of 4 Hear.Kinds.ps Hear.Kinds.r) κs) (x y : (res_t Hear.Kinds.r κs).Denot)
-    → Hear.Reads.Post κs a x e → Hear.Reads.Post κs a y f
-    → (x ≡ y) × (columns e.1.1.0.now e.1.1.1.0.now e.1.1.1.1.0.now ≡ columns f.1.1.0.now f.1.1.1.0.now f.1.1.1.1.0.now)
+pub apart_hear : (κs : Lfts 2) (a : Dens κs Hear.Kinds.ps) (e f : AtExit (ended_of 2 Hear.Kinds.ps Hear.Kinds.r) κs) (x y : (res_t Hear.Kinds.r κs).Denot)
+    → Hear.Reads.Post κs a x e → Hear.Reads.Post κs a y f → (x ≡ y) × (e.1.1.0.now ≡ f.1.1.0.now)
 apart_hear κs a e f x y p q = (
   ap₂ (λ (v : Verdict) (b : Apart). record { verdict = v; apart = b }) (once p.verdict q.verdict) (same_parts x.apart y.apart _ _ (once p.station q.station)),
   once p.rows q.rows,

@@ -43,4 +43,4 @@ refused_leaves (Err q) buffer r e = refl
 refused_leaves (Ok os) buffer r e = ap (λ (o : Outcome ℕ). after o os 0 buffer) e
 
 pub refused_reply : {o : Outcome (List ℕ)} {buffer exit : List ℕ} {x : Outcome ℕ} {r : Refusal} → Replied o buffer x exit → x ≡ Err r → exit ≡ buffer
-refused_reply {o} {buffer} {r = r} w e = w.leaves ∙ refused_leaves o buffer r (sym w.answers ∙ ap e)
+refused_reply {o} {buffer} {r = r} w e = w.leaves ∙ refused_leaves o buffer r (sym w.answers ∙ e)

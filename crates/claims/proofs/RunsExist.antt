@@ -1,5 +1,5 @@
 -- Each relation of runs has runs: after a start that is not forbidden any calls can be made, on a station by value, lent and on octets. Assumes nothing.
-use Rattle.std.specs.Prelude.{Ok, Err}
+use Rattle.std.specs.Prelude.{Ok, Err, IfOk}
 use mathlib.Core.Bool.{Bool, false}
 use mathlib.Core.List.{List, [], ◌∷◌}
 use mathlib.Core.Path.{◌≡◌, refl, sym, ap, ◌∙◌, subst}
@@ -26,7 +26,7 @@ use Rattle.station.proofs.Station.start as Start
 use Rattle.station.proofs.Station.take as Take
 use Rattle.station.specs.Asking.{permission_of}
 use Rattle.station.specs.Clock.{advance_means, advance_of}
-use Rattle.station.specs.Starting.{start_forbids, started, start_means}
+use Rattle.station.specs.Starting.{start_forbids, start_means}
 use Rattle.station.specs.Taking.{take_means, take_of}
 use Rattle.station.specs.Validity.{Valid}
 use Rattle.station.specs.declared.Station.{Station}
@@ -105,10 +105,10 @@ module _ (s : Settings) (may : start_forbids s.own s.ap s.interval s.channel ≡
   starts_can = (
     tt,
     (s.own, (s.ap, (s.interval, (s.channel, tt)))),
-    started (start_means s.own s.ap s.interval s.channel),
+    start_means s.own s.ap s.interval s.channel,
     at_exit (ended_of 0 Start.Kinds.ps Start.Kinds.r) tt (s.own, (s.ap, (s.interval, (s.channel, tt)))) (tt, (tt, (tt, (tt, tt)))),
-    (refl, λ e. subst (λ (o : Outcome Station). Valid (started o).station) (sym accepts) (is_fresh s (record_after s []) accepts).1),
-    (refl, refl, refl, refl, ap (λ (o : Outcome Station). (started o).answer) accepts, ap (λ (o : Outcome Station). (started o).station) accepts),
+    (refl, subst (λ (o : Outcome Station). IfOk o Valid) (sym accepts) (is_fresh s (record_after s []) accepts).1),
+    (refl, refl, refl, refl, accepts),
   )
 
 module _ (r : Station) (v : Valid r) where

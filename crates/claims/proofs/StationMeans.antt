@@ -15,13 +15,12 @@ use Rattle.station.proofs.Received.{valid_heard, read_means}
 use Rattle.station.proofs.StaysValid.{valid_fresh, advanced as advances_validly}
 use Rattle.station.specs.Asking.{permission_of}
 use Rattle.station.specs.Clock.{advance_means, advance_of}
-use Rattle.station.specs.Starting.{started, start_means}
+use Rattle.station.specs.Starting.{start_means}
 use Rattle.station.specs.Taking.{taken, take_of}
 use Rattle.station.specs.Validity.{Valid}
 use Rattle.station.specs.declared.Station.{Station}
 use Rattle.station.specs.declared.asking.Permission.{Permission}
 use Rattle.station.specs.declared.clock.Stepped.{Stepped}
-use Rattle.station.specs.declared.starting.Started.{Started}
 use Rattle.station.specs.declared.taking.Taken.{Taken}
 use Rattle.claims.specs.Histories.{Call, frame, advance, ask, History}
 use Rattle.claims.specs.Records.{record_from, record_after}
@@ -74,13 +73,9 @@ is_fresh s r e =
     (sym same, subst Valid same (valid_fresh s.own s.ap s.interval s.channel p.0))
 
 pub starts_means : (s : Settings) (r : Station) → Starts s r → Exactly Valid r (record_after s [])
-starts_means s r (κs, a, x, e, promise, (own, ap', interval, channel, accepts, result)) =
-    let same : x ≡ started (start_means s.own s.ap s.interval s.channel) = rw (← own, ← ap', ← interval, ← channel) promise.0 in
-    by (start_means s.own s.ap s.interval s.channel) refl (ap (λ (y : Started). y.answer) (sym same) ∙ accepts) (sym result ∙ ap (λ (y : Started). y.station) same)
-  where
-    by : (o : Outcome Station) → start_means s.own s.ap s.interval s.channel ≡ o → (started o).answer ≡ Ok tt → r ≡ (started o).station → Exactly Valid r (record_after s [])
-    by (Err q) given says left = absurd (let z : ◌≡◌ {A = ℕ} 0 1 = cc in omega arith)
-    by (Ok t) given says left = is_fresh s r (given ∙ ap Ok (sym left))
+starts_means s r (κs, a, x, e, promise, (own, ap', interval, channel, accepts)) =
+    let same : x ≡ start_means s.own s.ap s.interval s.channel = rw (← own, ← ap', ← interval, ← channel) promise.0 in
+    is_fresh s r (sym same ∙ accepts)
 
 pub takes_means : {before r : Station} {f : List ℕ} {v : Verdict} → Takes before f v r → (v ≡ (take_of before f).verdict) × (r ≡ (take_of before f).station) × Valid r
 takes_means {before} {r} {f} (κs, a, x, e, promise, (self, octets, verdict, result)) =

@@ -1,6 +1,6 @@
 -- The station's calls: each promise leaves one outcome, a refused frame or advance leaves the station as it was,
--- and a refused start gives none that a call may be handed. Assumes nothing.
-use Rattle.std.specs.Prelude.{Ok, Err}
+-- and where there is no station there is none that a call may be handed. Assumes nothing.
+use Rattle.std.specs.Prelude.{Ok, Err, Some}
 use mathlib.Core.Path.{◌≡◌, refl, sym, ap, ◌∙◌}
 use Prim.Native.Nat.{ℕ}
 use native.Mathlib.Omega.{arith}
@@ -11,10 +11,10 @@ use Rattle.answer.specs.Checks.{Outcome}
 use Rattle.answer.specs.Faults.{Placed}
 use Rattle.answer.specs.declared.Fault.{Fault}
 use Rattle.answer.specs.declared.Refusal.{Refusal}
-use Rattle.pending.proofs.Pending.comes_before as ComesBefore
-use Rattle.pending.proofs.Pending.set_by as PendingSetBy
-use Rattle.pending.proofs.Pending.silences as Silences
-use Rattle.pending.proofs.Pending.up_to as UpTo
+use Rattle.pending.proofs.comes_before as ComesBefore
+use Rattle.pending.proofs.Switch.set_by as SwitchSetBy
+use Rattle.pending.proofs.silences as Silences
+use Rattle.pending.proofs.up_to as UpTo
 use Rattle.station.proofs.Station.advance as Advance
 use Rattle.station.proofs.Station.ask as Ask
 use Rattle.station.proofs.Station.clear_until as ClearUntil
@@ -61,8 +61,8 @@ clear_until_lem κs a e f x y p q = once p q
 pub permission_number_lem : OneResult 0 PermissionNumber.Kinds.ps PermissionNumber.Kinds.r PermissionNumber.Reads.Post
 permission_number_lem κs a e f x y p q = once p q
 
-pub pending_set_by : OneResult 0 PendingSetBy.Kinds.ps PendingSetBy.Kinds.r PendingSetBy.Reads.Post
-pending_set_by κs a e f x y p q = once p q
+pub pending_set_by : OneResult 0 SwitchSetBy.Kinds.ps SwitchSetBy.Kinds.r SwitchSetBy.Reads.Post
+pending_set_by κs a e f x y p q = let same : Some x ≡ Some y = once p q in cc
 
 pub pending_silences : OneResult 0 Silences.Kinds.ps Silences.Kinds.r Silences.Reads.Post
 pending_silences κs a e f x y p q = once p q
@@ -103,6 +103,6 @@ pub refused_advance : (κs : Lfts 0) (a : Dens κs Advance.Kinds.ps) (e : AtExit
     → Advance.Reads.Post κs a x e → x.answer ≡ Err r → x.station ≡ a.0
 refused_advance κs a e x r p f = stepped_same a.0 (advance_means a.0 a.1.0) x r p.0 f
 
--- no call may be handed what stands beside a refused start
+-- no call may be handed what stands where there is no station
 pub refused_start_invalid : Valid blank → ⊥
 refused_start_invalid v = omega (arith, v.interval_positive)

@@ -11,6 +11,7 @@ use lib.Dec.{ltb, eqb}
 use lib.ListN.{length, take, replicate}
 use lib.Seq.{take_at}
 use Rattle.answer.proofs.Booleans.{neither}
+use Rattle.answer.proofs.Judged.{passed, kept}
 use Rattle.answer.proofs.Yielding.{Yields, of_refusal, of_value, after_check, after_all, after_value}
 use Rattle.answer.specs.Checks.{pick}
 use Rattle.beacon.specs.Beacons.{quiet_limit, Told, tells}
@@ -124,25 +125,25 @@ switched_fits s channel f =
     0 (omega arith)
 
 -- where the clock goes on to a moment that it tells, whether or not a switch is met there
-reached_fits : (s : Station) (t : ℕ) (p : Option Switch) → Fits s → t < 256 ^ 4 → Yields Fits (advanced_to s (reached t p))
-reached_fits s t None f h = of_value Fits (clock_changed s f t h)
+reached_fits : (s : Station) (t : ℕ) (p : Option Switch) → Fits s → t < 256 ^ 4 → Fits (advanced_to s (reached t p))
+reached_fits s t None f h = clock_changed s f t h
 reached_fits s t (Some x) f h = by_test_lem (ltb t x.at)
   where
-    by_test_lem : (before : Bool) → Yields Fits (advanced_to s (pick before (Advanced.Goes t) (Advanced.Switches t x.channel)))
-    by_test_lem true = of_value Fits (clock_changed s f t h)
-    by_test_lem false = of_value Fits (switched_fits (with_clock s t) x.channel (clock_changed s f t h))
+    by_test_lem : (before : Bool) → Fits (advanced_to s (pick before (Advanced.Goes t) (Advanced.Switches t x.channel)))
+    by_test_lem true = clock_changed s f t h
+    by_test_lem false = switched_fits (with_clock s t) x.channel (clock_changed s f t h)
 
 -- an accepted advance keeps a station fit
 pub advanced_fits : (s : Station) (n : ℕ) (t : Station) → Fits s → advance_means s n ≡ Ok t → Fits t
 unfolding advance_means clock_advance
-advanced_fits s n t f = by_test_lem (ltb unit_limit n || ltb clock_limit (s.clock + n)) refl t
-  where
-    by_test_lem : (far : Bool) → (ltb unit_limit n || ltb clock_limit (s.clock + n)) ≡ far
-        → Yields Fits (advanced_to s (pick far Advanced.Refused (reached (s.clock + n) s.pending)))
-    by_test_lem true e = of_refusal Fits _
-    by_test_lem false e =
-        let near : s.clock + n ≤ clock_limit = ltb-false clock_limit (s.clock + n) (neither (ltb unit_limit n) _ e).1 in
-        reached_fits s (s.clock + n) s.pending f (omega arith)
+advanced_fits s n t f =
+    after_value Fits (clock_advance s.clock s.pending n) _
+    (λ a e.
+    let p = passed _ _ _ e in
+    let near : s.clock + n ≤ clock_limit = ltb-false clock_limit (s.clock + n) (neither (ltb unit_limit n) _ p.0).1 in
+    let fits = reached_fits s (s.clock + n) s.pending f (omega arith) in
+    of_value Fits (subst (λ (b : Advanced). Fits (advanced_to s b)) (kept _ p.1) fits))
+    t
 
 -- ---- an accepted frame
 

@@ -17,7 +17,7 @@ use Rattle.answer.specs.Faults.{Verdict}
 abbrev pub MemberStarts : Settings → Member → Type 0
 MemberStarts s m =
     Called 0 Start.Kinds.ps Start.Kinds.r Start.Reads.Post
-    (λ κs a x e. (a.0 ≡ s.own) × (a.1.0 ≡ s.ap) × (a.1.1.0 ≡ s.interval) × (a.1.1.1.0 ≡ s.channel) × (x.answer ≡ Ok tt) × (x.member ≡ m))
+    (λ κs a x e. (a.0 ≡ s.own) × (a.1.0 ≡ s.ap) × (a.1.1.0 ≡ s.interval) × (a.1.1.1.0 ≡ s.channel) × (x ≡ Ok m))
 
 -- `Member::take` was called on a record with the octets of a frame, gave this verdict and left this record
 abbrev pub MemberTakes : Member → List ℕ → Verdict → Member → Type 0

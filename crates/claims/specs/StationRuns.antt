@@ -22,7 +22,7 @@ pub data Said : Type 0 where
 abbrev pub Starts : Settings → Station → Type 0
 Starts s r =
     Called 0 Start.Kinds.ps Start.Kinds.r Start.Reads.Post
-    (λ κs a x e. (a.0 ≡ s.own) × (a.1.0 ≡ s.ap) × (a.1.1.0 ≡ s.interval) × (a.1.1.1.0 ≡ s.channel) × (x.answer ≡ Ok tt) × (x.station ≡ r))
+    (λ κs a x e. (a.0 ≡ s.own) × (a.1.0 ≡ s.ap) × (a.1.1.0 ≡ s.interval) × (a.1.1.1.0 ≡ s.channel) × (x ≡ Ok r))
 
 -- `Station::take` was called on a record with the octets of a frame, gave this verdict and left this record
 abbrev pub Takes : Station → List ℕ → Verdict → Station → Type 0

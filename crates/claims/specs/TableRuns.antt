@@ -2,6 +2,7 @@
 use Rattle.std.specs.Prelude.{List, ◌≡◌, ℕ, Ok}
 use Rattle.element.specs.declared.tpc_report.TpcReport.{TpcReport}
 use Rattle.measured_report.specs.declared.Readings.{Readings}
+use Rattle.station.specs.declared.asking.Permission.{Permission}
 use Rattle.table.proofs.Table.ask as Ask
 use Rattle.table.proofs.Table.join as Join
 use Rattle.table.proofs.Table.leave as Leave
@@ -45,14 +46,13 @@ pub record TableSettings : Type 0 where
 abbrev pub started_with : List ℕ → ℕ → TableSettings
 started_with ap b = record { ap = ap; interval = b }
 
--- `Table::start` was called with the settings, answered this and gave this table
-abbrev pub TableStartGives : TableSettings → Answer → Table → Type 0
-TableStartGives s v t =
-    Called 0 Start.Kinds.ps Start.Kinds.r Start.Reads.Post (λ κs a x e. (a.0 ≡ s.ap) × (a.1.0 ≡ s.interval) × (x.answer ≡ v) × (x.table ≡ t))
+-- `Table::start` was called with the settings and gave this, a table or a refusal
+abbrev pub TableStartGives : TableSettings → Outcome Table → Type 0
+TableStartGives s o = Called 0 Start.Kinds.ps Start.Kinds.r Start.Reads.Post (λ κs a x e. (a.0 ≡ s.ap) × (a.1.0 ≡ s.interval) × (x ≡ o))
 
 -- it accepted them
 abbrev pub TableStarts : TableSettings → Table → Type 0
-TableStarts s t = TableStartGives s (Ok tt) t
+TableStarts s t = TableStartGives s (Ok t)
 
 -- the function of the call was called on a table, answered this and left that table
 abbrev pub Does : Table → TableCall → TableAnswer → Table → Type 0

@@ -1,19 +1,18 @@
 -- Elements of a body by their index. Assumes nothing.
 use Rattle.std.specs.Prelude.{Ok, Err, Some, None, Option}
 use mathlib.Core.Path.{◌≡◌, refl, sym, ap, subst, ◌∙◌}
-use mathlib.Core.Bool.{Bool, true, false}
+use mathlib.Core.Bool.{Bool}
 use mathlib.Core.List.{List}
 use Prim.Native.Nat.{ℕ}
 use lib.ListN.{length, drop}
 use Rattle.action.specs.Openings.{fixed_fields, switch_fixed_fields}
 use Rattle.action.specs.declared.Opening.{Opening}
-use Rattle.answer.proofs.Judged.{never, followed}
+use Rattle.answer.proofs.Judged.{followed}
 use Rattle.answer.proofs.Placing.{past_value}
 use Rattle.answer.specs.Checks.{Outcome, and_then}
 use Rattle.answer.specs.Faults.{Placed, nowhere, without_place, placed_past}
-use Rattle.answer.specs.declared.Fault.{Fault}
 use Rattle.answer.specs.declared.Refusal.{Refusal}
-use Rattle.beacon.specs.Beacons.{Told, beacon_means}
+use Rattle.beacon.specs.Beacons.{beacon_means}
 use Rattle.element.specs.ChannelSwitch.{switch_means}
 use Rattle.element.specs.TpcReport.{tpc_report_means}
 use Rattle.element.specs.TpcRequest.{tpc_request_means}
@@ -22,14 +21,13 @@ use Rattle.header.specs.declared.Head.{Head}
 use Rattle.header.specs.declared.address.Cell.{Cell}
 use Rattle.header.specs.declared.management.Subtype.{Subtype}
 use Rattle.measurement_body.proofs.PlacesRead.{Reads, place_reads}
-use Rattle.measurement_body.specs.Kinds.{Measurement, sort_of}
+use Rattle.measurement_body.specs.Kinds.{sort_of}
 use Rattle.measurement_body.specs.Lists.{Sort, measurements_in, nth}
 use Rattle.measurement_body.specs.Reports.{report_sort}
 use Rattle.measurement_body.specs.Requests.{request_sort}
 use Rattle.measurement_body.specs.Surveys.{place_in, surveyed_as, surveyed}
 use Rattle.measurement_body.specs.declared.kinds.Kind as Measurements
 use Rattle.walk.specs.declared.Contents.{Contents}
-use Rattle.measurement_body.specs.declared.surveying.Surveyed.{Surveyed}
 use Rattle.measurement_element.specs.MeasurementReport.{report_means}
 use Rattle.measurement_element.specs.MeasurementRequest.{request_means}
 use Rattle.measurement_element.specs.declared.measurement_report.Report.{Report}
@@ -44,8 +42,6 @@ use Rattle.frame.specs.Actions.{Body, requests, reports, tpc_request, tpc_report
 use Rattle.frame.specs.CodeTerms.Located.{unplaced, placed, body_located, located, kind_located, located_in, kind_means, PlaceWithin, means_at, asked_of}
 use Rattle.frame.specs.CodeTerms.SingleFrames.{single_frame, single_opening}
 use Rattle.frame.specs.Frames.{Kind, beacon, probe_response, action, kind_of, sent, frame_means, request_in, report_in, of_kind, element_of}
-use Rattle.frame.specs.Laid.{body_frame, frame_laid, notice_subtype}
-use Rattle.frame.specs.declared.Received.{Received}
 use Rattle.frame.specs.declared.Frame.{Frame}
 use Rattle.frame.specs.declared.bodies.Located.{Located}
 use Rattle.frame.specs.declared.index.Asked.{Asked}
@@ -54,15 +50,6 @@ use Rattle.frame.proofs.ActionParts.{parts}
 -- ---- what is found of a body
 
 module _ (body : List ℕ) (i : ℕ) where
-  -- its frame
-  pub located_frame : (o : Placed Body) → and_then (located i body o) (λ l. Ok l.frame) ≡ body_frame o
-  located_frame (Err r) = refl
-  located_frame (Ok (requests t rs)) = refl
-  located_frame (Ok (reports t rs)) = refl
-  located_frame (Ok (tpc_request t)) = refl
-  located_frame (Ok (tpc_report t r)) = refl
-  located_frame (Ok (switch s)) = refl
-
   -- a body of one element has no place
   one_element : {X : Type 0} (n id : ℕ) (means : List ℕ → Outcome X) (es : Handed) (token : ℕ) (says : X → Single) (make : X → Body)
       → ((a : X) → unplaced (single_frame token (says a)) ≡ body_located i body (make a))
@@ -75,45 +62,32 @@ module _ (body : List ℕ) (i : ℕ) where
       by (Err r) = refl
       by (Ok a) = ap Ok (none a)
 
-  pub found_alone : (k : Singles.Kind) (token : ℕ) {o : Placed Single} → o ≡ single (fields_before k) (id_of k) (contents_mean k) (handed_in (drop (fields_before k) body))
-      → and_then o (λ s. Ok (unplaced (single_frame token s))) ≡ located i body (after_opening body (single_opening k token))
-  found_alone k token e = ap (λ (o : Placed Single). and_then o (λ s. Ok (unplaced (single_frame token s)))) e ∙ by k
-    where
-      by : (k : Singles.Kind)
-          → and_then (single (fields_before k) (id_of k) (contents_mean k) (handed_in (drop (fields_before k) body))) (λ s. Ok (unplaced (single_frame token s)))
-          ≡ located i body (after_opening body (single_opening k token))
-      by Singles.Kind.TpcRequest =
-          one_element fixed_fields 34 tpc_request_means (handed_in (drop fixed_fields body)) token (λ u. Single.TpcRequest) (λ u. tpc_request token) (λ u. refl)
-      by Singles.Kind.TpcReport =
-          one_element fixed_fields 35 tpc_report_means (handed_in (drop fixed_fields body)) token Single.TpcReport (tpc_report token) (λ t. refl)
-      by Singles.Kind.ChannelSwitch =
-          one_element switch_fixed_fields 37 switch_means (handed_in (drop switch_fixed_fields body)) token Single.ChannelSwitch switch (λ s. refl)
+  pub found_alone : (k : Singles.Kind) (token : ℕ) → located i body (after_opening body (single_opening k token))
+      ≡ and_then (single (fields_before k) (id_of k) (contents_mean k) (handed_in (drop (fields_before k) body))) (λ s. Ok (unplaced (single_frame token s)))
+  found_alone Singles.Kind.TpcRequest token =
+      sym (one_element fixed_fields 34 tpc_request_means (handed_in (drop fixed_fields body)) token (λ u. Single.TpcRequest) (λ u. tpc_request token) (λ u. refl))
+  found_alone Singles.Kind.TpcReport token =
+      sym (one_element fixed_fields 35 tpc_report_means (handed_in (drop fixed_fields body)) token Single.TpcReport (tpc_report token) (λ t. refl))
+  found_alone Singles.Kind.ChannelSwitch token =
+      sym (one_element switch_fixed_fields 37 switch_means (handed_in (drop switch_fixed_fields body)) token Single.ChannelSwitch switch (λ s. refl))
 
   -- a body of measurement elements has those of its survey
-  module _ (token : ℕ) where
-    made : (k : Measurements.Kind) → List (Measurement k) → Body
-    made Measurements.Kind.Requests xs = requests token xs
-    made Measurements.Kind.Reports xs = reports token xs
+  requested : (token : ℕ) (o : Placed (List Request))
+      → located i body (and_then o (λ rs. Ok (requests token rs)))
+      ≡ and_then (surveyed_as request_sort i 0 body o) (λ v. Ok (placed Measurements.Kind.Requests token v.count v.place))
+  requested token (Err x) = refl
+  requested token (Ok rs) = refl
 
-    after : (k : Measurements.Kind)
-        → and_then (measurements_in (sort_of k) (drop fixed_fields body)) (λ xs. Ok (made k xs)) ≡ after_opening body (Opening.Token (sort_of k).action token)
-    unfolding made
-    after Measurements.Kind.Requests = refl
-    after Measurements.Kind.Reports = refl
+  reported : (token : ℕ) (o : Placed (List Report))
+      → located i body (and_then o (λ rs. Ok (reports token rs)))
+      ≡ and_then (surveyed_as report_sort i 0 body o) (λ v. Ok (placed Measurements.Kind.Reports token v.count v.place))
+  reported token (Err x) = refl
+  reported token (Ok rs) = refl
 
-    pub measured : (k : Measurements.Kind) (t : ℕ) {o : Placed Surveyed} → o ≡ surveyed (sort_of k) i t body
-        → and_then o (λ v. Ok (placed k token v.count v.place)) ≡ located i body (after_opening body (Opening.Token (sort_of k).action token))
-    unfolding made
-    measured k t e =
-        ap (λ (o : Placed Surveyed). and_then o (λ v. Ok (placed k token v.count v.place))) e
-        ∙ by k (measurements_in (sort_of k) (drop fixed_fields body))
-        ∙ ap (located i body) (after k)
-      where
-        by : (k : Measurements.Kind) (o : Placed (List (Measurement k)))
-            → and_then (surveyed_as (sort_of k) i t body o) (λ v. Ok (placed k token v.count v.place)) ≡ located i body (and_then o (λ xs. Ok (made k xs)))
-        by k (Err x) = refl
-        by Measurements.Kind.Requests (Ok xs) = refl
-        by Measurements.Kind.Reports (Ok xs) = refl
+  pub measured : (k : Measurements.Kind) (token : ℕ) → located i body (after_opening body (Opening.Token (sort_of k).action token))
+      ≡ and_then (surveyed (sort_of k) i 0 body) (λ v. Ok (placed k token v.count v.place))
+  measured Measurements.Kind.Requests token = requested token (measurements_in request_sort (drop fixed_fields body))
+  measured Measurements.Kind.Reports token = reported token (measurements_in report_sort (drop fixed_fields body))
 
   -- ---- what is read at a place
 
@@ -171,46 +145,6 @@ module _ (body : List ℕ) (i : ℕ) where
       by (Ok (tpc_report t r)) g = refl
       by (Ok (switch s)) g = refl
 
-  -- the request alone
-  pub asked_request : (o : Placed Body) {p : Placed Asked} → p ≡ asked_of i o → and_then (without_place p) (λ a. a.request) ≡ and_then (without_place o) (request_in i)
-  asked_request o e = ap (λ (p : Placed Asked). and_then (without_place p) (λ a. a.request)) e ∙ by o
-    where
-      by : (o : Placed Body) → and_then (without_place (asked_of i o)) (λ a. a.request) ≡ and_then (without_place o) (request_in i)
-      by (Err x) = refl
-      by (Ok b) = refl
-
-  -- ---- in a body of any subtype, with the header before it
-
-  pub of_action : (o : Placed Body) {p : Placed Located} → p ≡ located i body o
-      → placed_past header_length p ≡ located_in i body (placed_past header_length (and_then o (λ a. Ok (action a))))
-  of_action o e = ap (placed_past header_length) e ∙ by o
-    where
-      by : (o : Placed Body) → placed_past header_length (located i body o) ≡ located_in i body (placed_past header_length (and_then o (λ a. Ok (action a))))
-      by (Err x) = refl
-      by (Ok b) = refl
-
-  pub of_notice : (b : ℕ) (probe : Bool) {o : Placed Received} → o ≡ frame_laid (sent false (placed_past header_length (kind_of b (notice_subtype probe) body)))
-      → and_then o (λ v. Ok (unplaced v.frame)) ≡ located_in i body (placed_past header_length (kind_of b (notice_subtype probe) body))
-  of_notice b probe e = ap (λ (o : Placed Received). and_then o (λ v. Ok (unplaced v.frame))) e ∙ by probe
-    where
-      by_probe : (o : Placed Told)
-          → and_then (frame_laid (sent false (placed_past header_length (and_then o (λ t. Ok (probe_response t)))))) (λ v. Ok (unplaced v.frame))
-          ≡ located_in i body (placed_past header_length (and_then o (λ t. Ok (probe_response t))))
-      by_probe (Err x) = refl
-      by_probe (Ok t) = refl
-
-      by_beacon : (o : Placed Told)
-          → and_then (frame_laid (sent false (placed_past header_length (and_then o (λ t. Ok (beacon t)))))) (λ v. Ok (unplaced v.frame))
-          ≡ located_in i body (placed_past header_length (and_then o (λ t. Ok (beacon t))))
-      by_beacon (Err x) = refl
-      by_beacon (Ok t) = refl
-
-      by : (p : Bool)
-          → and_then (frame_laid (sent false (placed_past header_length (kind_of b (notice_subtype p) body)))) (λ v. Ok (unplaced v.frame))
-          ≡ located_in i body (placed_past header_length (kind_of b (notice_subtype p) body))
-      by true = by_probe (beacon_means b body)
-      by false = by_beacon (beacon_means b body)
-
   -- the kind of a body says what is found there
   in_kind : (b : ℕ) (t : Subtype) (k : Kind) → kind_of b t body ≡ Ok k → There (kind_located i body k) (of_kind request_in i k) (of_kind report_in i k)
   in_kind b t (beacon n) e = nothing_there _
@@ -228,65 +162,47 @@ module _ (own ap' : List ℕ) (b : ℕ) (f : List ℕ) where
   abbrev kind_in : Head → Placed Kind
   kind_in h = placed_past header_length (kind_of b h.subtype (body_of f))
 
-  -- the kind of a frame, by its header
-  pub by_header : (o : Outcome Head) → o ≡ header_means Cell.Ap own ap' f → and_then (nowhere o) kind_in ≡ kind_means own ap' b f
-  unfolding kind_means
-  by_header o e = ap (λ (x : Outcome Head). and_then (nowhere x) kind_in) e
+  -- what is read where an element was found is the element of the frame
+  module _ {A : Type 0} (element_in : ℕ → Body → Outcome A) (i : ℕ) (reads : Located → Outcome A)
+      (same : (t : Subtype) (k : Kind) → kind_of b t (body_of f) ≡ Ok k → reads (kind_located i (body_of f) k) ≡ of_kind element_in i k) where
+    element_read : element_of element_in i (frame_means own ap' b f) ≡ and_then (without_place (located_in i (body_of f) (kind_means own ap' b f))) reads
+    unfolding kind_means frame_means element_of
+    element_read = by (header_means Cell.Ap own ap' f)
+      where
+        by_kind : (to_all : Bool) (t : Subtype) (o : Placed Kind) → kind_of b t (body_of f) ≡ o
+            → and_then (without_place (sent to_all (placed_past header_length o))) (λ s. of_kind element_in i s.kind)
+            ≡ and_then (without_place (located_in i (body_of f) (placed_past header_length o))) reads
+        by_kind to_all t (Err x) e = refl
+        by_kind to_all t (Ok k) e = sym (same t k e)
 
-  -- its elements are those of its kind
-  by_kind : {A : Type 0} (element_in : ℕ → Body → Outcome A) (i : ℕ)
-      → and_then (without_place (kind_means own ap' b f)) (of_kind element_in i) ≡ element_of element_in i (frame_means own ap' b f)
-  unfolding kind_means frame_means element_of
-  by_kind element_in i = by (header_means Cell.Ap own ap' f)
-    where
-      by_body : (to_all : Bool) (o : Placed Kind)
-          → and_then (without_place o) (of_kind element_in i) ≡ and_then (without_place (sent to_all o)) (λ s. of_kind element_in i s.kind)
-      by_body to_all (Err x) = refl
-      by_body to_all (Ok k) = refl
+        by : (o : Outcome Head)
+            → and_then (without_place (and_then (nowhere o) (λ h. sent h.to_all (kind_in h)))) (λ s. of_kind element_in i s.kind)
+            ≡ and_then (without_place (located_in i (body_of f) (and_then (nowhere o) kind_in))) reads
+        by (Err r) = refl
+        by (Ok h) = by_kind h.to_all h.subtype (kind_of b h.subtype (body_of f)) refl
 
-      by : (o : Outcome Head)
-          → and_then (without_place (and_then (nowhere o) kind_in)) (of_kind element_in i)
-          ≡ and_then (without_place (and_then (nowhere o) (λ h. sent h.to_all (kind_in h)))) (λ s. of_kind element_in i s.kind)
-      by (Err r) = refl
-      by (Ok h) = by_body h.to_all (kind_in h)
+  module _ (i : ℕ) where
+    pub request_found : element_of request_in i (frame_means own ap' b f)
+        ≡ and_then (without_place (located_in i (body_of f) (kind_means own ap' b f))) (λ l. means_at request_means (body_of f) l.request)
+    request_found = element_read request_in i (λ l. means_at request_means (body_of f) l.request) (λ t k e. (in_kind (body_of f) i b t k e).request_is)
 
-  -- a frame that is refused has none
-  pub refused_there : {A : Type 0} (element_in : ℕ → Body → Outcome A) (i : ℕ) {x : Fault} → Err x ≡ located_in i (body_of f) (kind_means own ap' b f)
-      → Err x.refusal ≡ element_of element_in i (frame_means own ap' b f)
-  refused_there element_in i {x} e = by (kind_means own ap' b f) e ∙ by_kind element_in i
-    where
-      by : (o : Placed Kind) → Err x ≡ located_in i (body_of f) o → Err x.refusal ≡ and_then (without_place o) (of_kind element_in i)
-      by (Err y) g = let same : x ≡ y = cc in ap (λ (z : Fault). Err z.refusal) same
-      by (Ok k) g = absurd (never g)
+    pub report_found : element_of report_in i (frame_means own ap' b f)
+        ≡ and_then (without_place (located_in i (body_of f) (kind_means own ap' b f))) (λ l. means_at report_means (body_of f) l.report)
+    report_found = element_read report_in i (λ l. means_at report_means (body_of f) l.report) (λ t k e. (in_kind (body_of f) i b t k e).report_is)
 
-  -- what was found in the frame, and its body as it is lent
-  pub found_there : (i : ℕ) {body : List ℕ} {l : Located} → body ≡ body_of f → Ok l ≡ located_in i (body_of f) (kind_means own ap' b f)
-      → There body i l (element_of request_in i (frame_means own ap' b f)) (element_of report_in i (frame_means own ap' b f))
-  unfolding kind_means
-  found_there i {body} {l} e g =
-      subst (λ (x : List ℕ). There x i l (element_of request_in i (frame_means own ap' b f)) (element_of report_in i (frame_means own ap' b f))) (sym e) inside
-    where
-      -- the kind that was found
-      kind : (k : Kind) × (kind_means own ap' b f ≡ Ok k) × (◌≡◌ {A = Placed Located} (Ok (kind_located i (body_of f) k)) (Ok l))
-      kind = followed (kind_means own ap' b f) _ l (sym g)
+    -- the places lie in the body
+    module _ {body : List ℕ} {l : Located} (lent : body ≡ body_of f) (found : Ok l ≡ located_in i (body_of f) (kind_means own ap' b f)) where
+      within : PlaceWithin (body_of f) l.request × PlaceWithin (body_of f) l.report
+      unfolding kind_means
+      within =
+          let k = followed (kind_means own ap' b f) _ l (sym found) in
+          let h = followed (nowhere (header_means Cell.Ap own ap' f)) kind_in k.0 k.1 in
+          let t = in_kind (body_of f) i b h.0.subtype k.0 (past_value header_length (kind_of b h.0.subtype (body_of f)) h.2) in
+          let same : kind_located i (body_of f) k.0 ≡ l = cc k.2 in
+          subst (λ (x : Located). PlaceWithin (body_of f) x.request × PlaceWithin (body_of f) x.report) same (t.request_within, t.report_within)
 
-      of_body : There (body_of f) i (kind_located i (body_of f) kind.0) (of_kind request_in i kind.0) (of_kind report_in i kind.0)
-      of_body =
-          let p = followed (nowhere (header_means Cell.Ap own ap' f)) kind_in kind.0 kind.1 in
-          in_kind (body_of f) i b p.0.subtype kind.0 (past_value header_length (kind_of b p.0.subtype (body_of f)) p.2)
+      pub request_placed : PlaceWithin body l.request
+      request_placed = subst (λ (x : List ℕ). PlaceWithin x l.request) (sym lent) within.0
 
-      element : {A : Type 0} (element_in : ℕ → Body → Outcome A) → of_kind element_in i kind.0 ≡ element_of element_in i (frame_means own ap' b f)
-      element element_in = ap (λ (o : Placed Kind). and_then (without_place o) (of_kind element_in i)) (sym kind.1) ∙ by_kind element_in i
-
-      same : kind_located i (body_of f) kind.0 ≡ l
-      same = cc kind.2
-
-      inside : There (body_of f) i l (element_of request_in i (frame_means own ap' b f)) (element_of report_in i (frame_means own ap' b f))
-      inside =
-          let t = subst (λ (x : Located). There (body_of f) i x (of_kind request_in i kind.0) (of_kind report_in i kind.0)) same of_body in
-          record {
-            request_within = t.request_within;
-            report_within = t.report_within;
-            request_is = t.request_is ∙ element request_in;
-            report_is = t.report_is ∙ element report_in;
-          }
+      pub report_placed : PlaceWithin body l.report
+      report_placed = subst (λ (x : List ℕ). PlaceWithin x l.report) (sym lent) within.1

@@ -3,11 +3,9 @@ pub mod ActionTrip
 pub mod Allowing
 pub mod BodyFaults
 pub mod FromAp
-pub mod Hearings
 pub mod IbssNames
 pub mod Indexing
 pub mod Openings
-pub mod ReadFrames
 pub mod ReadInIbss
 pub mod SingleTrip
 pub mod Within

@@ -1,18 +1,10 @@
 -- What the opening of a body says of it. Assumes nothing.
-use mathlib.Core.Path.{◌≡◌, ap}
+use mathlib.Core.Path.{◌≡◌}
 use mathlib.Core.List.{List}
 use Prim.Native.Nat.{ℕ}
 use borrow.Author.Tests.{ne_eqb}
-use Rattle.action.specs.Openings.{opens_with}
 use Rattle.action.specs.declared.Opening.{Opening}
-use Rattle.answer.specs.Checks.{and_then}
-use Rattle.answer.specs.Faults.{Placed}
-use Rattle.frame.specs.Actions.{after_opening, action_means}
-
--- a body means what stands after its opening
-pub opened : (body : List ℕ) (o : Placed Opening) → o ≡ opens_with body → and_then o (after_opening body) ≡ action_means body
-unfolding action_means
-opened body o e = ap (λ (x : Placed Opening). and_then x (after_opening body)) e
+use Rattle.frame.specs.Actions.{after_opening}
 
 -- past actions 0, 1 and 2 the body is a TPC Report's
 pub last : (body : List ℕ) (action token : ℕ) → (action ≡ 0 → ⊥) → (action ≡ 1 → ⊥) → (action ≡ 2 → ⊥)

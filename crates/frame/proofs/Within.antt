@@ -1,5 +1,5 @@
 -- A fault of a body, or of a frame, lies in it or at its end. Assumes nothing.
-use Rattle.std.specs.Prelude.{Ok, Err, Some, None, Option, IfOk}
+use Rattle.std.specs.Prelude.{Ok, Err, Some, None, Option, IfOk, IfErr}
 use mathlib.Core.Path.{◌≡◌, refl, sym, ap, subst}
 use mathlib.Core.Bool.{Bool, true, false}
 use mathlib.Core.List.{List}
@@ -14,17 +14,18 @@ use Rattle.answer.specs.declared.Fault.{Fault}
 use Rattle.beacon.specs.Beacons.{beacon_means}
 use Rattle.beacon.specs.IbssBeacons.{ToldInIbss, ibss_beacon_means, told_where}
 use Rattle.beacon.specs.Laid.{laid}
+use Rattle.beacon.specs.declared.Heard.{Heard}
 use Rattle.header.proofs.Heard.{has_header, not_too_long}
 use Rattle.header.specs.Headers.{header_length, body_of, sa, header_means}
 use Rattle.header.specs.declared.Head.{Head}
 use Rattle.header.specs.declared.address.Cell.{Cell}
 use Rattle.header.specs.declared.management.Subtype.{Subtype}
 use Rattle.measurement_body.specs.Bodies.{longest_body}
-use Rattle.frame.specs.Actions.{action_means}
+use Rattle.frame.specs.Actions.{Body, action_means}
 use Rattle.frame.specs.CodeTerms.Located.{OffsetWithin, located}
+use Rattle.frame.specs.declared.bodies.Located.{Located}
 use Rattle.frame.specs.Frames.{kind_of, frame_means}
 use Rattle.frame.specs.IbssFrames.{kind_in_ibss, ibss_frame_means}
-use Rattle.frame.specs.Laid.{body_frame}
 use Rattle.frame.proofs.BodyFaults.{action_faults, NoticeFaults, notice_faults, ibss_notice_faults}
 
 -- no further than so many octets
@@ -53,12 +54,12 @@ module _ {size : ℕ} (body : List ℕ) (h : length body ≤ size) where
   told_lies false b = by_then (Lies size) (beacon_means b body) _ (notice_lies b) (λ t e. by_value (Lies size) _)
 
   -- as `beacon::read` hands it out
-  pub heard_within : (ibss : Bool) (b i : ℕ) → Refuses (Lies size) (laid i (told_where ibss b body))
-  heard_within ibss b i = by (told_where ibss b body) (told_lies ibss b)
+  pub heard_within : (ibss : Bool) (b i : ℕ) {o : Placed Heard} → o ≡ laid i (told_where ibss b body) → IfErr o (Lies size)
+  heard_within ibss b i e = subst (λ (o : Placed Heard). IfErr o (Lies size)) (sym e) (by (told_where ibss b body) (told_lies ibss b))
     where
-      by : (o : Placed ToldInIbss) → Refuses (Lies size) o → Refuses (Lies size) (laid i o)
-      by (Err x) h = by_refusal (Lies size) (h x refl)
-      by (Ok t) h = by_value (Lies size) _
+      by : (o : Placed ToldInIbss) → Refuses (Lies size) o → IfErr (laid i o) (Lies size)
+      by (Err x) h = h x refl
+      by (Ok t) h = tt
 
   action_lies : Refuses (Lies size) (action_means body)
   action_lies =
@@ -80,12 +81,13 @@ module _ {size : ℕ} (body : List ℕ) (h : length body ≤ size) where
             };
       })
 
-  -- as `read_body` and `read_at` hand it out
-  pub body_within : Refuses (Lies size) (body_frame (action_means body))
-  body_within = by_then (Lies size) (action_means body) _ action_lies (λ a e. by_value (Lies size) _)
-
-  pub located_within : (i : ℕ) → Refuses (Lies size) (located i body (action_means body))
-  located_within i = by_then (Lies size) (action_means body) _ action_lies (λ a e. by_value (Lies size) _)
+  -- as `read_at` hands it out
+  pub located_within : (i : ℕ) {o : Placed Located} → o ≡ located i body (action_means body) → IfErr o (Lies size)
+  located_within i e = subst (λ (o : Placed Located). IfErr o (Lies size)) (sym e) (by (action_means body) action_lies)
+    where
+      by : (o : Placed Body) → Refuses (Lies size) o → IfErr (located i body o) (Lies size)
+      by (Err x) h = h x refl
+      by (Ok b) h = tt
 
 -- the body of a frame with a header that is heard is no longer than the longest
 pub body_short : (cell : Cell) (own bss f : List ℕ) (h : Head) → Ok h ≡ header_means cell own bss f → {body : List ℕ} → body ≡ body_of f → length body ≤ longest_body

@@ -1,5 +1,6 @@
--- What a station hears of a frame (01, "The station"): its refusal, or what it may change of a station and its Quiet elements. A beacon or a probe response replaces
--- all schedules and may have a Power Constraint and an announcement, a Channel Switch frame is an announcement, and the others change nothing.
+-- What a station hears of a frame (01, "The station"): its refusal, or what it may change of a station and its Quiet elements. A beacon or a
+-- probe response replaces all schedules and may have a Power Constraint and an announcement, a Channel Switch frame is an announcement, and the
+-- others change nothing.
 use Rattle.std.specs.Prelude.{Bool, true, false, Ok, Some, None, Option}
 use Rattle.answer.specs.Checks.{and_then}
 use Rattle.beacon.specs.declared.Notice.{Notice}

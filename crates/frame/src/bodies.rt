@@ -56,6 +56,7 @@ fn placed(kind: Kind, token: u8, count: usize, place: Option<Contents>) -> Locat
 }
 
 // Actions 0 and 1: one or more elements 38 or 39.
+#[tactic(auto, using(crate::proofs::Indexing::measured))]
 fn read_measurements(body: &[u8], kind: Kind, token: u8, index: usize) -> Result<Located, Fault>
     ensures { result ≡ located index body.now (after_opening body.now (Opening.Token (sort_of kind).action token)) }
 {
@@ -75,6 +76,7 @@ fn single_frame(said: Single, token: u8) -> Frame
 }
 
 // Actions 2, 3 and 4: one element. Action 4 has no token, so that the one given is not looked at.
+#[tactic(auto, using(crate::proofs::Indexing::found_alone))]
 fn read_single(body: &[u8], kind: single_body::Kind, token: u8) -> Result<Located, Fault>
     ensures { (index : ℕ) → result ≡ located index body.now (after_opening body.now (single_opening kind token)) }
 {

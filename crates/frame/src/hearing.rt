@@ -36,12 +36,10 @@ impl Change {
     fn by_notice(notice: Notice) -> Change
         ensures { result ≡ by_notice notice }
     {
-        let power = notice.power;
-        let switch = notice.switch;
         Change {
             replaces: true,
-            power,
-            switch,
+            power: notice.power,
+            switch: notice.switch,
         }
     }
 
@@ -50,19 +48,15 @@ impl Change {
         ensures { result ≡ by_frame frame }
     {
         match frame {
-            Frame::Beacon(notice) => Change::by_notice(notice),
-            Frame::ProbeResponse(notice) => Change::by_notice(notice),
+            Frame::Beacon(notice) | Frame::ProbeResponse(notice) => Change::by_notice(notice),
             Frame::ChannelSwitch(switch) => Change {
                 switch: Some(switch),
                 ..Change::NOTHING
             },
-            Frame::MeasurementRequest { token: _, count: _ } => Change::NOTHING,
-            Frame::MeasurementReport { token: _, count: _ } => Change::NOTHING,
-            Frame::TpcRequest { token: _ } => Change::NOTHING,
-            Frame::TpcReport {
-                token: _,
-                report: _,
-            } => Change::NOTHING,
+            Frame::MeasurementRequest { .. }
+            | Frame::MeasurementReport { .. }
+            | Frame::TpcRequest { .. }
+            | Frame::TpcReport { .. } => Change::NOTHING,
         }
     }
 }
@@ -91,17 +85,13 @@ fn hear_notice(body: &[u8], interval: u16) -> Result<Hearing, Fault>
     requires { length body.now ≤ longest_body }
     ensures { (probe to_all : Bool) → result ≡ hearing_of (frame_laid (sent to_all (placed_past header_length (kind_of interval (notice_subtype probe) body.now)))) }
 {
-    match beacon::read(body, interval, false, 0) {
-        Err(fault) => Err(places::fault_in_frame(fault)),
-        Ok(heard) => {
-            let quiets = heard.quiets;
-            Ok(Hearing {
-                change: Change::by_notice(heard.notice),
-                quiets,
-                count: heard.count,
-            })
-        }
-    }
+    let heard = places::beacon_body(body, interval, false, 0)?;
+    let quiets = heard.quiets;
+    Ok(Hearing {
+        change: Change::by_notice(heard.notice),
+        quiets,
+        count: heard.count,
+    })
 }
 
 // An action frame, whoever it was sent to.
@@ -109,10 +99,8 @@ fn hear_action(body: &[u8]) -> Result<Hearing, Fault>
     requires { length body.now ≤ longest_body }
     ensures { (to_all : Bool) → result ≡ hearing_of (frame_laid (sent to_all (placed_past header_length (kind_of 0 Subtype.Action body.now)))) }
 {
-    match crate::read_body(body) {
-        Err(fault) => Err(places::fault_in_frame(fault)),
-        Ok(frame) => Ok(heard_alone(frame)),
-    }
+    let found = places::action_body(body, 0)?;
+    Ok(heard_alone(found.frame))
 }
 
 // What a station hears of a frame: what `read` would hand out of it, as a hearing. `own` is the station's address, `ap` its AP's, `interval` its beacon

@@ -1,5 +1,5 @@
-// Frames as a station of an IBSS reads them (document 02, Five): document 01's, from any individual address, and the element 41 of a beacon beside them. In probe
-// responses element 41 is skipped.
+// Frames as a station of an IBSS reads them (document 02, Five): document 01's, from any individual address, and the element 41 of a beacon
+// beside them. In probe responses element 41 is skipped.
 ghost use Rattle.std.specs.Prelude.{◌≡◌, ◌≤◌, length, List, ℕ, None};
 ghost use Rattle.answer.specs.Faults.{placed_past};
 ghost use Rattle.frame.specs.CodeTerms.InIbss.{heard_laid};
@@ -16,6 +16,7 @@ use element::ibss_dfs::{ChannelMap, IbssDfs};
 use header::{Cell, Subtype};
 
 // What was received, who sent it, and the element 41 of a beacon, which names a DFS owner. Of a refused frame the sender is no one, and no owner is named.
+// Kept beside a refusal: the edit `sender_of_a_refused`, which must fail, needs a sender there.
 #[derive(Clone, Copy)]
 pub struct ReceivedInIbss {
     pub received: Result<Received, Fault>,
@@ -40,13 +41,11 @@ fn read_beacon(
     requires { length body.now ≤ longest_body }
     ensures { (sender : List ℕ) → result ≡ heard_laid index (sent_in_ibss sender broadcast (placed_past header_length (kind_in_ibss interval Subtype.Beacon body.now))) }
 {
-    match beacon::read(body, interval, true, index) {
-        Err(fault) => Err(places::fault_in_frame(fault)),
-        Ok(heard) => Ok(HeardInIbss {
-            received: crate::notice_frame(heard, false, broadcast),
-            dfs: heard.dfs,
-        }),
-    }
+    let heard = places::beacon_body(body, interval, true, index)?;
+    Ok(HeardInIbss {
+        received: crate::notice_frame(heard, false, broadcast),
+        dfs: heard.dfs,
+    })
 }
 
 // A frame with no element 41 read.
@@ -75,13 +74,9 @@ fn hear(
     match head.subtype {
         Subtype::Beacon => read_beacon(body, interval, head.to_all, index),
         Subtype::ProbeResponse => {
-            let received = crate::read_notice(body, interval, true, head.to_all)?;
-            Ok(nameless(received))
+            crate::read_notice(body, interval, true, head.to_all).map(nameless)
         }
-        Subtype::Action => {
-            let received = crate::read_action(body, head.to_all)?;
-            Ok(nameless(received))
-        }
+        Subtype::Action => crate::read_action(body, head.to_all).map(nameless),
     }
 }
 
@@ -114,11 +109,7 @@ pub fn dfs_pair_at(
 ) -> Result<ChannelMap, Refusal>
     ensures { result ≡ pair_of index (ibss_frame_means own bssid interval frame.now) }
 {
-    match hear(frame, own, bssid, interval, index) {
-        Err(fault) => Err(fault.refusal),
-        Ok(heard) => match heard.dfs {
-            None => Err(Refusal::Impossible),
-            Some(named) => named.pair,
-        },
-    }
+    let heard = hear(frame, own, bssid, interval, index).map_err(|fault| fault.refusal)?;
+    let named = heard.dfs.ok_or(Refusal::Impossible)?;
+    named.pair
 }

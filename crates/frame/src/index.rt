@@ -1,5 +1,7 @@
 // A measurement element of a frame by its index from 0 (document 01: one past the last, or any on another kind, is 16).
-ghost use Rattle.std.specs.Prelude.{◌≡◌, ◌≤◌, length};
+ghost use Rattle.std.specs.Prelude.{◌≡◌, ◌-◌, take, drop, IfNone, IfSome};
+ghost use Rattle.std.specs.Result.{IsOkAnd};
+ghost use Rattle.answer.specs.declared.Refusal.{Refusal};
 ghost use Rattle.answer.specs.Checks.{and_then};
 ghost use Rattle.answer.specs.Faults.{placed_past, without_place};
 ghost use Rattle.frame.specs.Actions.{action_means};
@@ -28,26 +30,32 @@ pub struct Asked {
     pub request: Result<Request, Refusal>,
 }
 
-// The request at a place of a body: no place is 16.
+// The contents at a place of a body: no place is 16.
+fn contents_at(body: &[u8], place: Option<Contents>) -> Result<&[u8], Refusal>
+    requires { PlaceWithin body.now place }
+    ensures nowhere { IfNone place (result ≡ Err Refusal.Impossible) }
+    ensures there { IfSome place (λ p. IsOkAnd result (λ contents. contents.now ≡ take (p.end - p.start) (drop p.start body.now))) }
+{
+    match place {
+        None => Err(Refusal::Impossible),
+        Some(contents) => Ok(&body[contents.start..contents.end]),
+    }
+}
+
+// The request at a place of a body.
 fn request_there(body: &[u8], place: Option<Contents>) -> Result<Request, Refusal>
     requires { PlaceWithin body.now place }
     ensures { result ≡ means_at request_means body.now place }
 {
-    match place {
-        None => Err(Refusal::Impossible),
-        Some(contents) => measurement_request::read(&body[contents.start..contents.end]),
-    }
+    measurement_request::read(contents_at(body, place)?)
 }
 
-// The report at a place of a body: no place is 16.
+// The report at a place of a body.
 fn report_there(body: &[u8], place: Option<Contents>) -> Result<Report, Refusal>
     requires { PlaceWithin body.now place }
     ensures { result ≡ means_at report_means body.now place }
 {
-    match place {
-        None => Err(Refusal::Impossible),
-        Some(contents) => measurement_report::read(&body[contents.start..contents.end]),
-    }
+    measurement_report::read(contents_at(body, place)?)
 }
 
 // An action body and its request at an index, in one walk.
@@ -66,21 +74,8 @@ pub fn read_request(body: &[u8], index: usize) -> Result<Asked, Fault>
 pub fn request_in(body: &[u8], index: usize) -> Result<Request, Refusal>
     ensures { result ≡ and_then (without_place (action_means body.now)) (request_in index) }
 {
-    match read_request(body, index) {
-        Err(fault) => Err(fault.refusal),
-        Ok(asked) => asked.request,
-    }
-}
-
-// An action frame by its body: where its element at an index lies is a place in the body, and where it broke one in the frame.
-fn locate_action(body: &[u8], index: usize) -> Result<Located, Fault>
-    requires { length body.now ≤ longest_body }
-    ensures { result ≡ located_in index body.now (placed_past header_length (kind_of 0 Subtype.Action body.now)) }
-{
-    match bodies::read_at(body, index) {
-        Err(fault) => Err(places::fault_in_frame(fault)),
-        Ok(found) => Ok(found),
-    }
+    let asked = read_request(body, index).map_err(|fault| fault.refusal)?;
+    asked.request
 }
 
 // A frame, and where in its body the element at an index lies: beacons and probe responses have none.
@@ -97,7 +92,7 @@ fn locate(
     let head = places::read_head(frame, Cell::Ap, own, ap)?;
     let body = header::body(frame);
     match crate::body_kind(head.subtype) {
-        BodyKind::Action => locate_action(body, index),
+        BodyKind::Action => places::action_body(body, index),
         BodyKind::Notice { probe } => {
             let heard = crate::read_notice(body, interval, probe, false)?;
             Ok(bodies::unplaced(heard.frame))
@@ -105,7 +100,8 @@ fn locate(
     }
 }
 
-// The request at an index of a frame.
+// The request at an index of a frame. Kept beside that of reports: they differ in the place and the reader, and one over both would be longer.
+#[tactic(auto, using(crate::proofs::Indexing::request_found))]
 pub fn request_at(
     frame: &[u8],
     own: [u8; 6],
@@ -115,13 +111,12 @@ pub fn request_at(
 ) -> Result<Request, Refusal>
     ensures { result ≡ element_of request_in index (frame_means own ap interval frame.now) }
 {
-    match locate(frame, own, ap, interval, index) {
-        Err(fault) => Err(fault.refusal),
-        Ok(found) => request_there(header::body(frame), found.request),
-    }
+    let found = locate(frame, own, ap, interval, index).map_err(|fault| fault.refusal)?;
+    request_there(header::body(frame), found.request)
 }
 
 // The report at an index of a frame.
+#[tactic(auto, using(crate::proofs::Indexing::report_found))]
 pub fn report_at(
     frame: &[u8],
     own: [u8; 6],
@@ -131,8 +126,6 @@ pub fn report_at(
 ) -> Result<Report, Refusal>
     ensures { result ≡ element_of report_in index (frame_means own ap interval frame.now) }
 {
-    match locate(frame, own, ap, interval, index) {
-        Err(fault) => Err(fault.refusal),
-        Ok(found) => report_there(header::body(frame), found.report),
-    }
+    let found = locate(frame, own, ap, interval, index).map_err(|fault| fault.refusal)?;
+    report_there(header::body(frame), found.report)
 }

@@ -85,10 +85,8 @@ fn read_notice(body: &[u8], interval: u16, probe: bool, broadcast: bool) -> Resu
     requires { length body.now ≤ longest_body }
     ensures { result ≡ frame_laid (sent broadcast (placed_past header_length (kind_of interval (notice_subtype probe) body.now))) }
 {
-    match beacon::read(body, interval, false, 0) {
-        Err(fault) => Err(places::fault_in_frame(fault)),
-        Ok(heard) => Ok(notice_frame(heard, probe, broadcast)),
-    }
+    let heard = places::beacon_body(body, interval, false, 0)?;
+    Ok(notice_frame(heard, probe, broadcast))
 }
 
 // An action frame.
@@ -96,10 +94,8 @@ fn read_action(body: &[u8], broadcast: bool) -> Result<Received, Fault>
     requires { length body.now ≤ longest_body }
     ensures { result ≡ frame_laid (sent broadcast (placed_past header_length (kind_of 0 Subtype.Action body.now))) }
 {
-    match read_body(body) {
-        Err(fault) => Err(places::fault_in_frame(fault)),
-        Ok(frame) => Ok(alone(frame, broadcast)),
-    }
+    let found = places::action_body(body, 0)?;
+    Ok(alone(found.frame, broadcast))
 }
 
 // What the body of a frame is read as.

@@ -1,4 +1,5 @@
--- The arguments of `advance` and `ask`: a borrow of a station and a number of TU, as values, as MIR holds them, and the station as the callee takes it. Assumes nothing.
+-- The arguments of `advance` and `ask`: a borrow of a station and a number of TU, as values, as MIR holds them, and the station as the callee takes it.
+-- Assumes nothing.
 use mathlib.Core.List.{[], ◌∷◌, List}
 use Prim.Native.Nat.{ℕ}
 use mir.Syntax.{w32}

@@ -1,5 +1,5 @@
-// A station that lives at one address (document 02, Eight): "the record is lent and changed there". Both calls are thin over those that take the station by value,
-// which decide everything.
+// A station that lives at one address (document 02, Eight): "the record is lent and changed there". Both calls are thin over those that take the station by
+// value, which decide everything.
 #![tactic(auto)]
 
 ghost use Rattle.std.specs.Prelude.{◌≡◌};
@@ -7,8 +7,8 @@ ghost use Rattle.station.specs.Asking.{permission_of};
 ghost use Rattle.station.specs.Clock.{advance_of};
 ghost use Rattle.station.specs.Validity.{Valid};
 
-use station::{Permission, Station};
 use answer::Refusal;
+use station::{Permission, Station};
 
 // The clock goes on by so many TU; where that is refused the station that is lent stays as it was.
 pub fn advance(station: &mut Station, units: u32) -> Result<(), Refusal>
@@ -16,7 +16,7 @@ pub fn advance(station: &mut Station, units: u32) -> Result<(), Refusal>
     ensures value { (result ≡ (advance_of station.old units).answer) × (station.new ≡ (advance_of station.old units).station) }
     ensures kept { Valid station.new }
 {
-    let stepped = (*station).advance(units);
+    let stepped = station.advance(units);
     *station = stepped.station;
     stepped.answer
 }
@@ -26,5 +26,5 @@ pub fn ask(station: &mut Station, units: u32) -> Permission
     requires { Valid station.old }
     ensures { (result ≡ permission_of station.old units) × (station.new ≡ station.old) }
 {
-    (*station).ask(units)
+    station.ask(units)
 }

@@ -1,2 +1,1 @@
-pub mod CodeTerms
 pub mod Program

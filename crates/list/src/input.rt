@@ -4,10 +4,13 @@ ghost use Rattle.list.specs.Program.{Within};
 
 use std::io::Read;
 
+// What stands at the front of a buffer.
 #[derive(Clone, Copy)]
 pub enum Filled {
-    // So many octets stand at the front of the buffer; where they do not fill it, the input has ended.
-    Octets(usize),
+    // As many octets as it has room for.
+    Full,
+    // So many, and then the input ended.
+    Ended(usize),
     // So many, and then a read failed.
     Failed(usize),
 }
@@ -19,10 +22,10 @@ pub fn fill<R: Read>(from: &mut R, buffer: &mut [u8]) -> Filled
     let mut done = 0;
     while done < buffer.len() {
         match from.read(&mut buffer[done..]) {
-            Ok(0) => return Filled::Octets(done),
+            Ok(0) => return Filled::Ended(done),
             Ok(more) => done += more,
             Err(_) => return Filled::Failed(done),
         }
     }
-    Filled::Octets(done)
+    Filled::Full
 }

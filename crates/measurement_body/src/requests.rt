@@ -11,7 +11,8 @@ use answer::Refusal;
 use measurement_element::measurement_request;
 use measurement_element::measurement_request::Request;
 
-// Writes a request after the first `used` octets of the buffer; with none used it starts a body with this token.
+// Writes a request after the first `used` octets of the buffer; with none used it starts a body with this token. Kept
+// beside that of reports: both hand `bodies::append` an element, and one over a trait of both records would be longer than the two.
 pub fn append(buffer: &mut [u8], used: usize, token: u8, request: Request) -> Result<usize, Refusal>
     ensures { Written (may_append request_sort token request (take used buffer.old)) (appended request_sort token request (take used buffer.old)) used buffer.old result buffer.new }
 {

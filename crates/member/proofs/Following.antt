@@ -1,5 +1,5 @@
 -- From what `frame::read_in_ibss` hands out to what the frame means to a station of an IBSS. Assumes nothing.
-use Rattle.std.specs.Prelude.{is_some, Ok, Err, Some, None, Option}
+use Rattle.std.specs.Prelude.{is_some, Ok, Err, Some, None, Option, option_map}
 use mathlib.Core.Bool.{Bool, true, false, not, ◌&&◌}
 use mathlib.Core.List.{List}
 use mathlib.Core.Logic.{◌⊎◌, inl, inr}
@@ -12,8 +12,8 @@ use Rattle.answer.specs.Checks.{pick, checked, and_then}
 use Rattle.answer.specs.Faults.{Placed, fault_nowhere, Verdict}
 use Rattle.answer.specs.declared.Refusal.{Refusal}
 use Rattle.beacon.specs.Beacons.{Told}
-use Rattle.beacon.specs.Laid.{dfs_fields}
-use Rattle.element.specs.IbssDfs.{Dfs}
+use Rattle.element.specs.IbssDfs.{Dfs, dfs_fields}
+use Rattle.element.specs.declared.quiet.Quiet.{Quiet}
 use Rattle.frame.specs.Actions.{requests, reports, tpc_request, tpc_report, switch}
 use Rattle.frame.specs.Announcements.{announcement_in}
 use Rattle.frame.proofs.Allowing.{received_allowed}
@@ -23,10 +23,11 @@ use Rattle.frame.specs.Allowed.{KindAllowed, ReceivedAllowed}
 use Rattle.frame.specs.Frames.{Kind, beacon, probe_response, action, Sent}
 use Rattle.frame.specs.IbssFrames.{SentInIbss, ibss_frame_means}
 use Rattle.frame.specs.IbssLaid.{ibss_laid}
-use Rattle.frame.specs.Laid.{frame_of}
+use Rattle.frame.specs.Laid.{received, frame_of, quiets_of, frame_laid}
+use Rattle.frame.specs.declared.Received.{Received}
 use Rattle.frame.specs.declared.ibss.ReceivedInIbss.{ReceivedInIbss}
 use Rattle.owner.proofs.KeptFit.{named_fits, heard_fits}
-use Rattle.owner.specs.Owners.{is_owner, named, heard_from, KeptFits}
+use Rattle.owner.specs.Owners.{is_owner, heard_from, KeptFits}
 use Rattle.owner.specs.declared.Owner.{Owner}
 use Rattle.station.proofs.Received.{laid_means}
 use Rattle.station.specs.Taking as StationTaking
@@ -39,23 +40,27 @@ use Rattle.member.specs.declared.taking.Taken.{Taken}
 
 -- ---- what was read of each kind
 
-announces_as : (k : Kind) → announces (Ok (frame_of k)) ≡ is_some (announcement_in k)
-announces_as (beacon t) = refl
-announces_as (probe_response t) = refl
-announces_as (action (requests token rs)) = refl
-announces_as (action (reports token rs)) = refl
-announces_as (action (tpc_request token)) = refl
-announces_as (action (tpc_report token t)) = refl
-announces_as (action (switch w)) = refl
+module _ (to_all : Bool) (qs : List Quiet) where
+  abbrev read_as : Kind → Placed Received
+  read_as k = Ok (received (frame_of k) to_all qs)
 
-heard_as : (o : Option Owner) (a : List ℕ) (k : Kind) → pick (is_beacon (Ok (frame_of k))) (heard_from o a) o ≡ heard_by o a k
-heard_as o a (beacon t) = refl
-heard_as o a (probe_response t) = refl
-heard_as o a (action (requests token rs)) = refl
-heard_as o a (action (reports token rs)) = refl
-heard_as o a (action (tpc_request token)) = refl
-heard_as o a (action (tpc_report token t)) = refl
-heard_as o a (action (switch w)) = refl
+  announces_as : (k : Kind) → announces (read_as k) ≡ is_some (announcement_in k)
+  announces_as (beacon t) = refl
+  announces_as (probe_response t) = refl
+  announces_as (action (requests token rs)) = refl
+  announces_as (action (reports token rs)) = refl
+  announces_as (action (tpc_request token)) = refl
+  announces_as (action (tpc_report token t)) = refl
+  announces_as (action (switch w)) = refl
+
+  heard_as : (o : Option Owner) (a : List ℕ) (k : Kind) → pick (is_beacon (read_as k)) (heard_from o a) o ≡ heard_by o a k
+  heard_as o a (beacon t) = refl
+  heard_as o a (probe_response t) = refl
+  heard_as o a (action (requests token rs)) = refl
+  heard_as o a (action (reports token rs)) = refl
+  heard_as o a (action (tpc_request token)) = refl
+  heard_as o a (action (tpc_report token t)) = refl
+  heard_as o a (action (switch w)) = refl
 
 is_sent : {x y : Sent} → ◌≡◌ {A = Placed Sent} (Ok x) (Ok y) → x ≡ y
 is_sent e = cc
@@ -67,10 +72,10 @@ module _ (m : Member) where
   -- ---- what the code asks and makes of it
 
   abbrev pub foreign_in : ReceivedInIbss → Bool
-  foreign_in v = announces v.received.reading && not (is_owner (owner_named m.owner v) v.sender)
+  foreign_in v = announces v.received && not (is_owner (owner_named m.owner v.dfs) v.sender)
 
   abbrev pub owner_after : ReceivedInIbss → Option Owner
-  owner_after v = pick (is_beacon v.received.reading) (heard_from (owner_named m.owner v) v.sender) (owner_named m.owner v)
+  owner_after v = pick (is_beacon v.received) (heard_from (owner_named m.owner v.dfs) v.sender) (owner_named m.owner v.dfs)
 
   abbrev taken_as : Verdict → Member → Taken
   taken_as verdict next = record { verdict = verdict; member = next }
@@ -81,12 +86,12 @@ module _ (m : Member) where
 
   module _ (x : SentInIbss) where
     foreign_as : foreign_in (ibss_laid (Ok x)) ≡ foreign_announcement (named_by m.owner x.dfs) x
-    foreign_as = ap₂ (λ (t : Bool) (o : Option Owner). t && not (is_owner o x.sender)) (announces_as x.sent.kind) (named_as x.dfs)
+    foreign_as = ap₂ (λ (t : Bool) (o : Option Owner). t && not (is_owner o x.sender)) (announces_as x.sent.to_all (quiets_of x.sent.kind) x.sent.kind) (named_as x.dfs)
 
     owner_as_lem : owner_after (ibss_laid (Ok x)) ≡ heard_by (named_by m.owner x.dfs) x.sender x.sent.kind
     owner_as_lem =
-        ap (λ (o : Option Owner). pick (is_beacon (Ok (frame_of x.sent.kind))) (heard_from o x.sender) o) (named_as x.dfs)
-        ∙ heard_as (named_by m.owner x.dfs) x.sender x.sent.kind
+        ap (λ (o : Option Owner). pick (is_beacon (frame_laid (Ok x.sent))) (heard_from o x.sender) o) (named_as x.dfs)
+        ∙ heard_as x.sent.to_all (quiets_of x.sent.kind) (named_by m.owner x.dfs) x.sender x.sent.kind
 
     by_test_lem : (foreign : Bool) → foreign_announcement (named_by m.owner x.dfs) x ≡ foreign
         → taken m (and_then (Ok x) (follows m))
@@ -121,15 +126,15 @@ module _ (m : Member) where
       → KeptFits (owner_after (ibss_laid o))
   owner_fits_after fits (Err q) some = fits
   owner_fits_after fits (Ok x) some =
-      by (is_beacon (Ok (frame_of x.sent.kind))) (by_dfs x.dfs refl)
+      by (is_beacon (frame_laid (Ok x.sent))) (by_dfs x.dfs refl)
     where
       by_dfs : (d : Option Dfs) → x.dfs ≡ d → KeptFits (owner_named m.owner (option_map dfs_fields d))
       by_dfs None e = fits
       by_dfs (Some d) e = named_fits m.owner d.owner d.recovery fits (some x refl d e)
 
-      by : (is-beacon : Bool) → KeptFits (owner_named m.owner (ibss_laid (Ok x)))
-          → KeptFits (pick is-beacon (heard_from (owner_named m.owner (ibss_laid (Ok x))) x.sender) (owner_named m.owner (ibss_laid (Ok x))))
-      by true f = heard_fits (owner_named m.owner (ibss_laid (Ok x))) x.sender f
+      by : (is-beacon : Bool) → KeptFits (owner_named m.owner (ibss_laid (Ok x)).dfs)
+          → KeptFits (pick is-beacon (heard_from (owner_named m.owner (ibss_laid (Ok x)).dfs) x.sender) (owner_named m.owner (ibss_laid (Ok x)).dfs))
+      by true f = heard_fits (owner_named m.owner (ibss_laid (Ok x)).dfs) x.sender f
       by false f = f
 
 -- ---- what the reader hands out is allowed
@@ -148,3 +153,6 @@ module _ (own bss : List ℕ) (b : ℕ) (f : List ℕ) where
       by : (x.dfs ≡ None) ⊎ ((told : Told) × (d' : Dfs) × (x.sent.kind ≡ beacon told) × (x.dfs ≡ Some d') × (1 ≤ d'.recovery)) → 1 ≤ d.recovery
       by (inl z) = absurd (let c : None ≡ Some d = sym z ∙ y in let q : ◌≡◌ {A = ℕ} 0 1 = cc in omega arith)
       by (inr (told, d', k, z, some)) = subst (λ (n : ℕ). 1 ≤ n) (same_recovery (sym z ∙ y)) some
+
+-- the two ways out of a frame
+pub ruleset ways = (refused_as, taken_as_lem)

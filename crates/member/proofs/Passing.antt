@@ -1,11 +1,12 @@
 -- What an advance of the station makes of a station of an IBSS: the TBTTs that pass are those among the units that the clock goes on by. Assumes nothing.
 use Rattle.std.specs.Prelude.{Ok, Err, Some, None, Option}
-use mathlib.Core.Bool.{Bool, true, false, ◌||◌}
+use mathlib.Core.Bool.{Bool, true, false}
+use mathlib.Core.List.{[]}
 use mathlib.Core.Path.{◌≡◌, refl, sym, ap, ◌∙◌, subst}
 use Prim.Native.Nat.{ℕ, ◌+◌, ◌-◌, ◌/◌, ◌≤◌}
 use native.Mathlib.Omega.{arith}
 use lib.Dec.{ltb}
-use Rattle.answer.proofs.Judged.{never}
+use Rattle.answer.proofs.Judged.{passed, kept, followed}
 use Rattle.answer.specs.Checks.{Outcome, pick, and_then}
 use Rattle.owner.proofs.CountingUnits.{tbtts_between}
 use Rattle.owner.proofs.TbttByTbtt.{none_past}
@@ -14,7 +15,6 @@ use Rattle.owner.specs.Tbtts.{tbtts_in}
 use Rattle.owner.specs.declared.Owner.{Owner}
 use Rattle.station.specs.Clock as Clock
 use Rattle.station.specs.Clock.{reached, clock_advance, advanced_to, advance_means}
-use Rattle.station.specs.Stations.{clock_limit, unit_limit}
 use Rattle.station.specs.declared.Station.{Station}
 use Rattle.station.specs.declared.clock.Advanced.{Advanced}
 use Rattle.station.specs.declared.clock.Stepped as ClockStepped
@@ -29,22 +29,21 @@ module _ (s : Station) (n : ℕ) where
   is_station : {x y : Station} → ◌≡◌ {A = Outcome Station} (Ok x) (Ok y) → x ≡ y
   is_station e = cc
 
+  -- whether or not a switch is met on the way
+  clock_reached : (p : Option Switch) → (advanced_to s (reached (s.clock + n) p)).clock ≡ s.clock + n
+  clock_reached None = refl
+  clock_reached (Some q) = by (ltb (s.clock + n) q.at)
+    where
+      by : (early : Bool) → (advanced_to s (pick early (Advanced.Goes (s.clock + n)) (Advanced.Switches (s.clock + n) q.channel))).clock ≡ s.clock + n
+      by true = refl
+      by false = refl
+
   clock_advanced : (next : Station) → advance_means s n ≡ Ok next → next.clock ≡ s.clock + n
   unfolding advance_means clock_advance
-  clock_advanced next e = by_test_lem (ltb unit_limit n || ltb clock_limit (s.clock + n)) e
-    where
-      by_switch : (coming : Bool) (channel : ℕ) → advanced_to s (pick coming (Advanced.Goes (s.clock + n)) (Advanced.Switches (s.clock + n) channel)) ≡ Ok next
-          → next.clock ≡ s.clock + n
-      by_switch true channel f = ap (λ (x : Station). x.clock) (sym (is_station f))
-      by_switch false channel f = ap (λ (x : Station). x.clock) (sym (is_station f))
-
-      by_pending : (p : Option Switch) → advanced_to s (reached (s.clock + n) p) ≡ Ok next → next.clock ≡ s.clock + n
-      by_pending None f = ap (λ (x : Station). x.clock) (sym (is_station f))
-      by_pending (Some q) f = by_switch (ltb (s.clock + n) q.at) q.channel f
-
-      by_test_lem : (far : Bool) → advanced_to s (pick far Advanced.Refused (reached (s.clock + n) s.pending)) ≡ Ok next → next.clock ≡ s.clock + n
-      by_test_lem true f = absurd (never f)
-      by_test_lem false f = by_pending s.pending f
+  clock_advanced next e =
+      let w = followed (clock_advance s.clock s.pending n) _ next e in
+      let goes : reached (s.clock + n) s.pending ≡ w.0 = kept _ (passed _ [] _ w.1).1 in
+      ap (λ (x : Station). x.clock) (sym (is_station w.2)) ∙ ap (λ (a : Advanced). (advanced_to s a).clock) (sym goes) ∙ clock_reached s.pending
 
 -- ---- an advance of the station, and what it makes of the owner
 
@@ -79,7 +78,9 @@ module _ (m : Member) (n : ℕ) (pos : 1 ≤ m.station.interval) where
   unfolding member_advances
   advanced_as = by_outcome (advance_means s n) refl
 
-  pub advanced_by_lem : (x : ClockStepped.Stepped) (o : Option Owner) → x ≡ Clock.advance_of s n → o ≡ past_tbtts (x.station.clock / b - s.clock / b) m.owner
+  -- by how many TBTTs pass, and what that makes of the owner
+  pub advanced_by_lem : (x : ClockStepped.Stepped) (k : ℕ) (o : Option Owner) → x ≡ Clock.advance_of s n → k ≡ x.station.clock / b - s.clock / b → o ≡ past_tbtts k m.owner
       → record { answer = x.answer; member = member_of x.station o } ≡ advance_of m n
-  advanced_by_lem x o e past =
-      ap (λ (y : Option Owner). record { answer = x.answer; member = member_of x.station y }) past ∙ ap stepped_by e ∙ advanced_as
+  advanced_by_lem x k o e count past =
+      ap (λ (y : Option Owner). record { answer = x.answer; member = member_of x.station y }) (past ∙ ap (λ (i : ℕ). past_tbtts i m.owner) count)
+      ∙ ap stepped_by e ∙ advanced_as

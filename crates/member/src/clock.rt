@@ -7,6 +7,7 @@ use crate::Member;
 use answer::Refusal;
 
 // The answer, and the station after the call: the same as before where the call was refused.
+// Kept beside one another: a refused call gives the station back, and `advance_of` promises which. The field says whose state it is.
 #[derive(Clone, Copy)]
 pub struct Stepped {
     pub answer: Result<(), Refusal>,
@@ -18,12 +19,13 @@ fn tbtts_between(moment: u32, later: u32, interval: u16) -> u32
     requires { (1 ≤ interval) × (moment ≤ later) }
     ensures { result ≡ later / interval - moment / interval }
 {
-    let before = moment / (interval as u32);
-    later / (interval as u32) - before
+    let before = moment / u32::from(interval);
+    later / u32::from(interval) - before
 }
 
 impl Member {
     // A refused advance leaves the clock where it is, so that no TBTT passes.
+    #[tactic(auto, using(crate::proofs::Passing::clock_on))]
     pub fn advance(self, units: u32) -> Stepped
         requires { ValidMember self }
         ensures value { result ≡ advance_of self units }

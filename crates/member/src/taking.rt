@@ -13,6 +13,7 @@ use frame::{Frame, Received};
 use owner::Owner;
 
 // The verdict on a frame, and the station after it: the same as before where the frame was refused.
+// Kept beside one another: a refused call gives the station back, and `take_of` promises which. The field says whose state it is.
 #[derive(Clone, Copy)]
 pub struct Taken {
     pub verdict: Result<(), Fault>,
@@ -77,6 +78,7 @@ fn heard_by(
 
 impl Member {
     // Element 41 comes before the announcement of its own beacon, and 23 after everything else.
+    #[tactic(auto, unfolding(crate::specs::Members::member_takes), using(crate::proofs::Following::ways))]
     pub fn take(self, frame: &[u8]) -> Taken
         requires { ValidMember self }
         ensures value { result ≡ take_of self frame.now }

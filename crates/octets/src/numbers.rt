@@ -27,7 +27,8 @@ pub fn octets_at<const N: usize>(octets: &[u8], at: usize) -> [u8; N]
     }
 }
 
-// The number of two octets from a place on.
+// The number of two octets from a place on. Kept as one function for each width, as the ones that give octets: they differ in the type of the number,
+// and each is one call.
 pub fn number16(octets: &[u8], at: usize) -> u16
     ensures { result ≡ number 2 at octets.now }
 {

@@ -1,3 +1,1 @@
-pub mod InTurn
-pub mod PlaceLaws
-pub mod RowLaws
+pub mod ArrayMap

@@ -1,5 +1,5 @@
 -- The rows of a table of stations (02, Six): "a row is joined by an address and left by it"; "the whole row of stations is stepped by one tick call".
-use Rattle.std.specs.Prelude.{Bool, true, false, not, ◌&&◌, List, [], ◌∷◌, map, ◌≡◌, ℕ, length}
+use Rattle.std.specs.Prelude.{Bool, true, false, not, ◌&&◌, List, map, ◌≡◌, ℕ, length, All}
 use Rattle.answer.specs.Checks.{pick}
 use Rattle.answer.specs.Faults.{Placed}
 use Rattle.frame.specs.declared.Received.{Received}
@@ -30,11 +30,6 @@ abbrev pub is_free : Row → Bool
 is_free w = not w.joined
 
 -- ---- what the calls make of rows
-
--- each of a list is such that P
-unfoldable pub All : {X : Type 0} → (X → Type 0) → List X → Type 0
-All P [] = Unit {0}
-All P (x ∷ xs) = P x × All P xs
 
 -- a station that is joined is such that P, and a free row holds one fixed blank
 abbrev pub Occupied : (Station → Type 0) → Bool → Station → Type 0

@@ -19,7 +19,8 @@ pub use ticking::{tick, tick_all};
 // How many rows a table has.
 pub const ROWS: usize = 16;
 
-// Where it is free, `station` is one fixed station that no call may be handed.
+// Where it is free, `station` is one fixed station that no call may be handed. Kept as a flag beside it: the edit `old_schedules_kept`, which must
+// fail, needs a station in a row that is free.
 #[derive(Clone, Copy)]
 pub struct Row {
     pub joined: bool,
@@ -64,6 +65,7 @@ impl Row {
     }
 
     // What its station's advance by so many TU leaves, which is the same station where that is refused; a free row stays so.
+    #[tactic(auto, unfolding(crate::specs::Rows::row_ticked))]
     pub fn advance(self, units: u32) -> Row
         requires { ValidRow self }
         ensures value { result ≡ row_ticked units self }
@@ -79,6 +81,7 @@ impl Row {
     }
 
     // Its station hears what was read of a frame.
+    #[tactic(auto, unfolding(crate::specs::Rows::row_heard))]
     pub fn hear(self, received: Result<Received, Fault>) -> Row
         requires { ValidRow self }
         ensures value { result ≡ row_heard received self }

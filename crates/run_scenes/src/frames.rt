@@ -2,20 +2,20 @@
 ghost use Rattle.std.specs.Prelude.{◌≤◌};
 
 use crate::{AP, INTERVAL, OWN};
-use frame::Frame;
+use element::ibss_dfs::IbssDfs;
+use frame::{Frame, Received};
 use scene::call::Call;
-use scene::made::LONGEST;
+use scene::made::{LONGEST, Way};
 use scene::page::Page;
 use scene::verb::Form;
 use scene::{answers, fields, made, say};
 use std::io::Write;
-use answer::Fault;
 
 // A frame of the AP to the station.
 pub fn of_ap(form: Form, call: Call, frame: &mut [u8]) -> usize
     ensures { result ≤ 2400 }
 {
-    made::put(form, call, 1, AP, OWN, frame)
+    made::put(form, call, 1, Way { by: AP, to: OWN }, frame)
 }
 
 // A frame in the IBSS to the station, of the sender that the call names at a place.
@@ -23,16 +23,16 @@ pub fn of_member(form: Form, call: Call, place: usize, frame: &mut [u8]) -> usiz
     requires { place ≤ 2 }
     ensures { result ≤ 2400 }
 {
-    let sender = made::named(OWN[0], call.octets[place]);
-    made::put(form, call, place + 1, sender, OWN, frame)
+    let by = made::named(OWN[0], call.octets[place]);
+    made::put(form, call, place + 1, Way { by, to: OWN }, frame)
 }
 
 // A frame of the AP to the receiver that the call names first.
 pub fn to_row(form: Form, call: Call, frame: &mut [u8]) -> usize
     ensures { result ≤ 2400 }
 {
-    let receiver = made::receiver(call.octets[1], call.octets[2]);
-    made::put(form, call, 3, AP, receiver, frame)
+    let to = made::receiver(call.octets[1], call.octets[2]);
+    made::put(form, call, 3, Way { by: AP, to }, frame)
 }
 
 // A frame of an exchange, and its dialog token.
@@ -69,16 +69,11 @@ fn kind<W: Write>(page: &mut Page<W>, frame: Frame) {
     }
 }
 
-// The answer's number, then whether the frame went to all, or where it broke.
-fn answer<W: Write>(page: &mut Page<W>, reading: Result<Frame, Fault>, broadcast: bool) {
-    match reading {
-        Err(fault) => answers::fault(page, fault),
-        Ok(_) => {
-            say::number(page, 0);
-            if broadcast {
-                say::text(page, b" to all");
-            }
-        }
+// The answer's number, and whether the frame went to all.
+fn accepted<W: Write>(page: &mut Page<W>, broadcast: bool) {
+    say::number(page, 0);
+    if broadcast {
+        say::text(page, b" to all");
     }
 }
 
@@ -86,36 +81,42 @@ fn answer<W: Write>(page: &mut Page<W>, reading: Result<Frame, Fault>, broadcast
 pub fn read<W: Write>(page: &mut Page<W>, form: Form, call: Call) {
     let mut octets = [0u8; LONGEST];
     let length = of_ap(form, call, &mut octets);
-    let received = frame::read(&octets[0..length], OWN, AP, INTERVAL);
-    let reading = received.reading;
-    answer(page, reading, received.broadcast);
-    if let Ok(frame) = reading {
-        kind(page, frame);
+    match frame::read(&octets[0..length], OWN, AP, INTERVAL) {
+        Err(fault) => answers::fault(page, fault),
+        Ok(received) => {
+            accepted(page, received.broadcast);
+            kind(page, received.frame);
+            fields::quiets(page, received.quiets, received.count);
+        }
     }
-    let slots = received.quiets;
-    fields::quiets(page, slots, received.count);
 }
 
-// As a station of an IBSS reads it: its sender and element 41 too.
+// A frame in an IBSS that is read: its sender and element 41 too.
+fn received<W: Write>(
+    page: &mut Page<W>,
+    received: Received,
+    sender: [u8; 6],
+    dfs: Option<IbssDfs>,
+) {
+    accepted(page, received.broadcast);
+    say::text(page, b" from");
+    say::octets(page, &sender);
+    kind(page, received.frame);
+    if let Some(dfs) = dfs {
+        fields::dfs(page, dfs);
+    }
+    fields::quiets(page, received.quiets, received.count);
+}
+
+// As a station of an IBSS reads it.
 pub fn read_in_ibss<W: Write>(page: &mut Page<W>, form: Form, call: Call) {
     let mut octets = [0u8; LONGEST];
     let length = of_member(form, call, 1, &mut octets);
     let heard = frame::read_in_ibss(&octets[0..length], OWN, AP, INTERVAL);
-    let received = heard.received;
-    let reading = received.reading;
-    answer(page, reading, received.broadcast);
-    if let Ok(frame) = reading {
-        say::text(page, b" from");
-        let sender = heard.sender;
-        say::octets(page, &sender);
-        kind(page, frame);
+    match heard.received {
+        Err(fault) => answers::fault(page, fault),
+        Ok(it) => received(page, it, heard.sender, heard.dfs),
     }
-    let dfs = heard.dfs;
-    if heard.names {
-        fields::dfs(page, dfs);
-    }
-    let slots = received.quiets;
-    fields::quiets(page, slots, received.count);
 }
 
 // A pair of a beacon's element 41, by its index: the answer's number, and the pair's channel and map.
@@ -123,12 +124,9 @@ pub fn pair<W: Write>(page: &mut Page<W>, call: Call) {
     let mut octets = [0u8; LONGEST];
     let length = of_member(Form::Beacon, call, 2, &mut octets);
     let index = call.numbers[1] as usize;
-    match frame::dfs_pair_at(&octets[0..length], OWN, AP, INTERVAL, index) {
-        Err(refusal) => say::octet(page, refusal.number()),
-        Ok(pair) => {
-            say::number(page, 0);
-            say::octet(page, pair.channel);
-            say::octet(page, pair.map);
-        }
-    }
+    let found = frame::dfs_pair_at(&octets[0..length], OWN, AP, INTERVAL, index);
+    answers::given(page, found, |page, pair| {
+        say::octet(page, pair.channel);
+        say::octet(page, pair.map);
+    });
 }

@@ -5,18 +5,14 @@ use scene::verb::Verb;
 use scene::{alone, fields, say};
 use station::Station;
 use std::io::Write;
-use pending::Switch;
 
 // By the verb. One that asks for nothing of a station stands alone.
 pub fn show<W: Write>(page: &mut Page<W>, station: Station, call: Call) {
-    let power = station.power;
-    let pending = station.pending;
-    let verb = call.verb;
-    match verb {
+    match call.verb {
         Verb::Channel => say::octet(page, station.channel),
         Verb::Clock => say::number(page, station.clock as u64),
-        Verb::Constraint => fields::kept(page, power),
-        Verb::Option<Switch> => fields::pending(page, pending),
+        Verb::Constraint => fields::kept(page, station.power),
+        Verb::Pending => fields::pending(page, station.pending),
         _ => alone::show(page, call),
     }
 }
@@ -24,8 +20,6 @@ pub fn show<W: Write>(page: &mut Page<W>, station: Station, call: Call) {
 pub fn all<W: Write>(page: &mut Page<W>, station: Station) {
     say::number(page, station.clock as u64);
     say::octet(page, station.channel);
-    let power = station.power;
-    fields::kept(page, power);
-    let pending = station.pending;
-    fields::pending(page, pending);
+    fields::kept(page, station.power);
+    fields::pending(page, station.pending);
 }

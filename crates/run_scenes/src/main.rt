@@ -59,6 +59,7 @@
 mod frames;
 mod kept;
 mod members;
+mod played;
 mod stage;
 mod stations;
 mod tables;

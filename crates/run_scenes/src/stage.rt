@@ -2,7 +2,7 @@
 ghost use Rattle.std.specs.Prelude.{◌≤◌, length, IfOk};
 ghost use Rattle.run_scenes.specs.Stages.{ValidStage};
 
-use crate::{AP, CHANNEL, INTERVAL, OWN, members, stations, tables};
+use crate::{AP, CHANNEL, INTERVAL, OWN, played};
 use member::Member;
 use scene::call::Call;
 use scene::line;
@@ -27,23 +27,17 @@ pub struct Stage {
     pub line: Line,
 }
 
-// The beginning of a scene.
+// The beginning of a scene: all three starts are accepted.
+#[tactic(auto, unfolding(station::specs::Starting::start_means, table::specs::Tables::start_means, answer::specs::Checks::checked))]
 fn fresh(subject: Subject) -> Stage
     ensures { ValidStage result }
 {
-    let first = Station::start(OWN, AP, INTERVAL, CHANNEL);
-    let second = Member::start(OWN, AP, INTERVAL, CHANNEL);
-    let third = Table::start(AP, INTERVAL);
-    let station = first.station;
-    let member = second.member;
-    let table = third.table;
-    let line = line::begun();
     Stage {
         subject,
-        station,
-        member,
-        table,
-        line,
+        station: Station::start(OWN, AP, INTERVAL, CHANNEL).unwrap(),
+        member: Member::start(OWN, AP, INTERVAL, CHANNEL).unwrap(),
+        table: Table::start(AP, INTERVAL).unwrap(),
+        line: line::begun(),
     }
 }
 
@@ -52,27 +46,13 @@ fn after<W: Write>(page: &mut Page<W>, mut stage: Stage, call: Call) -> Stage
     requires { ValidStage stage }
     ensures { ValidStage result }
 {
-    let verb = call.verb;
-    if let Verb::Scene(subject) = verb {
+    if let Verb::Scene(subject) = call.verb {
         return fresh(subject);
     }
-    let subject = stage.subject;
-    match subject {
-        Subject::Station => {
-            let station = stage.station;
-            let next = stations::run(page, station, call);
-            stage.station = next;
-        }
-        Subject::Ibss => {
-            let member = stage.member;
-            let next = members::run(page, member, call);
-            stage.member = next;
-        }
-        Subject::Table => {
-            let table = stage.table;
-            let next = tables::run(page, table, call);
-            stage.table = next;
-        }
+    match stage.subject {
+        Subject::Station => stage.station = played::run(page, stage.station, call),
+        Subject::Ibss => stage.member = played::run(page, stage.member, call),
+        Subject::Table => stage.table = played::run(page, stage.table, call),
     }
     stage
 }
@@ -86,10 +66,9 @@ fn scenes<W: Write>(page: &mut Page<W>, mut stage: Stage, text: &[u8]) -> Stage
     while at < text.len() {
         let read = line.read(page, text, at);
         at = read.at;
-        line = read.line;
-        if read.calls {
-            stage = after(page, stage, line.call(read.expected));
-            line = line.after_call(page, read.expected);
+        if let Some(call) = read.call {
+            stage = after(page, stage, call);
+            line.after_call(page, call.expected);
         }
     }
     Stage { line, ..stage }
@@ -115,8 +94,7 @@ fn fill<R: Read>(input: &mut R, buffer: &mut [u8]) -> io::Result<usize>
 pub fn play<R: Read, W: Write>(page: &mut Page<W>, input: &mut R) {
     let mut text = [0u8; ROOM];
     let mut stage = fresh(Subject::Station);
-    let mut left: u64 = 18446744073709551615;
-    while 0 < left {
+    for _ in 0..u64::MAX {
         match fill(input, &mut text) {
             Ok(0) => return,
             Ok(count) => stage = scenes(page, stage, &text[0..count]),
@@ -125,6 +103,5 @@ pub fn play<R: Read, W: Write>(page: &mut Page<W>, input: &mut R) {
         if page.has_failed() {
             return;
         }
-        left -= 1;
     }
 }

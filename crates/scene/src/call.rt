@@ -1,40 +1,45 @@
 // A call of a scene: its verb and its numbers.
-ghost use Rattle.std.specs.Prelude.{◌≤◌};
+ghost use Rattle.std.specs.Prelude.{◌≤◌, length};
 
 use crate::page::Page;
 use crate::verb::Verb;
 use crate::{last, say};
+use element::tpc_report::TpcReport;
 use std::io::Write;
 
-// How many numbers a call may have, with place 0, which is the verb's.
+// How many numbers a call may have, with place 0, which is the verb's, and how many of them are kept whole.
 pub const ROOM: usize = 128;
+
+pub const WHOLE: usize = 16;
 
 #[derive(Clone, Copy)]
 pub struct Call {
     pub verb: Verb,
-    // How many places are taken, each number as an octet, and the first of them whole too. Those that are left out are 0.
+    // How many places are taken, each number as its last octet, and the first of them whole too. Those that are left out are 0.
     pub count: usize,
     pub octets: [u8; ROOM],
-    pub numbers: [u64; 16],
+    pub numbers: [u64; WHOLE],
     // Whether an answer is expected, which is told then. Of a call that only makes the scene ready nothing is told unless it is refused.
     pub expected: bool,
 }
 
-// Puts these of a call's octets into a buffer from `at` on.
-fn put(octets: [u8; ROOM], place: usize, end: usize, buffer: &mut [u8], at: usize)
-    requires { (place ≤ end) × (end ≤ 128) }
-{
-    octets::put(true, &octets[place..end], buffer, at);
-}
-
 impl Call {
+    // No number is there yet.
+    pub const EMPTY: Call = Call {
+        verb: Verb::Unknown,
+        count: 1,
+        octets: [0; ROOM],
+        numbers: [0; WHOLE],
+        expected: false,
+    };
+
     // Its first number, as a moment or units.
-    pub fn first(self) -> u32 {
+    pub fn first(&self) -> u32 {
         last::four(self.numbers[1])
     }
 
     // How many units lead from a clock to the moment that is its first number. None lead to one that is gone.
-    pub fn units_from<W: Write>(self, page: &mut Page<W>, clock: u32) -> u32 {
+    pub fn units_from<W: Write>(&self, page: &mut Page<W>, clock: u32) -> u32 {
         let moment = self.first();
         if moment < clock {
             say::text(page, b" gone");
@@ -43,29 +48,22 @@ impl Call {
         moment - clock
     }
 
-    // Where its octets end that begin at a place, or later.
-    fn end(self, place: usize) -> usize
+    // Its octets from a place on.
+    pub fn octets_from(&self, place: usize) -> &[u8]
         requires { place ≤ 128 }
-        ensures { (place ≤ result) × (result ≤ 128) }
+        ensures { length result.now ≤ 128 }
     {
-        let count = self.count;
-        if count < place {
-            return place;
-        }
-        if ROOM < count {
-            return ROOM;
-        }
-        count
+        let end = self.count.clamp(place, ROOM);
+        &self.octets[place..end]
     }
 
-    // Puts its octets from a place on into a buffer from `at` on, and tells how many they are.
-    pub fn put(self, place: usize, buffer: &mut [u8], at: usize) -> usize
-        requires { place ≤ 128 }
-        ensures { result ≤ 128 }
+    // Power and margin of a TPC Report, from a place on.
+    pub fn tpc_report(&self, place: usize) -> TpcReport
+        requires { place ≤ 126 }
     {
-        let octets = self.octets;
-        let end = self.end(place);
-        put(octets, place, end, buffer, at);
-        end - place
+        TpcReport {
+            power: octets::to_signed(self.octets[place]),
+            margin: octets::to_signed(self.octets[place + 1]),
+        }
     }
 }

@@ -1,16 +1,17 @@
 // The fields of each element, and of what a beacon holds.
 use crate::page::Page;
 use crate::say;
-use beacon::Notice;
+use beacon::{Notice, QUIETS};
 use element::channel_switch::ChannelSwitch;
 use element::ibss_dfs::IbssDfs;
 use element::power_constraint::PowerConstraint;
 use element::quiet::Quiet;
 use element::tpc_report::TpcReport;
-use measurement_element::measurement_report::Reason;
+use measurement_element::measurement_report::{Reason, Report};
+use measurement_element::measurement_request::Request;
 use measurement_element::{Found, Span, measurement_report, measurement_request};
-use std::io::Write;
 use pending::Switch;
+use std::io::Write;
 
 pub fn power<W: Write>(page: &mut Page<W>, p: PowerConstraint) {
     say::text(page, b" constraint");
@@ -39,11 +40,9 @@ pub fn pending<W: Write>(page: &mut Page<W>, pending: Option<Switch>) {
 
 // The signed numbers as the octets that hold them.
 pub fn report<W: Write>(page: &mut Page<W>, t: TpcReport) {
-    let power = t.power;
-    let margin = t.margin;
     say::text(page, b" report");
-    say::octet(page, octets::from_signed(power));
-    say::octet(page, octets::from_signed(margin));
+    say::octet(page, octets::from_signed(t.power));
+    say::octet(page, octets::from_signed(t.margin));
 }
 
 pub fn switch<W: Write>(page: &mut Page<W>, s: ChannelSwitch) {
@@ -57,43 +56,35 @@ pub fn quiet<W: Write>(page: &mut Page<W>, q: Quiet) {
     say::text(page, b" quiet");
     say::octet(page, q.count);
     say::octet(page, q.period);
-    say::number(page, q.duration as u64);
-    say::number(page, q.offset as u64);
+    say::number(page, u64::from(q.duration));
+    say::number(page, u64::from(q.offset));
 }
 
 // Of the pairs how many there are.
 pub fn dfs<W: Write>(page: &mut Page<W>, d: IbssDfs) {
     say::text(page, b" dfs");
-    let owner = d.owner;
-    say::octets(page, &owner);
+    say::octets(page, &d.owner);
     say::octet(page, d.recovery);
     say::number(page, d.pairs as u64);
 }
 
-// As many as the count says, at most.
-pub fn quiets<W: Write>(page: &mut Page<W>, slots: [Quiet; 8], count: usize) {
-    let mut i = 0;
-    while i < 8 {
-        if i < count {
-            quiet(page, slots[i]);
-        }
-        i += 1;
+// The first of them, as many as the count says.
+pub fn quiets<W: Write>(page: &mut Page<W>, slots: [Quiet; QUIETS], count: usize) {
+    for slot in slots.iter().take(count) {
+        quiet(page, *slot);
     }
 }
 
 pub fn notice<W: Write>(page: &mut Page<W>, n: Notice) {
     say::number(page, n.timestamp);
-    say::number(page, n.capability as u64);
-    let limit = n.power;
-    if let Some(p) = limit {
+    say::number(page, u64::from(n.capability));
+    if let Some(p) = n.power {
         power(page, p);
     }
-    let told = n.report;
-    if let Some(t) = told {
+    if let Some(t) = n.report {
         report(page, t);
     }
-    let announced = n.switch;
-    if let Some(s) = announced {
+    if let Some(s) = n.switch {
         switch(page, s);
     }
 }
@@ -101,11 +92,13 @@ pub fn notice<W: Write>(page: &mut Page<W>, n: Notice) {
 fn span<W: Write>(page: &mut Page<W>, s: Span) {
     say::octet(page, s.channel);
     say::number(page, s.start);
-    say::number(page, s.duration as u64);
+    say::number(page, u64::from(s.duration));
 }
 
-pub fn asked<W: Write>(page: &mut Page<W>, matter: measurement_request::Matter) {
-    match matter {
+pub fn asked<W: Write>(page: &mut Page<W>, r: Request) {
+    say::octet(page, r.token);
+    say::octet(page, r.kind);
+    match r.matter {
         measurement_request::Matter::Enable { request, report } => {
             say::text(page, b" enable");
             say::flag(page, request);
@@ -146,10 +139,13 @@ fn measured<W: Write>(page: &mut Page<W>, s: Span, found: Found) {
     }
 }
 
-pub fn found<W: Write>(page: &mut Page<W>, matter: measurement_report::Matter) {
-    match matter {
+pub fn reported<W: Write>(page: &mut Page<W>, r: Report) {
+    say::octet(page, r.token);
+    say::octet(page, r.kind);
+    match r.matter {
         measurement_report::Matter::NotMeasured(reason) => not_measured(page, reason),
         measurement_report::Matter::Measured { span, found } => measured(page, span, found),
         measurement_report::Matter::Uninterpreted => say::text(page, b" uninterpreted"),
     }
+    say::octets(page, &r.densities);
 }

@@ -1,5 +1,5 @@
-// The part of `run_scenes` that asks neither for a frame that is read nor for a station: a line of the scenes and the call on it, the octets of a frame, numbers, and
-// elements as they are read and written. `run_scenes` says how a scene is written.
+// The part of `run_scenes` that asks neither for a frame that is read nor for a station: a line of the scenes and the call on it, the octets of a frame,
+// numbers, and elements as they are read and written. `run_scenes` says how a scene is written.
 // It promises no more than to run: what it prints is compared with what the scene must give.
 #![tactic(auto)]
 
@@ -16,4 +16,5 @@ mod reads;
 pub mod replies;
 pub mod say;
 pub mod verb;
+mod word;
 mod writes;

@@ -1,5 +1,5 @@
 // Frames as the octets of a call make them.
-ghost use Rattle.std.specs.Prelude.{◌≤◌};
+ghost use Rattle.std.specs.Prelude.{◌≤◌, length};
 
 use crate::call::Call;
 use crate::verb::Form;
@@ -29,6 +29,13 @@ pub const LONGEST: usize = 2400;
 // A receiver that is named by this first octet is all ones.
 const ALL: u8 = 255;
 
+// By whom and to whom a frame is sent.
+#[derive(Clone, Copy)]
+pub struct Way {
+    pub by: [u8; 6],
+    pub to: [u8; 6],
+}
+
 // An address by its first and its last octet.
 pub fn named(first: u8, last: u8) -> [u8; 6] {
     [first, 0, 0, 0, 0, last]
@@ -37,51 +44,44 @@ pub fn named(first: u8, last: u8) -> [u8; 6] {
 // The receiver of frames to it.
 pub fn receiver(first: u8, last: u8) -> [u8; 6] {
     if first == ALL {
-        return [ALL; 6];
+        [ALL; 6]
+    } else {
+        named(first, last)
     }
-    named(first, last)
 }
 
-// After a header with 2, 0, 0, 0, 0, 9 for the BSSID and, where there is room before `front`, a timestamp of 7.
-fn headed(
-    first: u8,
-    front: usize,
-    call: Call,
-    place: usize,
-    by: [u8; 6],
-    to: [u8; 6],
-    frame: &mut [u8],
-) -> usize
-    requires { (front ≤ 32) × (place ≤ 128) }
+// Puts octets into the frame, which has room for all that a call may have.
+fn put_at(at: usize, octets: &[u8], frame: &mut [u8]) {
+    let _ = octets::put(true, octets, frame, at);
+}
+
+// The octets of a call after a header with 2, 0, 0, 0, 0, 9 for the BSSID and, where there is room before `front`, a timestamp of 7.
+fn headed(first: u8, front: usize, octets: &[u8], way: Way, frame: &mut [u8]) -> usize
+    requires { (front ≤ 32) × (length octets.now ≤ 128) }
     ensures { result ≤ 2400 }
 {
-    octets::put(true, &[first], frame, 0);
-    octets::put(true, &to, frame, RECEIVER);
-    octets::put(true, &by, frame, SENDER);
-    octets::put(true, b"\x02\0\0\0\0\x09\0\0\x07", frame, BSSID);
-    front + call.put(place, frame, front)
+    put_at(0, &[first], frame);
+    put_at(RECEIVER, &way.to, frame);
+    put_at(SENDER, &way.by, frame);
+    put_at(BSSID, b"\x02\0\0\0\0\x09\0\0\x07", frame);
+    put_at(front, octets, frame);
+    front + octets.len()
 }
 
-// Puts the frame that a call gives into zeros, and tells how long it is. A whole one is cut at the length that the call says, or zeros follow. Of the other forms the
-// call has the octets from a place on, and does not spell by whom and to whom the frame is sent.
-pub fn put(
-    form: Form,
-    call: Call,
-    place: usize,
-    by: [u8; 6],
-    to: [u8; 6],
-    frame: &mut [u8],
-) -> usize
+// Puts the frame that a call gives into zeros, and tells how long it is. A whole one is cut at the length that the call says, or zeros follow. Of the other
+// forms the call has the octets from a place on, and does not spell by whom and to whom the frame is sent.
+pub fn put(form: Form, call: Call, place: usize, way: Way, frame: &mut [u8]) -> usize
     requires { place ≤ 128 }
     ensures { result ≤ 2400 }
 {
+    let octets = call.octets_from(place);
     match form {
         Form::Whole => {
-            call.put(2, frame, 0);
+            put_at(0, call.octets_from(2), frame);
             (call.numbers[1] % 2401) as usize
         }
-        Form::Action => headed(ACTION, BODY, call, place, by, to, frame),
-        Form::Beacon => headed(BEACON, INTERVAL, call, place, by, to, frame),
-        Form::Probe => headed(PROBE, INTERVAL, call, place, by, to, frame),
+        Form::Action => headed(ACTION, BODY, octets, way, frame),
+        Form::Beacon => headed(BEACON, INTERVAL, octets, way, frame),
+        Form::Probe => headed(PROBE, INTERVAL, octets, way, frame),
     }
 }

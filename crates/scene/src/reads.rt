@@ -1,94 +1,36 @@
 // The contents of an element as they are read: the answer's number, then the fields.
+use crate::answers::given;
 use crate::page::Page;
-use crate::{fields, say};
+use crate::{answers, fields, say};
+use answer::Refusal;
 use element::{channel_switch, power_constraint, quiet, tpc_report, tpc_request};
+use measurement_element::measurement_report::{Matter, Report};
 use measurement_element::{measurement_report, measurement_request};
 use std::io::Write;
 
-fn power<W: Write>(page: &mut Page<W>, contents: &[u8]) {
-    match power_constraint::read(contents) {
-        Err(r) => say::octet(page, r.number()),
-        Ok(p) => {
-            say::number(page, 0);
-            fields::power(page, p);
-        }
-    }
-}
+// What is told of a report beside a refusal.
+const NO_REPORT: Report = Report {
+    token: 0,
+    kind: 0,
+    matter: Matter::Uninterpreted,
+    densities: [0; 8],
+};
 
-fn request<W: Write>(page: &mut Page<W>, contents: &[u8]) {
-    match tpc_request::read(contents) {
-        Err(r) => say::octet(page, r.number()),
-        Ok(()) => say::number(page, 0),
-    }
-}
-
-fn report<W: Write>(page: &mut Page<W>, contents: &[u8]) {
-    match tpc_report::read(contents) {
-        Err(r) => say::octet(page, r.number()),
-        Ok(t) => {
-            say::number(page, 0);
-            fields::report(page, t);
-        }
-    }
-}
-
-fn switch<W: Write>(page: &mut Page<W>, contents: &[u8]) {
-    match channel_switch::read(contents) {
-        Err(r) => say::octet(page, r.number()),
-        Ok(s) => {
-            say::number(page, 0);
-            fields::switch(page, s);
-        }
-    }
-}
-
-fn quiet_of<W: Write>(page: &mut Page<W>, contents: &[u8], interval: u16) {
-    match quiet::read(contents, interval) {
-        Err(r) => say::octet(page, r.number()),
-        Ok(q) => {
-            say::number(page, 0);
-            fields::quiet(page, q);
-        }
-    }
-}
-
-fn asked<W: Write>(page: &mut Page<W>, contents: &[u8]) {
-    match measurement_request::read(contents) {
-        Err(r) => say::octet(page, r.number()),
-        Ok(r) => {
-            say::number(page, 0);
-            say::octet(page, r.token);
-            say::octet(page, r.kind);
-            let matter = r.matter;
-            fields::asked(page, matter);
-        }
-    }
-}
-
-// The report stands beside the answer, and is blank beside a refusal.
-fn found<W: Write>(page: &mut Page<W>, contents: &[u8]) {
-    let reading = measurement_report::read(contents);
-    let answer = reading.answer;
-    say::octet(page, answer.number());
-    let report = reading.report;
-    say::octet(page, report.token);
-    say::octet(page, report.kind);
-    let matter = report.matter;
-    fields::found(page, matter);
-    let densities = report.densities;
-    say::octets(page, &densities);
+fn report<W: Write>(page: &mut Page<W>, reading: Result<Report, Refusal>) {
+    answers::tell(page, reading, true);
+    fields::reported(page, reading.unwrap_or(NO_REPORT));
 }
 
 // An element by its ID. One that there is not must not go by unseen.
 pub fn show<W: Write>(page: &mut Page<W>, id: u8, interval: u16, contents: &[u8]) {
     match id {
-        power_constraint::ID => power(page, contents),
-        tpc_request::ID => request(page, contents),
-        tpc_report::ID => report(page, contents),
-        channel_switch::ID => switch(page, contents),
-        measurement_request::ID => asked(page, contents),
-        measurement_report::ID => found(page, contents),
-        quiet::ID => quiet_of(page, contents, interval),
+        power_constraint::ID => given(page, power_constraint::read(contents), fields::power),
+        tpc_request::ID => answers::tell(page, tpc_request::read(contents), true),
+        tpc_report::ID => given(page, tpc_report::read(contents), fields::report),
+        channel_switch::ID => given(page, channel_switch::read(contents), fields::switch),
+        measurement_request::ID => given(page, measurement_request::read(contents), fields::asked),
+        measurement_report::ID => report(page, measurement_report::read(contents)),
+        quiet::ID => given(page, quiet::read(contents, interval), fields::quiet),
         _ => say::text(page, b" unknown"),
     }
 }

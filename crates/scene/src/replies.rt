@@ -1,15 +1,15 @@
-// What a call for a reply gives, and the reply as it is told: the answer's number, of a reply its length and its octets, and whether the buffer is as it was after
-// them, or whole where there is none.
+// What a call for a reply gives, and the reply as it is told: the answer's number, of a reply its length and its octets, and whether the buffer is as it was
+// after them, or whole where there is none.
 ghost use Rattle.std.specs.Prelude.{◌≤◌};
 
 use crate::call::Call;
 use crate::page::Page;
 use crate::verb::Reply;
-use crate::{last, say};
+use crate::{answers, last, say};
+use answer::Refusal;
 use element::tpc_report::TpcReport;
 use measured_report::{Finding, Readings};
 use std::io::Write;
-use answer::Refusal;
 
 // Every buffer is lent full of this octet, so that one that is changed shows.
 pub const BLANK: u8 = 170;
@@ -30,12 +30,15 @@ fn place(reply: Reply) -> usize
     }
 }
 
-// Puts the frame into zeros, and tells how long it is: the call's octets, and as many zeros as it says. Sizes past their limits wrap, so that every scene runs.
+// Puts the frame into zeros, and tells how long it is: the call's octets, and as many zeros as it says. Sizes past their limits wrap, so that every scene
+// runs.
 pub fn put(reply: Reply, call: Call, frame: &mut [u8]) -> usize
     ensures { result ≤ 2496 }
 {
+    let octets = call.octets_from(place(reply));
     let zeros = (call.numbers[2] % 2337) as usize;
-    call.put(place(reply), frame, 0) + zeros
+    let _ = octets::put(true, octets, frame, 0);
+    octets.len() + zeros
 }
 
 // How much of the buffer is lent.
@@ -45,56 +48,35 @@ pub fn room(call: Call) -> usize
     (call.numbers[1] % 2401) as usize
 }
 
-// A TPC Report, in which power and margin are octets.
+// The report that a TPC Request is replied with.
 pub fn report(call: Call) -> TpcReport {
-    let power = octets::to_signed(call.octets[3]);
-    let margin = octets::to_signed(call.octets[4]);
-    TpcReport { power, margin }
+    call.tpc_report(3)
 }
 
-fn finding(sort: u64, value: u64) -> Finding {
-    match sort {
+fn finding(call: Call) -> Finding {
+    match call.numbers[5] {
         0 => Finding::Refused,
-        1 => Finding::Map(last::one(value)),
-        2 => Finding::Busy(last::four(value)),
+        1 => Finding::Map(call.octets[6]),
+        2 => Finding::Busy(last::four(call.numbers[6])),
         _ => Finding::Times,
     }
 }
 
 // What was found, from the call's fifth number on.
 pub fn readings(call: Call) -> Readings {
-    let n = call.numbers;
-    let finding = finding(n[5], n[6]);
-    let times = [
-        last::four(n[7]),
-        last::four(n[8]),
-        last::four(n[9]),
-        last::four(n[10]),
-        last::four(n[11]),
-        last::four(n[12]),
-        last::four(n[13]),
-        last::four(n[14]),
-    ];
-    Readings { finding, times }
-}
-
-fn is_blank(part: &[u8]) -> bool {
-    if part.len() == 0 {
-        return true;
+    Readings {
+        finding: finding(call),
+        times: std::array::from_fn(|i| last::four(call.numbers[7 + i])),
     }
-    if part[0] != BLANK {
-        return false;
-    }
-    say::alike(part, 0) == part.len()
 }
 
 // The first octets, and whether the others are as they were lent.
 fn octets<W: Write>(page: &mut Page<W>, buffer: &[u8], count: usize) {
-    if buffer.len() < count {
+    let Some((written, others)) = buffer.split_at_checked(count) else {
         return;
-    }
-    say::octets(page, &buffer[0..count]);
-    if is_blank(&buffer[count..]) {
+    };
+    say::octets(page, written);
+    if others.iter().all(|octet| *octet == BLANK) {
         say::text(page, b" kept");
     } else {
         say::text(page, b" changed");
@@ -102,15 +84,6 @@ fn octets<W: Write>(page: &mut Page<W>, buffer: &[u8], count: usize) {
 }
 
 pub fn tell<W: Write>(page: &mut Page<W>, wrote: Result<usize, Refusal>, buffer: &[u8; ROOM]) {
-    match wrote {
-        Err(refusal) => {
-            say::octet(page, refusal.number());
-            octets(page, buffer, 0);
-        }
-        Ok(count) => {
-            say::number(page, 0);
-            say::number(page, count as u64);
-            octets(page, buffer, count);
-        }
-    }
+    answers::wrote(page, wrote);
+    octets(page, buffer, wrote.unwrap_or(0));
 }

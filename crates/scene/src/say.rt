@@ -1,6 +1,4 @@
 // Words, numbers and octets on a page.
-ghost use Rattle.std.specs.Prelude.{◌+◌, ◌≤◌, ◌<◌, length};
-
 use crate::page::Page;
 use std::io::Write;
 
@@ -17,44 +15,28 @@ pub fn number<W: Write>(page: &mut Page<W>, n: u64) {
 }
 
 pub fn octet<W: Write>(page: &mut Page<W>, o: u8) {
-    number(page, o as u64);
+    number(page, u64::from(o));
 }
 
-// How many octets from a place on are alike.
-pub fn alike(s: &[u8], from: usize) -> usize
-    requires { from < length s.now }
-    ensures { (0 < result) × (from + result ≤ length s.now) }
-{
-    let first = s[from];
-    let mut end = from + 1;
-    while end < s.len() {
-        if s[end] != first {
-            return end - from;
+// Octets that are alike.
+fn run<W: Write>(page: &mut Page<W>, alike: &[u8]) {
+    if alike.len() < RUN {
+        for o in alike {
+            octet(page, *o);
         }
-        end += 1;
+    } else {
+        octet(page, alike[0]);
+        text(page, b"*");
+        page.decimal(alike.len() as u64);
     }
-    end - from
 }
 
 pub fn octets<W: Write>(page: &mut Page<W>, s: &[u8]) {
-    let mut at = 0;
-    while at < s.len() {
-        let times = alike(s, at);
-        octet(page, s[at]);
-        if times < RUN {
-            at += 1;
-        } else {
-            text(page, b"*");
-            page.decimal(times as u64);
-            at += times;
-        }
+    for alike in s.chunk_by(|one, next| one == next) {
+        run(page, alike);
     }
 }
 
 pub fn flag<W: Write>(page: &mut Page<W>, b: bool) {
-    if b {
-        number(page, 1);
-    } else {
-        number(page, 0);
-    }
+    number(page, u64::from(b));
 }

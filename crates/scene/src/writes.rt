@@ -3,138 +3,113 @@ ghost use Rattle.std.specs.Prelude.{◌≤◌};
 
 use crate::call::Call;
 use crate::page::Page;
-use crate::{last, say};
+use crate::replies::BLANK;
+use crate::{answers, last, say};
+use answer::Refusal;
 use element::channel_switch::ChannelSwitch;
 use element::power_constraint::PowerConstraint;
 use element::quiet::Quiet;
-use element::tpc_report::TpcReport;
 use element::{channel_switch, power_constraint, quiet, tpc_report, tpc_request};
 use measurement_element::measurement_report::{Reason, Report};
 use measurement_element::measurement_request::Request;
 use measurement_element::{Found, Span, measurement_report, measurement_request};
 use std::io::Write;
-use answer::Refusal;
 
-// The fields from these places on, in the order of the element.
-fn span(n: [u64; 16], at: usize) -> Span
-    requires { at ≤ 13 }
-{
-    Span {
-        channel: last::one(n[at]),
-        start: n[at + 1],
-        duration: last::two(n[at + 2]),
+// How long the buffer is.
+const ROOM: usize = 32;
+
+fn power(call: Call) -> PowerConstraint {
+    PowerConstraint {
+        decibels: call.octets[4],
     }
 }
 
-fn asked(n: [u64; 16]) -> measurement_request::Matter {
-    match n[6] {
+fn switch(call: Call) -> ChannelSwitch {
+    ChannelSwitch {
+        mode: call.octets[4],
+        channel: call.octets[5],
+        count: call.octets[6],
+    }
+}
+
+fn quiet_of(call: Call) -> Quiet {
+    Quiet {
+        count: call.octets[5],
+        period: call.octets[6],
+        duration: last::two(call.numbers[7]),
+        offset: last::two(call.numbers[8]),
+    }
+}
+
+// From a place on, in the order of the element.
+fn span(call: Call, place: usize) -> Span
+    requires { place ≤ 13 }
+{
+    Span {
+        channel: call.octets[place],
+        start: call.numbers[place + 1],
+        duration: last::two(call.numbers[place + 2]),
+    }
+}
+
+fn asked(call: Call) -> measurement_request::Matter {
+    match call.numbers[6] {
         0 => measurement_request::Matter::Enable {
-            request: n[7] == 1,
-            report: n[8] == 1,
+            request: call.numbers[7] == 1,
+            report: call.numbers[8] == 1,
         },
-        1 => measurement_request::Matter::Measure(span(n, 7)),
+        1 => measurement_request::Matter::Measure(span(call, 7)),
         _ => measurement_request::Matter::Uninterpreted,
     }
 }
 
-fn measured(n: [u64; 16], found: Found) -> measurement_report::Matter {
+fn request(call: Call) -> Request {
+    Request {
+        token: call.octets[4],
+        kind: call.octets[5],
+        matter: asked(call),
+    }
+}
+
+fn measured(call: Call, found: Found) -> measurement_report::Matter {
     measurement_report::Matter::Measured {
-        span: span(n, 8),
+        span: span(call, 8),
         found,
     }
 }
 
-fn said(n: [u64; 16]) -> measurement_report::Matter {
-    match n[6] {
+fn said(call: Call) -> measurement_report::Matter {
+    match call.numbers[6] {
         0 => measurement_report::Matter::NotMeasured(Reason::Late),
         1 => measurement_report::Matter::NotMeasured(Reason::Incapable),
         2 => measurement_report::Matter::NotMeasured(Reason::Refused),
-        3 => measured(n, Found::Map(last::one(n[7]))),
-        4 => measured(n, Found::Busy(last::one(n[7]))),
-        5 => measured(n, Found::Densities),
+        3 => measured(call, Found::Map(call.octets[7])),
+        4 => measured(call, Found::Busy(call.octets[7])),
+        5 => measured(call, Found::Densities),
         _ => measurement_report::Matter::Uninterpreted,
     }
 }
 
-fn report(n: [u64; 16], buffer: &mut [u8], at: usize) -> Result<usize, Refusal> {
-    let power = octets::to_signed(last::one(n[4]));
-    let margin = octets::to_signed(last::one(n[5]));
-    tpc_report::write(TpcReport { power, margin }, buffer, at)
-}
-
-fn switch(n: [u64; 16], buffer: &mut [u8], at: usize) -> Result<usize, Refusal> {
-    channel_switch::write(
-        ChannelSwitch {
-            mode: last::one(n[4]),
-            channel: last::one(n[5]),
-            count: last::one(n[6]),
-        },
-        buffer,
-        at,
-    )
-}
-
-fn quiet_of(n: [u64; 16], buffer: &mut [u8], at: usize) -> Result<usize, Refusal> {
-    quiet::write(
-        Quiet {
-            count: last::one(n[5]),
-            period: last::one(n[6]),
-            duration: last::two(n[7]),
-            offset: last::two(n[8]),
-        },
-        last::two(n[4]),
-        buffer,
-        at,
-    )
-}
-
-fn request_of(n: [u64; 16], buffer: &mut [u8], at: usize) -> Result<usize, Refusal> {
-    let matter = asked(n);
-    measurement_request::write(
-        Request {
-            token: last::one(n[4]),
-            kind: last::one(n[5]),
-            matter,
-        },
-        buffer,
-        at,
-    )
-}
-
-fn report_of(n: [u64; 16], densities: [u8; 8], buffer: &mut [u8], at: usize) -> Result<usize, Refusal> {
-    let matter = said(n);
-    measurement_report::write(
-        Report {
-            token: last::one(n[4]),
-            kind: last::one(n[5]),
-            matter,
-            densities,
-        },
-        buffer,
-        at,
-    )
+fn report(call: Call) -> Report {
+    Report {
+        token: call.octets[4],
+        kind: call.octets[5],
+        matter: said(call),
+        densities: std::array::from_fn(|i| call.octets[11 + i]),
+    }
 }
 
 // An element by its ID. One that there is not must not go by unseen.
-fn written<W: Write>(
-    page: &mut Page<W>,
-    n: [u64; 16],
-    densities: [u8; 8],
-    buffer: &mut [u8],
-) -> Result<usize, Refusal> {
-    let at = n[3] as usize;
-    let id = last::one(n[1]);
-    match id {
-        power_constraint::ID => {
-            let decibels = last::one(n[4]);
-            power_constraint::write(PowerConstraint { decibels }, buffer, at)
-        }
+fn written<W: Write>(page: &mut Page<W>, call: Call, buffer: &mut [u8]) -> Result<usize, Refusal> {
+    let at = call.numbers[3] as usize;
+    match call.octets[1] {
+        power_constraint::ID => power_constraint::write(power(call), buffer, at),
         tpc_request::ID => tpc_request::write(buffer, at),
-        tpc_report::ID => report(n, buffer, at),
-        channel_switch::ID => switch(n, buffer, at),
-        measurement_request::ID => request_of(n, buffer, at),
-        measurement_report::ID => report_of(n, densities, buffer, at),
-        quiet::ID => quiet_of(n, buffer, at),
+        tpc_report::ID => tpc_report::write(call.tpc_report(4), buffer, at),
+        channel_switch::ID => channel_switch::write(switch(call), buffer, at),
+        measurement_request::ID => measurement_request::write(request(call), buffer, at),
+        measurement_report::ID => measurement_report::write(report(call), buffer, at),
+        quiet::ID => quiet::write(quiet_of(call), last::two(call.numbers[4]), buffer, at),
         _ => {
             say::text(page, b" unknown");
             Ok(0)
@@ -142,25 +117,12 @@ fn written<W: Write>(
     }
 }
 
-fn tell<W: Write>(page: &mut Page<W>, wrote: Result<usize, Refusal>, buffer: &[u8; 32]) {
-    match wrote {
-        Err(refusal) => say::octet(page, refusal.number()),
-        Ok(count) => {
-            say::number(page, 0);
-            say::number(page, count as u64);
-        }
-    }
-    say::text(page, b" in");
-    say::octets(page, buffer);
-}
-
 // Of the buffer's octets only as many are lent as the call says.
 pub fn show<W: Write>(page: &mut Page<W>, call: Call) {
-    let n = call.numbers;
-    let o = call.octets;
-    let densities = [o[11], o[12], o[13], o[14], o[15], o[16], o[17], o[18]];
-    let mut buffer = [170u8; 32];
-    let room = (n[2] % 33) as usize;
-    let wrote = written(page, n, densities, &mut buffer[0..room]);
-    tell(page, wrote, &buffer);
+    let mut buffer = [BLANK; ROOM];
+    let room = (call.numbers[2] % 33) as usize;
+    let wrote = written(page, call, &mut buffer[..room]);
+    answers::wrote(page, wrote);
+    say::text(page, b" in");
+    say::octets(page, &buffer);
 }

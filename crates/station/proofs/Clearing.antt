@@ -1,21 +1,21 @@
 -- Where nothing stands against sending, questions are granted, and the clock does not change that. Assumes nothing.
 use Rattle.std.specs.Prelude.{Some, None, Option}
 use mathlib.Core.Bool.{Bool, true, false}
-use mathlib.Core.Path.{◌≡◌, refl, sym, ap}
+use mathlib.Core.Path.{◌≡◌, refl, ap}
 use Prim.Native.Nat.{ℕ, ◌+◌, ◌-◌, ◌≤◌}
 use native.Mathlib.Omega.{arith}
-use borrow.Author.Tests.{ne_eqb, le-ltb, ltb-false}
+use borrow.Author.Tests.{le-ltb, ltb-false}
 use lib.Dec.{ltb}
 use Rattle.answer.specs.Checks.{pick}
 use Rattle.pending.specs.Waiting.{silences, up_to, comes_before}
 use Rattle.schedule.proofs.FirstUnit.{some_none, first_has}
-use Rattle.station.specs.Asking.{quiet, first_quiet, permission_of}
+use Rattle.station.specs.Asking.{quiet, first_quiet, first_of, permission_of}
 use Rattle.station.specs.Clear.{Clear, clear_until}
 use Rattle.station.specs.Stations.{unit_limit, with_clock}
 use Rattle.station.specs.Validity.{PendingFits}
 use Rattle.station.specs.declared.Station.{Station}
 use Rattle.station.specs.declared.asking.Permission.{Permission}
-use Rattle.station.proofs.Answers.{past, done}
+use Rattle.station.proofs.Ways.{some_units}
 use Rattle.pending.specs.declared.Switch.{Switch}
 
 -- ---- the pending switch
@@ -68,14 +68,15 @@ unfolding quiet
 later_clear t h k = record { free = λ u l g. k.free u (omega arith) g; unsilenced = λ g. k.unsilenced (omega arith); before_switch = k.before_switch }
 
 pub clear_granted : (s : Station) (c n : ℕ) → Clear s c → 1 ≤ n → n ≤ unit_limit → s.clock + n ≤ c → permission_of s n ≡ Permission.Granted
-unfolding permission_of
+unfolding permission_of first_of
 clear_granted s c n k some few within =
-    let uncut = not_cut s.pending (not_before s.pending k.before_switch within) in
-    sym
-    (past _ _ (ne_eqb n 0 (λ e. absurd (omega arith)))
-    (past _ _ (le-ltb unit_limit n few)
-    (past _ _ (k.unsilenced (omega arith))
-    (past _ _ (k.free s.clock (omega arith) (omega arith))
-    (past _ _ (some_none (quiet s) (s.clock + 1) (up_to s.pending (s.clock + n) - (s.clock + 1)) (λ u l h. k.free u (omega arith) (omega (arith, uncut))))
-    (past _ _ (not_before s.pending k.before_switch within)
-    done))))))
+    let unswitched = not_before s.pending k.before_switch within in
+    let uncut = not_cut s.pending unswitched in
+    simp (
+      some_units n some,
+      le-ltb unit_limit n few,
+      k.unsilenced (omega arith),
+      k.free s.clock (omega arith) (omega arith),
+      some_none (quiet s) (s.clock + 1) (up_to s.pending (s.clock + n) - (s.clock + 1)) (λ u l h. k.free u (omega arith) (omega (arith, uncut))),
+      unswitched,
+    )

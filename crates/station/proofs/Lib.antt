@@ -1,4 +1,3 @@
-pub mod Answers
 pub mod Clearing
 pub mod InUse
 pub mod KeptThroughout

@@ -9,7 +9,7 @@ use native.Mathlib.Nat.{lt-div-mul-add, mul-le-mul_right, suc-mul}
 use native.Mathlib.Omega.{arith}
 use borrow.Author.Tests.{ltb-true, ltb-false, eqb-false}
 use lib.Dec.{ltb, eqb, lit≤}
-use lib.ListN.{length, replicate, length-map, length-append, length-replicate}
+use lib.ListN.{length, drop, replicate, length-map, length-append, length-replicate}
 use lib.Seq.{drop_at}
 use Rattle.answer.proofs.Booleans.{either, neither}
 use Rattle.answer.specs.Checks.{Outcome, pick, checked, and_then}
@@ -28,7 +28,7 @@ use Rattle.schedule.specs.Schedules.{set_by}
 use Rattle.schedule.specs.declared.Schedule.{Schedule}
 use Rattle.station.specs.Clock.{stepped, switched, reached, clock_advance, advanced_to, advance_means, advance_of}
 use Rattle.station.specs.Starting.{start_forbids}
-use Rattle.station.specs.Stations.{clock_limit, unit_limit, no_schedule, fresh, with_clock, with_channel, with_power, with_pending, with_schedules, with_until}
+use Rattle.station.specs.Stations.{clock_limit, unit_limit, no_schedule, fresh, kept, with_clock, with_channel, with_power, with_pending, with_schedules, with_until}
 use Rattle.station.specs.Taking.{passed, schedules_of, outlasting, rescheduled, constrained, announced, announced_if, informed, changed_by}
 use Rattle.station.specs.Validity.{PendingFits, Valid}
 use Rattle.station.specs.declared.Station.{Station}
@@ -52,88 +52,45 @@ valid_fresh own ap b channel e =
       rest_blank = refl;
     }
 
--- ---- one field changed
+-- ---- something changed of a valid station
 
 module _ (s : Station) (v : Valid s) where
-  valid_clock : (t : ℕ) → PendingFits t s.pending → Valid (with_clock s t)
-  valid_clock t p =
-      record {
-        own_single = v.own_single;
-        ap_single = v.ap_single;
-        interval_positive = v.interval_positive;
-        channel_known = v.channel_known;
-        pending_fits = p;
-        slots = v.slots;
-        few = v.few;
-        rest_blank = v.rest_blank;
-      }
-
-  valid_channel : (channel : ℕ) → channel ≤ highest → Valid (with_channel s channel)
-  valid_channel channel h =
+  valid_kept : {clock channel count until : ℕ} {power : Option PowerConstraint} {pending : Option Switch} {xs : List Schedule}
+      → channel ≤ highest → PendingFits clock pending → length xs ≡ quiet_limit → count ≤ quiet_limit
+      → drop count xs ≡ replicate (quiet_limit - count) no_schedule
+      → Valid (kept s clock channel power pending xs count until)
+  valid_kept h fits slots few blank =
       record {
         own_single = v.own_single;
         ap_single = v.ap_single;
         interval_positive = v.interval_positive;
         channel_known = h;
-        pending_fits = v.pending_fits;
-        slots = v.slots;
-        few = v.few;
-        rest_blank = v.rest_blank;
+        pending_fits = fits;
+        slots = slots;
+        few = few;
+        rest_blank = blank;
       }
+
+  valid_clock : (t : ℕ) → PendingFits t s.pending → Valid (with_clock s t)
+  valid_clock t p = valid_kept v.channel_known p v.slots v.few v.rest_blank
+
+  valid_channel : (channel : ℕ) → channel ≤ highest → Valid (with_channel s channel)
+  valid_channel channel h = valid_kept h v.pending_fits v.slots v.few v.rest_blank
 
   valid_power : (p : Option PowerConstraint) → Valid (with_power s p)
-  valid_power p =
-      record {
-        own_single = v.own_single;
-        ap_single = v.ap_single;
-        interval_positive = v.interval_positive;
-        channel_known = v.channel_known;
-        pending_fits = v.pending_fits;
-        slots = v.slots;
-        few = v.few;
-        rest_blank = v.rest_blank;
-      }
+  valid_power p = valid_kept v.channel_known v.pending_fits v.slots v.few v.rest_blank
 
   valid_pending : (p : Option Switch) → PendingFits s.clock p → Valid (with_pending s p)
-  valid_pending p f =
-      record {
-        own_single = v.own_single;
-        ap_single = v.ap_single;
-        interval_positive = v.interval_positive;
-        channel_known = v.channel_known;
-        pending_fits = f;
-        slots = v.slots;
-        few = v.few;
-        rest_blank = v.rest_blank;
-      }
+  valid_pending p f = valid_kept v.channel_known f v.slots v.few v.rest_blank
 
   valid_schedules : (xs : List Schedule) → length xs ≤ quiet_limit → Valid (with_schedules s xs)
   valid_schedules xs h =
-      record {
-        own_single = v.own_single;
-        ap_single = v.ap_single;
-        interval_positive = v.interval_positive;
-        channel_known = v.channel_known;
-        pending_fits = v.pending_fits;
-        slots =
-            length-append xs (replicate (quiet_limit - length xs) no_schedule)
-            ∙ omega (arith, length-replicate (quiet_limit - length xs) no_schedule);
-        few = h;
-        rest_blank = drop_at xs (replicate (quiet_limit - length xs) no_schedule) (length xs) refl;
-      }
+      valid_kept v.channel_known v.pending_fits
+      (length-append xs (replicate (quiet_limit - length xs) no_schedule) ∙ omega (arith, length-replicate (quiet_limit - length xs) no_schedule))
+      h (drop_at xs (replicate (quiet_limit - length xs) no_schedule) (length xs) refl)
 
   valid_until : (e : ℕ) → Valid (with_until s e)
-  valid_until e =
-      record {
-        own_single = v.own_single;
-        ap_single = v.ap_single;
-        interval_positive = v.interval_positive;
-        channel_known = v.channel_known;
-        pending_fits = v.pending_fits;
-        slots = v.slots;
-        few = v.few;
-        rest_blank = v.rest_blank;
-      }
+  valid_until e = valid_kept v.channel_known v.pending_fits v.slots v.few v.rest_blank
 
 -- ---- the clock
 

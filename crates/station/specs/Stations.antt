@@ -43,10 +43,10 @@ fresh own ap b channel =
       until = 0;
     }
 
--- ---- a station with one field changed: the settings never do
+-- ---- a station with something changed: the settings never are
 
 module _ (s : Station) where
-  abbrev kept : ℕ → ℕ → Option PowerConstraint → Option Switch → List Schedule → ℕ → ℕ → Station
+  abbrev pub kept : ℕ → ℕ → Option PowerConstraint → Option Switch → List Schedule → ℕ → ℕ → Station
   kept clock channel power pending schedules count until =
       record {
         own = s.own;

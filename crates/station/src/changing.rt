@@ -1,6 +1,5 @@
 // What a frame changes of a station, but for its schedules (document 01, "The station"; 802.11h 11.6.7).
-ghost use Rattle.std.specs.Prelude.{◌≡◌, ◌/◌};
-ghost use Rattle.pending.specs.Waiting.{pending_by};
+ghost use Rattle.std.specs.Prelude.{◌≡◌};
 ghost use Rattle.station.specs.Rests.{at_once, rest_switched, rest_constrained, rest_announced};
 
 use element::channel_switch::ChannelSwitch;
@@ -49,27 +48,18 @@ impl Rest {
         }
     }
 
-    // The switch that an announcement sets here: its moment, its mode and its channel, whatever was pending before.
-    fn pending_by(self, switch: ChannelSwitch) -> Option<Switch>
-        ensures { result ≡ pending_by switch (self.clock / self.interval) self.interval }
-    {
-        Some(Switch::set_by(switch, self.clock, self.interval))
-    }
-
-    // An announcement, if there is one, takes the place of any that is pending. Its count is one of TBTTs, not of intervals from now; a count of 0
-    // is the switch itself.
+    // An announcement, if there is one, takes the place of any that is pending: its moment, its mode and its channel count. Its count is one of TBTTs, not
+    // of intervals from now; a count of 0 is the switch itself.
     pub fn announced(self, switch: Option<ChannelSwitch>) -> Rest
         ensures { result ≡ rest_announced self switch }
     {
         match switch {
             None => self,
-            Some(announcement) => {
-                if announcement.count == 0 {
-                    return self.switched(announcement.channel);
-                }
-                let pending = self.pending_by(announcement);
-                Rest { pending, ..self }
-            }
+            Some(announcement) if announcement.count == 0 => self.switched(announcement.channel),
+            Some(announcement) => Rest {
+                pending: Some(Switch::set_by(announcement, self.clock, self.interval)),
+                ..self
+            },
         }
     }
 }

@@ -34,6 +34,7 @@ pub fn advance_clock(clock: u32, pending: Option<Switch>, units: u32) -> Result<
 }
 
 // The answer, and the station after the call: the same as before where the call was refused.
+// Kept beside one another: a refused call gives the station back, and `advance_of` promises which. The field says whose state it is.
 #[derive(Clone, Copy)]
 pub struct Stepped {
     pub answer: Result<(), Refusal>,

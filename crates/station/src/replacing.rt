@@ -74,9 +74,9 @@ pub fn replace(
     let passed = clock / u32::from(interval);
     let mut slots = schedules;
     let mut latest = until;
-    for i in 0..extent.top {
-        latest = later(latest, slots[i].end_begun(clock));
-        slots[i] = slot_of(quiets[i], i, extent.used, passed, interval);
+    for slot in 0..extent.top {
+        latest = later(latest, slots[slot].end_begun(clock));
+        slots[slot] = slot_of(quiets[slot], slot, extent.used, passed, interval);
     }
     Replaced {
         schedules: slots,

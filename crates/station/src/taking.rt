@@ -14,6 +14,7 @@ use element::quiet::Quiet;
 use frame::{Change, Received};
 
 // The verdict on a frame, and the station after it: the same as before where the frame was refused.
+// Kept beside one another: a refused call gives the station back, and `take_of` promises which. The field says whose state it is.
 #[derive(Clone, Copy)]
 pub struct Taken {
     pub verdict: Result<(), Fault>,
@@ -77,6 +78,7 @@ impl Station {
         }
     }
 
+    #[tactic(auto, using(crate::proofs::Received::read_means, frame::proofs::Allowing::read_allowed))]
     pub fn take(self, frame: &[u8]) -> Taken
         requires { Valid self }
         ensures value { result ≡ take_of self frame.now }

@@ -1,16 +1,17 @@
 -- The first row of those that are sought, by its place. Assumes nothing.
-use Rattle.std.specs.Prelude.{Ok, Err, Some, None, Option}
-use mathlib.Core.Bool.{Bool, true, false, ◌||◌}
+use Rattle.std.specs.Prelude.{Ok, Err, Some, None, Option, position}
+use Rattle.std.specs.List.{position_from}
+use Rattle.std.proofs.lemmas.Iterator.Adapters.{position_from-zero}
+use mathlib.Core.Bool.{Bool, true, false, cond, ◌||◌}
 use mathlib.Core.List.{List, [], ◌∷◌}
 use mathlib.Core.Logic.{⊎_elim}
 use mathlib.Core.Path.{◌≡◌, refl, sym, ap, ◌∙◌, subst}
-use Prim.Native.Nat.{ℕ, suc, ◌<◌}
+use Prim.Native.Nat.{ℕ, suc, ◌+◌, ◌<◌}
 use native.Mathlib.Omega.{arith}
 use lib.ListN.{length, get_or, set}
 use Rattle.answer.proofs.Booleans.{either}
 use Rattle.answer.specs.Checks.{pick}
 use Rattle.answer.specs.declared.Refusal.{Refusal}
-use Rattle.row.specs.Places.{further, place_of}
 use Rattle.row.specs.declared.Row.{Row}
 use Rattle.table.specs.Tables.{some_row, on_first, first_such}
 
@@ -52,37 +53,35 @@ module _ (p : Row → Bool) where
     station = λ d. ap (λ (b : Bool). pick b (Ok w.station) (first_such p ws)) n ∙ x.station d;
   }
 
-  pub found_at : (ws : List Row) (i : ℕ) → place_of p ws ≡ Some i → FoundAt p ws i
-  unfolding place_of
-  found_at [] i e = nowhere_at e
-  found_at (w ∷ ws) i e =
-      ⊎_elim
-      (λ (y : p w ≡ true). subst (FoundAt p (w ∷ ws)) (same_place (sym (by_test_lem y) ∙ e)) (here w ws y))
-      (λ (n : p w ≡ false). by_rest (place_of p ws) refl n (sym (by_test_lem n) ∙ e) (λ j. found_at ws j))
-      (either (p w))
-    where
-      by_test_lem : {b : Bool} → p w ≡ b → place_of p (w ∷ ws) ≡ pick b (Some 0) (further (place_of p ws))
-      by_test_lem t = ap (λ (b : Bool). pick b (Some 0) (further (place_of p ws))) t
+  -- where those that are sought are counted from k on
+  abbrev by_here : Bool → ℕ → List Row → Option ℕ
+  by_here b k ws = cond b (Some k) (position_from p (k + 1) ws)
 
-      by_rest : (q : Option ℕ) → place_of p ws ≡ q → p w ≡ false → further (place_of p ws) ≡ Some i
-          → ((j : ℕ) → place_of p ws ≡ Some j → FoundAt p ws j) → FoundAt p (w ∷ ws) i
-      by_rest None r n g rest = nowhere_at (sym (ap further r) ∙ g)
-      by_rest (Some j) r n g rest = subst (FoundAt p (w ∷ ws)) (same_place (sym (ap further r) ∙ g)) (after w ws j n (rest j r))
-
-  pub none_such : (ws : List Row) → place_of p ws ≡ None → (some_row p ws ≡ false) × (first_such p ws ≡ Err Refusal.NotJoined)
-  unfolding place_of some_row first_such
-  none_such [] e = (refl, refl)
-  none_such (w ∷ ws) e =
+  found_from : (ws : List Row) (k i : ℕ) → position_from p k ws ≡ Some i → (j : ℕ) × (i ≡ k + j) × FoundAt p ws j
+  found_from [] k i e = nowhere_at e
+  found_from (w ∷ ws) k i e =
       ⊎_elim
-      (λ (y : p w ≡ true). at_nowhere (sym (by_test_lem y) ∙ e))
+      (λ (y : p w ≡ true).
+      let same : k ≡ i = same_place (sym (ap (λ (b : Bool). by_here b k ws) y) ∙ e) in (0, omega arith, here w ws y))
       (λ (n : p w ≡ false).
-      let rest = none_such ws (by_rest (place_of p ws) refl (sym (by_test_lem n) ∙ e)) in
+      let rest = found_from ws (k + 1) i (sym (ap (λ (b : Bool). by_here b k ws) n) ∙ e) in (suc rest.0, omega (arith, rest.1), after w ws rest.0 n rest.2))
+      (either (p w))
+
+  pub found_at : (ws : List Row) (i : ℕ) → position p ws ≡ Some i → FoundAt p ws i
+  found_at ws i e =
+      let found = found_from ws 0 i (sym (position_from-zero p ws) ∙ e) in
+      subst (FoundAt p ws) (let same : found.0 ≡ i = omega (arith, found.1) in same) found.2
+
+  none_from : (ws : List Row) (k : ℕ) → position_from p k ws ≡ None → (some_row p ws ≡ false) × (first_such p ws ≡ Err Refusal.NotJoined)
+  unfolding some_row first_such
+  none_from [] k e = (refl, refl)
+  none_from (w ∷ ws) k e =
+      ⊎_elim
+      (λ (y : p w ≡ true). at_nowhere (sym (ap (λ (b : Bool). by_here b k ws) y) ∙ e))
+      (λ (n : p w ≡ false).
+      let rest = none_from ws (k + 1) (sym (ap (λ (b : Bool). by_here b k ws) n) ∙ e) in
       (ap (λ (b : Bool). b || some_row p ws) n ∙ rest.0, ap (λ (b : Bool). pick b (Ok w.station) (first_such p ws)) n ∙ rest.1))
       (either (p w))
-    where
-      by_test_lem : {b : Bool} → p w ≡ b → place_of p (w ∷ ws) ≡ pick b (Some 0) (further (place_of p ws))
-      by_test_lem t = ap (λ (b : Bool). pick b (Some 0) (further (place_of p ws))) t
 
-      by_rest : (q : Option ℕ) → place_of p ws ≡ q → further (place_of p ws) ≡ None → place_of p ws ≡ None
-      by_rest None r g = r
-      by_rest (Some j) r g = at_nowhere (sym (ap further r) ∙ g)
+  pub none_such : (ws : List Row) → position p ws ≡ None → (some_row p ws ≡ false) × (first_such p ws ≡ Err Refusal.NotJoined)
+  none_such ws e = none_from ws 0 (sym (position_from-zero p ws) ∙ e)

@@ -2,6 +2,5 @@ pub mod FirstRow
 pub mod Neighbours
 pub mod Outcomes
 pub mod Readers
-pub mod SameReply
 pub mod StaysApart
 pub mod StaysValid

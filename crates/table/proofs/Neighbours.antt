@@ -1,5 +1,6 @@
 -- The station of an address after a call: what is done to another row leaves it, and what is done to all rows or to its own is done to it. Assumes nothing.
-use Rattle.std.specs.Prelude.{Ok}
+use Rattle.std.specs.Prelude.{Ok, All}
+use Rattle.std.proofs.lemmas.List.Elements.{All-head, All-tail}
 use mathlib.Core.Bool.{Bool, true, false, not, ◌&&◌, ◌||◌}
 use mathlib.Core.List.{List, [], ◌∷◌, map}
 use mathlib.Core.Logic.{⊎_elim}
@@ -10,7 +11,7 @@ use Rattle.answer.proofs.Judged.{never}
 use Rattle.answer.specs.Checks.{Outcome, pick, and_then}
 use Rattle.header.proofs.Addresses.{same_self, same_is}
 use Rattle.header.specs.Headers.{same}
-use Rattle.row.specs.Rows.{seated, is_of, is_free, All}
+use Rattle.row.specs.Rows.{seated, is_of, is_free}
 use Rattle.row.specs.declared.Row.{Row}
 use Rattle.station.specs.declared.Station.{Station}
 use Rattle.table.specs.Tables.{some_row, on_first, first_such}
@@ -117,12 +118,12 @@ found_some q (w ∷ ws) s e =
 -- and, where each row is such that P, so is its own
 pub found_such : (q : Row → Bool) (P : Row → Type 0) (ws : List Row) (s : Station) → All P ws → first_such q ws ≡ Ok s
     → (w : Row) × (q w ≡ true) × P w × (w.station ≡ s)
-unfolding first_such All
+unfolding first_such
 found_such q P [] s v e = absurd (never e)
 found_such q P (w ∷ ws) s v e =
     ⊎_elim
-    (λ (y : q w ≡ true). (w, y, v.0, accepted_is (ap (λ (b : Bool). pick b (Ok w.station) (first_such q ws)) (sym y) ∙ e)))
-    (λ (n : q w ≡ false). found_such q P ws s v.1 (ap (λ (b : Bool). pick b (Ok w.station) (first_such q ws)) (sym n) ∙ e))
+    (λ (y : q w ≡ true). (w, y, All-head P w ws v, accepted_is (ap (λ (b : Bool). pick b (Ok w.station) (first_such q ws)) (sym y) ∙ e)))
+    (λ (n : q w ≡ false). found_such q P ws s (All-tail P w ws v) (ap (λ (b : Bool). pick b (Ok w.station) (first_such q ws)) (sym n) ∙ e))
     (either (q w))
   where
     accepted_is : {a b : Station} → ◌≡◌ {A = Outcome Station} (Ok a) (Ok b) → a ≡ b

@@ -1,5 +1,5 @@
 -- The station as which a frame is read, and whom an accepted frame was sent to. Assumes nothing.
-use Rattle.std.specs.Prelude.{Ok, Some, None, Option}
+use Rattle.std.specs.Prelude.{Ok, Some, None, Option, position}
 use mathlib.Core.Bool.{Bool, true, false, not, ◌||◌}
 use mathlib.Core.List.{List, [], ◌∷◌}
 use mathlib.Core.Logic.{⊎_elim}
@@ -19,7 +19,6 @@ use Rattle.header.specs.Headers.{header_length, body_of, same, da, bssid, to_all
 use Rattle.header.specs.declared.Head.{Head}
 use Rattle.header.specs.declared.address.Cell.{Cell}
 use Rattle.octets.specs.Numbers.{bit, octet}
-use Rattle.row.specs.Places.{place_of}
 use Rattle.row.specs.Rows.{is_of}
 use Rattle.table.specs.CodeTerms.Hearing.{reader_at}
 use Rattle.table.specs.Tables.{is_joined, reader_of}
@@ -37,7 +36,7 @@ module _ (t : Table) (f : List ℕ) where
   unfolding reader_of
   reader_else e = ap (λ (b : Bool). pick b (da f) (replicate 6 255)) e
 
-  pub reader_placed : (q : Option ℕ) → place_of (is_of (da f)) t.rows ≡ q → reader_at q (da f) ≡ reader_of t f
+  pub reader_placed : (q : Option ℕ) → position (is_of (da f)) t.rows ≡ q → reader_at q (da f) ≡ reader_of t f
   reader_placed (Some i) e = sym (reader_joined (found_at (is_of (da f)) t.rows i e).there)
   reader_placed None e = sym (reader_else (none_such (is_of (da f)) t.rows e).0)
 

@@ -1,4 +1,6 @@
 -- Rows that are joined keep distinct addresses, whatever call is made. Assumes nothing.
+use Rattle.std.specs.Prelude.{All}
+use Rattle.std.proofs.lemmas.List.Elements.{All-map, All-weaker, All-cons, All-head, All-tail}
 use mathlib.Core.Bool.{Bool, true, false, not, ◌&&◌, ◌||◌}
 use mathlib.Core.List.{List, [], ◌∷◌, map}
 use mathlib.Core.Logic.{⊎_elim}
@@ -9,7 +11,7 @@ use Rattle.answer.proofs.Booleans.{clash, either, neither, and_go, or_go}
 use Rattle.answer.specs.Checks.{pick}
 use Rattle.header.proofs.Addresses.{same_self, same_is}
 use Rattle.header.specs.Headers.{same}
-use Rattle.row.specs.Rows.{free, seated, is_of, is_free, All}
+use Rattle.row.specs.Rows.{free, seated, is_of, is_free}
 use Rattle.row.specs.declared.Row.{Row}
 use Rattle.station.specs.declared.Station.{Station}
 use Rattle.table.specs.Tables.{some_row, on_first}
@@ -17,26 +19,20 @@ use Rattle.table.specs.Validity.{Apart}
 
 -- ---- all of the rows
 
-module _ (P Q : Row → Type 0) where
-  pub all_map : (f : Row → Row) → ((w : Row) → P w → Q (f w)) → (ws : List Row) → All P ws → All Q (map f ws)
-  unfolding All
-  all_map f g [] v = tt
-  all_map f g (w ∷ ws) v = (g w v.0, all_map f g ws v.1)
-
-  pub all_kept : ((w : Row) → P w → Q w) → (ws : List Row) → All P ws → All Q ws
-  unfolding All
-  all_kept g [] v = tt
-  all_kept g (w ∷ ws) v = (g w v.0, all_kept g ws v.1)
+pub all_map : (P Q : Row → Type 0) (f : Row → Row) → ((w : Row) → P w → Q (f w)) → (ws : List Row) → All P ws → All Q (map f ws)
+all_map P Q f g ws v = All-map Q f ws (All-weaker P (λ w. Q (f w)) g ws v)
 
 module _ (P : Row → Type 0) (p : Row → Bool) (f : Row → Row) where
   pub all_on_first : ((w : Row) → p w ≡ true → P w → P (f w)) → (ws : List Row) → All P ws → All P (on_first p f ws)
-  unfolding All on_first
-  all_on_first g [] v = tt
+  unfolding on_first
+  all_on_first g [] v = v
   all_on_first g (w ∷ ws) v =
+      let first = All-head P w ws v in
+      let rest = All-tail P w ws v in
       ⊎_elim
-      (λ (y : p w ≡ true). subst (All P) (ap (λ (b : Bool). pick b (f w ∷ ws) (w ∷ on_first p f ws)) (sym y)) (g w y v.0, v.1))
+      (λ (y : p w ≡ true). subst (All P) (ap (λ (b : Bool). pick b (f w ∷ ws) (w ∷ on_first p f ws)) (sym y)) (All-cons P (f w) ws (g w y first) rest))
       (λ (n : p w ≡ false).
-      subst (All P) (ap (λ (b : Bool). pick b (f w ∷ ws) (w ∷ on_first p f ws)) (sym n)) (v.0, all_on_first g ws v.1))
+      subst (All P) (ap (λ (b : Bool). pick b (f w ∷ ws) (w ∷ on_first p f ws)) (sym n)) (All-cons P w (on_first p f ws) first (all_on_first g ws rest)))
       (either (p w))
 
 pub length_on_first : (p : Row → Bool) (f : Row → Row) (ws : List Row) → length (on_first p f ws) ≡ length ws

@@ -1,5 +1,6 @@
 -- What the calls leave is a valid table. Assumes nothing.
-use Rattle.std.specs.Prelude.{Some, None, Option}
+use Rattle.std.specs.Prelude.{All, Ok, Some, None, Option}
+use Rattle.std.proofs.lemmas.List.Elements.{All-replicate}
 use mathlib.Core.Bool.{Bool, true, false, ◌||◌}
 use mathlib.Core.List.{List, map}
 use mathlib.Core.Path.{◌≡◌, refl, sym, ap, ◌∙◌, subst}
@@ -9,13 +10,14 @@ use borrow.Author.Tests.{eqb-false, ne_eqb}
 use lib.Dec.{ltb, eqb}
 use lib.ListN.{length, replicate, length-map}
 use Rattle.answer.proofs.Booleans.{clash, neither, or_go}
-use Rattle.answer.specs.Checks.{pick}
+use Rattle.answer.proofs.Judged.{past, done}
+use Rattle.answer.specs.Checks.{Outcome, pick, and_then}
 use Rattle.channel.specs.Centres.{highest}
 use Rattle.frame.specs.Allowed.{KindAllowed}
 use Rattle.frame.specs.Frames.{Kind}
 use Rattle.frame.specs.Laid.{frame_of, quiets_of}
 use Rattle.octets.specs.Numbers.{bit, octet}
-use Rattle.row.specs.Rows.{row_count, free, seated, is_free, All, Occupied, ValidRow, ValidRows, row_ticked}
+use Rattle.row.specs.Rows.{row_count, free, seated, is_free, row_ticked}
 use Rattle.row.specs.declared.Row.{Row}
 use Rattle.station.proofs.KeptThroughout.{Unchanged, heard_unchanged, KeptThroughout, advance_keeps}
 use Rattle.station.proofs.StaysValid.{valid_fresh, advanced, valid_changed}
@@ -30,15 +32,10 @@ use Rattle.station.specs.declared.clock.Stepped.{Stepped}
 use Rattle.table.specs.Tables.{ticked_table, with_rows, on_first, is_joined, empty, start_forbids, newcomer, join_forbids, hearing}
 use Rattle.table.specs.Validity.{Sits, Holds, RowOf, Apart, ValidTable}
 use Rattle.table.specs.declared.Table.{Table}
-use Rattle.table.proofs.StaysApart.{all_map, all_kept, all_on_first, length_on_first, SameSeat, apart_same, seats_map, seats_on_first, apart_left, apart_joined}
+use Rattle.table.proofs.StaysApart.{all_map, all_on_first, length_on_first, SameSeat, apart_same, seats_map, seats_on_first, apart_left, apart_joined}
 use Rattle.pending.specs.declared.Switch.{Switch}
 
 -- ---- start
-
-all_free : (P : Row → Type 0) → P free → (n : ℕ) → All P (replicate n free)
-unfolding All
-all_free P v zero = tt
-all_free P v (suc n) = (v, all_free P v n)
 
 apart_free : (n : ℕ) → Apart (replicate n free)
 unfolding Apart
@@ -52,7 +49,7 @@ valid_empty ap' b n =
       ap_single = off.1;
       interval_positive = let some : b ≡ 0 → ⊥ = eqb-false b 0 off.0 in omega (arith, some);
       sixteen = refl;
-      each = all_free (RowOf (empty ap' b)) refl row_count;
+      each = All-replicate (RowOf (empty ap' b)) row_count free refl;
       apart = apart_free row_count;
     }
 
@@ -78,30 +75,18 @@ ticked_seat n w = by w.joined refl
 pub goes_on : (s : Station) (n : ℕ) → (ltb unit_limit n || ltb clock_limit (s.clock + n)) ≡ false → (advance_of s n).station.clock ≡ s.clock + n
 unfolding advance_means clock_advance
 goes_on s n near =
-    ap (λ (far : Bool). (station_stepped s (advanced_to s (pick far Advanced.Refused (reached (s.clock + n) s.pending)))).station.clock) near
+    ap (λ (o : Outcome Advanced). (station_stepped s (and_then o (λ a. Ok (advanced_to s a)))).station.clock) (sym (past _ _ _ near (done _)))
     ∙ by_pending s.pending
   where
-    by_test_lem : (b : Bool) (channel : ℕ)
-        → (station_stepped s (advanced_to s (pick b (Advanced.Goes (s.clock + n)) (Advanced.Switches (s.clock + n) channel)))).station.clock ≡ s.clock + n
+    by_test_lem : (b : Bool) (channel : ℕ) → (advanced_to s (pick b (Advanced.Goes (s.clock + n)) (Advanced.Switches (s.clock + n) channel))).clock ≡ s.clock + n
     by_test_lem true channel = refl
     by_test_lem false channel = refl
 
-    by_pending : (p : Option Switch) → (station_stepped s (advanced_to s (reached (s.clock + n) p))).station.clock ≡ s.clock + n
+    by_pending : (p : Option Switch) → (advanced_to s (reached (s.clock + n) p)).clock ≡ s.clock + n
     by_pending None = refl
     by_pending (Some x) = by_test_lem (ltb (s.clock + n) x.at) x.channel
 
 module _ (t : Table) (v : ValidTable t) where
-  -- what a row of it asks of a station, without the table
-  pub rows_valid : ValidRows t.rows
-  rows_valid = record { sixteen = v.sixteen; each = all_kept (RowOf t) ValidRow row_valid t.rows v.each }
-    where
-      by : (b : Bool) (s : Station) → Holds t.ap t.interval t.clock b s → Occupied Valid b s
-      by true s h = h.valid
-      by false s h = h
-
-      row_valid : (w : Row) → RowOf t w → ValidRow w
-      row_valid w h = by w.joined w.station h
-
   -- other rows in it, as many, each of this table and all apart
   pub valid_rows : (ws : List Row) → length ws ≡ length t.rows → All (RowOf t) ws → Apart ws → ValidTable (with_rows t ws)
   valid_rows ws l each apart = record {
@@ -193,7 +178,7 @@ module _ (t : Table) (v : ValidTable t) where
     advanced_sits s h =
         let same = advance_keeps s n in
         record {
-          valid = subst (λ (x : Stepped). Valid x.station) (advanced s n _ refl h.valid).0 (advanced s n _ refl h.valid).1;
+          valid = let w = advanced s n _ refl h.valid in subst (λ (x : Stepped). Valid x.station) w.0 w.1;
           same_ap = ap (λ (z : KeptThroughout). z.1) same ∙ h.same_ap;
           same_interval = ap (λ (z : KeptThroughout). z.2) same ∙ h.same_interval;
           same_clock = goes_on s n (ap (λ (m : ℕ). ltb unit_limit n || ltb clock_limit (m + n)) h.same_clock ∙ near) ∙ ap (λ (m : ℕ). m + n) h.same_clock;

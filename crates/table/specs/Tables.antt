@@ -17,7 +17,6 @@ use Rattle.station.specs.declared.Station.{Station}
 use Rattle.station.specs.declared.asking.Permission.{Permission}
 use Rattle.table.specs.declared.Stepped.{Stepped}
 use Rattle.table.specs.declared.Table.{Table}
-use Rattle.table.specs.declared.starting.Started.{Started}
 use Rattle.table.specs.declared.taking.Taken.{Taken}
 
 abbrev pub with_rows : Table → List Row → Table

@@ -1,8 +1,8 @@
 -- What start and the calls make of a table (02, Six): the one thing that a call asks of the table it is handed. Rows that are joined have distinct individual
 -- addresses and the table's AP, interval and clock; the others hold one fixed blank.
-use Rattle.std.specs.Prelude.{Bool, true, false, List, [], ◌∷◌, ◌≡◌, ℕ, ◌≤◌, length}
+use Rattle.std.specs.Prelude.{Bool, true, false, List, [], ◌∷◌, ◌≡◌, ℕ, ◌≤◌, length, All}
 use Rattle.octets.specs.Numbers.{bit, octet}
-use Rattle.row.specs.Rows.{row_count, is_of, All, Occupied}
+use Rattle.row.specs.Rows.{row_count, is_of, Occupied}
 use Rattle.row.specs.declared.Row.{Row}
 use Rattle.station.specs.Validity.{Valid}
 use Rattle.station.specs.declared.Station.{Station}

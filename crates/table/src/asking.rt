@@ -19,6 +19,7 @@ pub fn number(asked: Result<Permission, Refusal>) -> u8
 
 impl Table {
     // Whether the station of an address may send for so many TU.
+    #[tactic(auto, using(crate::proofs::Outcomes::asking))]
     pub fn ask(self, own: [u8; 6], units: u32) -> Result<Permission, Refusal>
         requires { ValidTable self }
         ensures { result ≡ ask_means self own units }

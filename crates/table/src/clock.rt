@@ -9,6 +9,7 @@ use station::Station;
 
 impl Table {
     // It is refused for the whole table, or every station that is joined goes on, with the table's clock.
+    #[tactic(auto, unfolding(crate::specs::Tables::tick_means, answer::specs::Checks::checked), using(crate::proofs::StaysValid::valid_ticked))]
     pub fn tick(self, units: u32) -> Stepped
         requires { ValidTable self }
         ensures value { result ≡ tick_of self units }

@@ -23,6 +23,7 @@ fn seat_among(sitting: Option<usize>, vacant: Option<usize>) -> Result<usize, Re
 
 impl Table {
     // A station takes the first free row.
+    #[tactic(auto, using(crate::proofs::Outcomes::seat_within))]
     fn seat(self, station: Station) -> Stepped
         requires { ValidTable self }
         ensures { result ≡ stepped self (seat_means self station) }
@@ -35,6 +36,7 @@ impl Table {
     }
 
     // A new station begins afresh at the table's clock, on the channel that is named. What its start is refused for comes first, which is 15.
+    #[tactic(auto, using(crate::proofs::Outcomes::join_accepted))]
     pub fn join(self, own: [u8; 6], channel: u8) -> Stepped
         requires { ValidTable self }
         ensures value { result ≡ join_of self own channel }
@@ -50,6 +52,7 @@ impl Table {
     }
 
     // Its row is free again.
+    #[tactic(auto, using(crate::proofs::Outcomes::leaving))]
     pub fn leave(self, own: [u8; 6]) -> Stepped
         requires { ValidTable self }
         ensures value { result ≡ leave_of self own }

@@ -14,8 +14,8 @@ ghost use Rattle.table.specs.CodeTerms.Hearing.{reader_at};
 ghost use Rattle.table.specs.Tables.{reader_of, stepped, with_rows};
 
 use answer::Refusal;
-use row::Row;
 pub use asking::number;
+use row::Row;
 pub use taking::Taken;
 
 // What is kept between calls. Every station that is joined has the table's AP, interval and clock.
@@ -28,6 +28,7 @@ pub struct Table {
 }
 
 // The answer, and the table after the call: the same as before where the call was refused.
+// Kept beside one another: a refused call gives the table back, and `tick_of` promises which. The field says whose state it is.
 #[derive(Clone, Copy)]
 pub struct Stepped {
     pub answer: Result<(), Refusal>,
@@ -66,6 +67,7 @@ fn reader_at(place: Option<usize>, to: [u8; 6]) -> [u8; 6]
 
 impl Table {
     // The station as which a frame is read.
+    #[tactic(auto, using(crate::proofs::Readers::reader_placed))]
     fn reader_of(self, frame: &[u8]) -> [u8; 6]
         ensures { result ≡ reader_of self frame.now }
     {

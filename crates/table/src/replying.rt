@@ -4,13 +4,18 @@ ghost use Rattle.reply.specs.Replies.{Replied};
 ghost use Rattle.table.specs.Replies.{tpc_reply_of, measurement_reply_of};
 
 use crate::Table;
+use answer::Refusal;
 use element::tpc_report::TpcReport;
 use measured_report::Readings;
-use answer::Refusal;
 
 impl Table {
     // The reply to a TPC Request, with the power and the margin that the caller has measured.
-    pub fn reply_to_tpc_request(self, frame: &[u8], report: TpcReport, buffer: &mut [u8]) -> Result<usize, Refusal>
+    pub fn reply_to_tpc_request(
+        self,
+        frame: &[u8],
+        report: TpcReport,
+        buffer: &mut [u8],
+    ) -> Result<usize, Refusal>
         ensures { Replied (tpc_reply_of self report frame.now) buffer.old result buffer.new }
     {
         reply::to_tpc_request(frame, self.reader_of(frame), self.ap, report, buffer)

@@ -29,6 +29,7 @@ impl Table {
     }
 
     // It begins at clock 0, or is refused with 15.
+    #[tactic(auto, unfolding(crate::specs::Tables::start_means, answer::specs::Checks::checked), using(crate::proofs::StaysValid::valid_empty))]
     pub fn start(ap: [u8; 6], interval: u16) -> Result<Table, Refusal>
         ensures value { result ≡ start_means ap interval }
         ensures valid { IfOk result ValidTable }

@@ -7,10 +7,11 @@ ghost use Rattle.table.specs.Tables.{take_of, with_rows};
 ghost use Rattle.table.specs.Validity.{ValidTable};
 
 use crate::Table;
-use frame::Received;
 use answer::Fault;
+use frame::Received;
 
 // The verdict on a frame, and the table after it: the same as before where the frame was refused.
+// Kept beside one another: a refused call gives the table back, and `take_of` promises which. The field says whose state it is.
 #[derive(Clone, Copy)]
 pub struct Taken {
     pub verdict: Result<(), Fault>,
@@ -35,6 +36,7 @@ impl Table {
     }
 
     // The frame is read once, whatever rows it goes to.
+    #[tactic(auto, using(crate::proofs::Outcomes::taking))]
     pub fn take(self, frame: &[u8]) -> Taken
         requires { ValidTable self }
         ensures value { result ≡ take_of self frame.now }

@@ -1,7 +1,8 @@
 -- The lister with its station taken apart.
-use Rattle.std.specs.Prelude.{true, List, ◌≡◌, ℕ}
-use Rattle.apart.specs.Apart.{whole_of, Makes}
-use Rattle.apart.specs.Columns.{Columns}
+use Rattle.std.specs.Prelude.{true, List, ◌≡◌, ℕ, ◌≤◌}
+use Rattle.apart.specs.Apart.{whole_of}
+use Rattle.apart.specs.declared.columns.Columns.{Columns}
+use Rattle.beacon.specs.Beacons.{quiet_limit}
 use Rattle.capture_record.specs.Entries.{entry_told}
 use Rattle.capture_record.specs.declared.entry.Entry.{Entry}
 use Rattle.station.specs.Clear.{Clear}
@@ -19,7 +20,7 @@ lister_of p n c = record { lines = n; blocks = p.blocks; damaged = p.damaged; ac
 
 -- the parts are those of a lister, whatever its lines
 pub record PartsOf (l : Lister) (p : Parts) (c : Columns) : Type 0 where
-  pub makes : Makes p.apart c
+  pub few : p.apart.count ≤ quiet_limit
   pub same : (n : ℕ) → lister_of p n c ≡ with_lines l n
 
 -- a record that was noted: its line, and the parts after it

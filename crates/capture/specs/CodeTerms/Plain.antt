@@ -1,5 +1,6 @@
 -- The records that ask no more of a station than its clock and its pending switch, and their lines.
-use Rattle.std.specs.Prelude.{Bool, true, false, not, ◌&&◌, List, ◌≡◌, ℕ, ◌+◌, ◌-◌, ◌*◌, ◌/◌, ◌≤◌, leb, eqb, length, drop, Option}
+use Rattle.std.specs.Prelude.{Bool, true, false, not, ◌&&◌, List, ◌≡◌, ℕ, ◌+◌, ◌-◌, ◌*◌, ◌/◌, ◌≤◌, leb, eqb, length, drop, Ok, Option}
+use Rattle.answer.specs.Checks.{Outcome}
 use Rattle.capture_record.specs.Entries.{Noted, advancing, asking, entry_means}
 use Rattle.capture_record.specs.Records.{more, records_in}
 use Rattle.octets.specs.Writing.{over}
@@ -25,10 +26,9 @@ abbrev pub known_granted : ℕ → ℕ → ℕ → Bool
 known_granted t c n = not (eqb n 0) && leb (t + n) c
 
 -- an advance that ends at a place
-abbrev pub goes_to : Advanced → ℕ → Plain
-goes_to (Advanced.Goes t) end = Plain.Goes t end
-goes_to Advanced.Refused end = Plain.Other
-goes_to (Advanced.Switches t channel) end = Plain.Other
+abbrev pub goes_to : Outcome Advanced → ℕ → Plain
+goes_to (Ok (Advanced.Goes t)) end = Plain.Goes t end
+goes_to _ end = Plain.Other
 
 -- the record at a place notes this, and the next one stands at `end`
 pub record Notes (used : List ℕ) (at end : ℕ) (x : Noted) : Type 0 where
@@ -40,7 +40,7 @@ pub record Notes (used : List ℕ) (at end : ℕ) (x : Noted) : Type 0 where
   pub within : end ≤ length used
 
 abbrev pub PlainAt : List ℕ → ℕ → ℕ → Option Switch → ℕ → Plain → Type 0
-PlainAt used at t p c (Plain.Goes later end) = (n : ℕ) × Notes used at end (advancing n) × (clock_advance t p n ≡ Advanced.Goes later)
+PlainAt used at t p c (Plain.Goes later end) = (n : ℕ) × Notes used at end (advancing n) × (clock_advance t p n ≡ Ok (Advanced.Goes later))
 PlainAt used at t p c (Plain.Granted end) = (n : ℕ) × Notes used at end (asking n) × (n ≤ unit_limit) × (known_granted t c n ≡ true)
 PlainAt used at t p c Plain.Other = Unit {0}
 

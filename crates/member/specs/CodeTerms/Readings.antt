@@ -1,6 +1,5 @@
 -- What was read of a frame, as the code tells it.
 use Rattle.std.specs.Prelude.{Bool, true, false, Ok, Err, Some, None, Option, is_some}
-use Rattle.answer.specs.Checks.{pick}
 use Rattle.frame.specs.declared.Frame.{Frame}
 use Rattle.frame.specs.declared.Received.{Received}
 use Rattle.element.specs.declared.ibss_dfs.IbssDfs.{IbssDfs}

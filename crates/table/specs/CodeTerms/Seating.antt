@@ -1,5 +1,5 @@
 -- A station that may be joined, but for the rows (02, Six), and the row that it takes.
-use Rattle.std.specs.Prelude.{not, [], ◌∷◌, Ok, Err, Some, None, Option}
+use Rattle.std.specs.Prelude.{ℕ, not, [], ◌∷◌, Ok, Err, Some, None, Option}
 use Rattle.answer.specs.Checks.{Outcome, ◌⇒◌, judged}
 use Rattle.answer.specs.declared.Refusal.{Refusal}
 use Rattle.row.specs.Rows.{seated, is_free}

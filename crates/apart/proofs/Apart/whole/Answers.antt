@@ -1,5 +1,4 @@
 -- `Apart::whole` meets its contract: every field is in its place.
--- Assumes nothing.
 use Rattle.std.proofs.Common.{refl}
 use Rattle.apart.specs.Apart.{whole_of}
 use Rattle.apart.proofs.Apart.whole.Goals as goal

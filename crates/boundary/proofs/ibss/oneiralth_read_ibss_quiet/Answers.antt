@@ -1,47 +1,24 @@
--- `oneiralth_read_ibss_quiet` meets its contract: minus a refusal's number, or the fields of the element at the index.
+-- `oneiralth_read_ibss_quiet` meets its contract where the frame is accepted: the element at the index, of the addresses that the numbers stand for.
 use Rattle.std.specs.Prelude.{Ok}
-use Rattle.std.proofs.Common.{List, ap, ap₂, subst, sym, ℕ, ◌∙◌, ◌≡◌, ◌≤◌}
+use Rattle.std.proofs.Common.{List, ap, sym, ℕ, ◌∙◌, ◌≡◌}
 use Rattle.answer.specs.Checks.{Outcome, and_then}
-use Rattle.answer.specs.Faults.{Placed}
-use Rattle.beacon.specs.Beacons.{quiet_limit}
 use Rattle.element.specs.Quiet.{quiet_contents}
 use Rattle.element.specs.declared.quiet.Quiet.{Quiet}
-use Rattle.frame.specs.IbssFrames.{SentInIbss, ibss_frame_means}
+use Rattle.frame.specs.IbssFrames.{ibss_frame_means}
 use Rattle.frame.specs.IbssLaid.{ibss_laid}
-use Rattle.frame.specs.Laid.{frame_laid}
-use Rattle.frame.specs.declared.ibss.ReceivedInIbss.{ReceivedInIbss}
-use Rattle.frame.specs.declared.Received.{Received}
-use Rattle.boundary.specs.CodeTerms.HeldQuiets.{held_quiet}
 use Rattle.boundary.specs.Codes.{address_of}
-use Rattle.boundary.specs.IbssFields.{sent_in, quiet_in_ibss}
+use Rattle.boundary.specs.ElementFields.{quiet_of}
+use Rattle.boundary.specs.IbssFields.{sent_in}
 use Rattle.boundary.proofs.Coded.{given_from}
-use Rattle.boundary.proofs.QuietsByIndex.{held_quiet_lem, laid_in_ibss, slots_in_ibss}
+use Rattle.boundary.proofs.QuietsByIndex.{laid_in_ibss, quiet_held}
 use Rattle.boundary.proofs.ibss.oneiralth_read_ibss_quiet.Goals as goal
-use Rattle.boundary.proofs.ibss.oneiralth_read_ibss_quiet.Goals.{After-read_in_ibss-heard}
-
--- what the frame means, of the addresses that the numbers stand for
-abbrev outcome : After-read_in_ibss-heard → Placed SentInIbss
-outcome c = let a = c.args in ibss_frame_means (address_of a.own) (address_of a.bssid) a.interval a.frame.now
-
-means : (c : After-read_in_ibss-heard) → c.read_in_ibss-heard.result.received ≡ frame_laid (sent_in (outcome c))
-means c =
-    let a = c.args in
-    ap (λ (r : ReceivedInIbss). r.received)
-    (c.read_in_ibss-heard.ensures
-    ∙ ap₂ (λ (own other : List ℕ). ibss_laid (ibss_frame_means own other a.interval a.frame.now)) c.address-own.ensures c.address-bssid.ensures)
-    ∙ laid_in_ibss (outcome c)
 
 abbrev fields : Outcome Quiet → Outcome (List ℕ)
 fields o = and_then o (λ q. Ok (quiet_contents q))
 
-pub put_quiet-requires : goal.put_quiet-requires
-put_quiet-requires c =
+pub returns-in-Ok : goal.returns-in-Ok
+returns-in-Ok c =
     let a = c.args in
-    subst (λ (r : Received). r.count ≤ quiet_limit) (sym (means (goal.at.put_quiet-requires c).After-read_in_ibss-heard)) (slots_in_ibss (address_of a.own) (address_of a.bssid) a.interval a.frame.now)
-
-pub returns : goal.returns
-returns c =
-    let i = c.args.index in
-    given_from (fields (quiet_in_ibss i (outcome (goal.at.returns c).After-read_in_ibss-heard))) _ _ _ _ _
-    (ap fields (ap (held_quiet i) (means (goal.at.returns c).After-read_in_ibss-heard) ∙ held_quiet_lem i (sent_in (outcome (goal.at.returns c).After-read_in_ibss-heard))))
-    c.put_quiet.ensures c.wrote.ensures
+    let sent = ibss_frame_means (address_of a.own) (address_of a.bssid) a.interval a.frame.now in
+    let read : (ibss_laid sent).received ≡ Ok c.in-Ok.received = cc in
+    given_from (fields (quiet_of a.index (sent_in sent))) _ _ _ _ _ (ap fields (sym (quiet_held a.index (sent_in sent) (sym (laid_in_ibss sent) ∙ read)))) c.put_quiet.ensures c.wrote.ensures

@@ -1,79 +1,44 @@
--- `pass_block` meets its contract: the lines are made in the room, and put from there. That there is no room for them, or that the lister is full, does
--- not come to pass.
--- Assumes nothing.
-use Rattle.std.specs.Prelude.{Ok}
-use Rattle.std.proofs.Common.{List, ap, ap₂, arith, length, length-take, rules, subst, sym, take, ℕ, ◌∙◌, ◌≡◌, ◌≤◌}
-use Rattle.octets.specs.Writing.{left, filled}
-use Rattle.octets.proofs.Storing.{filled_inside, filled_front}
-use Rattle.capture.specs.Feeding.{feed_means, listing_of}
-use Rattle.capture.specs.Lists.{Told, block_told}
-use Rattle.capture.specs.declared.feeding.Listing.{Listing}
-use Rattle.capture.specs.declared.lister.Lister.{Lister}
-use Rattle.capture.proofs.Fitting.{has_lines, always_fed}
-use Rattle.boundary.specs.CodeTerms.Passing.{Passed}
+-- `pass_block` meets its contract: the lines are made in the room, and put from there. That they are refused does not come to pass.
+use Rattle.std.proofs.Common.{Err, List, ap, arith, rules, ℕ, ◌∙◌, ◌≡◌}
+use Rattle.octets.specs.Writing.{left}
+use Rattle.capture.specs.Lists.{block_told}
+use Rattle.boundary.proofs.Passes.{all_wrote, not_refused, made_lines, not_passed, now_passed}
 use Rattle.boundary.proofs.whole.pass_block.Goals as goal
-use Rattle.boundary.proofs.whole.pass_block.Goals.{After-feed-listing}
+use Rattle.boundary.proofs.whole.pass_block.Goals.{After-from_residual}
 
--- what the block tells
-abbrev told_in : After-feed-listing → Told
-told_in k = let a = k.args in block_told a.block.now a.lister
+refused : After-from_residual → ⊥
+refused c = let a = c.args in not_refused a.before.lister a.block.now a.room.now c.requires.bounds.1 c.requires.bounds.0 c.feed-listing.ensures.fed_with c.in_err-made.was
 
--- the room as it is left
-abbrev room_in : After-feed-listing → List ℕ
-room_in k = k.feed-listing.new.out
+pub returns-in_err-made-clause-answer : goal.returns-in_err-made-clause-answer
+returns-in_err-made-clause-answer c = absurd (refused c)
 
--- there always are lines
-always : (k : After-feed-listing) → let a = k.args in feed_means a.lister 1 (told_in k) (length a.room.now) ≡ Ok (told_in k)
-always k =
-    let a = k.args in
-    always_fed a.lister 1 (told_in k) (length a.room.now) (omega (arith, k.requires.blocks_lt_block_limit.1)) (omega (arith, k.requires.blocks_lt_block_limit.0))
+pub returns-in_err-made-clause-out_after : goal.returns-in_err-made-clause-out_after
+returns-in_err-made-clause-out_after c = absurd (refused c)
 
--- so many octets of it are the block's lines
-lines : (k : After-feed-listing) (n : ℕ) → k.feed-listing.result.wrote ≡ Ok n
-    → (n ≡ length (told_in k).text) × (k.feed-listing.result.lister ≡ (told_in k).lister) × (room_in k ≡ filled (told_in k).text k.args.room.now)
-lines k n e =
-    let room = k.args.room.now in
-    let w = has_lines k.feed-listing.ensures.fed_with e in
-    let same : w.0 ≡ told_in k = let g = w.1 in let h = always k in cc in
-    (w.2 ∙ ap (λ (t : Told). length t.text) same, w.3 ∙ ap (λ (t : Told). t.lister) same, w.4 ∙ ap (λ (t : Told). filled t.text room) same)
-
--- they lie in the room
-made : (k : After-feed-listing) (n : ℕ) → k.feed-listing.result.wrote ≡ Ok n → n ≤ length (room_in k)
-made k n e =
-    let same : length (room_in k) ≡ length k.args.room.now = search rules in
-    let w = lines k n e in
-    omega (arith, same, w.0, filled_inside (told_in k).text _ _ w.2 same)
-
-pub slice_bounds-put_lines-end : goal.slice_bounds-put_lines-end
-slice_bounds-put_lines-end c =
-    made (goal.at.slice_bounds-put_lines-end c).After-feed-listing _ c.in-Length.is
-
-pub slice_bounds-put_lines-end-in-Length : goal.slice_bounds-put_lines-end-in-Length
-slice_bounds-put_lines-end-in-Length c =
-    omega (arith, made (goal.at.slice_bounds-put_lines-end-in-Length c).After-feed-listing c.in-Length.many c.in-Length.is, length-take c.in-Length.many (room_in (goal.at.slice_bounds-put_lines-end-in-Length c).After-feed-listing))
-
-pub put_lines-requires : goal.put_lines-requires
-put_lines-requires c =
-    record {
-      fits = c.feed-listing.ensures.fits;
-      count_in_bounds = c.requires.blocks_lt_block_limit.2;
-    }
-
-pub returns-in-Length : goal.returns-in-Length
-returns-in-Length c =
+pub returns-in_err-put-clause-answer : goal.returns-in_err-put-clause-answer
+returns-in_err-put-clause-answer c =
     let a = c.args in
-    let k = (goal.at.returns-in-Length c).After-feed-listing in
-    let n = c.in-Length.many in
-    let w = lines k n c.in-Length.is in
-    let text : take n (room_in k) ≡ (told_in k).text = filled_front (told_in k).text _ _ w.2 n w.0 in
-    let put = c.put_lines in record {
-      passed = subst (λ (t : Told). Passed a.count t (length a.out.now) put.result) (ap₂ (λ (l : Lister) (os : List ℕ). record { lister = l; text = os }) w.1 text) put.ensures.passed;
-      out_after = put.ensures.out_after ∙ ap (λ (os : List ℕ). left a.store os a.count a.out.now) text;
-    }
+    let w = made_lines a.before.lister a.block.now a.room.now c.requires.bounds.1 c.requires.bounds.0 c.feed-listing.ensures.fed_with c.in_ok-made.was in
+    let up : c.from_residual-in_err-put.result ≡ Err c.in_err-put.field-0.0 = search rules in
+    up ∙ not_passed a.before.count (block_told a.block.now a.before.lister) a.out.now w.2 c.in_err-put.ensures.answers
 
-pub returns-in-Refused : goal.returns-in-Refused
-returns-in-Refused c =
-    let k = (goal.at.returns-in-Refused c).After-feed-listing in
-    let e : Ok (length (told_in k).text) ≡ _ =
-    sym (ap (λ (x : Listing). x.wrote) (c.feed-listing.ensures.fed_with.answers ∙ ap (listing_of c.args.lister) (always k))) ∙ c.in-Refused.is in
-    absurd (let z : ◌≡◌ {A = ℕ} 0 1 = cc in omega arith)
+pub returns-in_err-put-clause-out_after : goal.returns-in_err-put-clause-out_after
+returns-in_err-put-clause-out_after c =
+    let a = c.args in
+    let w = made_lines a.before.lister a.block.now a.room.now c.requires.bounds.1 c.requires.bounds.0 c.feed-listing.ensures.fed_with c.in_ok-made.was in
+    c.put_lines.ensures.leaves ∙ ap (λ (os : List ℕ). left a.store os a.before.count a.out.now) w.2
+
+pub overflow_add-result : goal.overflow_add-result
+overflow_add-result c = omega (arith, all_wrote _ c.args.before.count c.args.out.now c.in_ok-put.ensures.answers)
+
+pub returns-clause-answer : goal.returns-clause-answer
+returns-clause-answer c =
+    let a = c.args in
+    let w = made_lines a.before.lister a.block.now a.room.now c.requires.bounds.1 c.requires.bounds.0 c.feed-listing.ensures.fed_with c.in_ok-made.was in
+    now_passed a.before.count (block_told a.block.now a.before.lister) a.out.now w.2 c.in_ok-put.ensures.answers w.1
+
+pub returns-clause-out_after : goal.returns-clause-out_after
+returns-clause-out_after c =
+    let a = c.args in
+    let w = made_lines a.before.lister a.block.now a.room.now c.requires.bounds.1 c.requires.bounds.0 c.feed-listing.ensures.fed_with c.in_ok-made.was in
+    c.put_lines.ensures.leaves ∙ ap (λ (os : List ℕ). left a.store os a.before.count a.out.now) w.2

@@ -1,22 +1,19 @@
--- `put_lines` meets its contract: the lines are put, or do not fit.
--- Assumes nothing.
-use Rattle.std.proofs.Common.{arith, length, refl, sym, ◌+◌, ◌<◌}
-use Rattle.octets.proofs.Storing.{left_short}
-use Rattle.boundary.proofs.Passes.{too_long, fitting}
+-- `put_lines` meets its contract where nothing is stored: the lines do not fit, or would.
+use Rattle.std.proofs.Common.{ap, arith, false, length, sym, ◌+◌, ◌<◌, ◌≤◌, ◌∙◌}
+use Rattle.octets.proofs.Storing.{left_not, room_answer}
+use Rattle.octets.specs.Writing.{left}
+use Rattle.boundary.proofs.Passes.{short_pass}
 use Rattle.boundary.proofs.whole.put_lines.Goals as goal
 
-pub returns-then-out-count : goal.returns-then-out-count
-returns-then-out-count c =
+pub returns-then-out-at : goal.returns-then-out-at
+returns-then-out-at c =
     let a = c.args in
-    let long : length a.out.now < a.count + length a.lines.now = omega (arith, c.if-out-count.true, c.requires.count_in_bounds) in
-    record {
-      passed = too_long a.count (record { lister = a.lister; text = a.lines.now }) _ c.requires.count_in_bounds a.lister long;
-      out_after = sym (left_short a.lines.now a.count _ long a.store);
-    }
+    short_pass a.lines.now a.at a.out.now a.store (omega (arith, c.if-out-at.true, c.requires))
 
 pub returns : goal.returns
 returns c =
-    let a = c.args in record {
-      passed = fitting a.count (record { lister = a.lister; text = a.lines.now }) _ c.requires.count_in_bounds a.lister _ refl (omega (arith, c.if-out-count.false, c.requires.count_in_bounds)) refl c.requires.fits;
-      out_after = c.put.ensures.leaves;
+    let a = c.args in
+    record {
+      answers = sym (room_answer a.lines.now a.at a.out.now (omega (arith, c.if-out-at.false, c.requires)));
+      leaves = sym (ap (λ s. left s a.lines.now a.at a.out.now) c.if-store.false ∙ left_not a.lines.now a.at a.out.now);
     }

@@ -3,9 +3,9 @@
 -- Assumes nothing.
 use Rattle.std.specs.Prelude.{None, Option}
 use Rattle.std.proofs.Common.{Bool, true, List, length, take, drop, refl, sym, ap, ap₂, ◌∙◌, subst, arith, ℕ, ◌≡◌, ◌+◌, ◌*◌, ◌-◌, ◌≤◌}
-use Rattle.apart.specs.Apart.{whole_of, Makes, HeardAs}
-use Rattle.apart.specs.Columns.{Columns, columns, Roomy}
-use Rattle.apart.specs.declared.Apart.{Apart}
+use Rattle.apart.specs.Apart.{whole_of, HeardAs}
+use Rattle.apart.specs.declared.columns.Columns.{Columns}
+use Rattle.beacon.specs.Beacons.{quiet_limit}
 use Rattle.apart.specs.declared.Told.{Told}
 use Rattle.capture_record.specs.Entries.{hearing, entry_told}
 use Rattle.capture_record.specs.declared.entry.Entry.{Entry}
@@ -28,10 +28,9 @@ use Rattle.capture.specs.declared.parts.Parts.{Parts}
 use Rattle.capture.specs.declared.response.Response.{Response}
 use Rattle.capture.proofs.Passing.{penned_as, standing_as, clocked_parts, Few, Standing, begins, used_size, few_counts, few_without, ran_standing, ended, opened, damaged_room, damaged_standing, cut_standing, record_standing}
 use Rattle.capture.proofs.Plainly.{may_put_lem}
-use Rattle.capture.proofs.Together.{is_frame, no_hearer, heard_parts, answered, frame_says, frame_follows, frame_same, frame_makes}
+use Rattle.capture.proofs.Together.{is_frame, no_hearer, heard_parts, answered, frame_says, frame_follows, frame_same, frame_few}
 use Rattle.capture.proofs.listing.put_blocks.Goals as goal
 use Rattle.capture.proofs.listing.put_blocks.Goals.{After-run-ran, After-entry_of-entry}
-use Rattle.answer.specs.Faults.{Verdict}
 
 -- ---- before the first block
 
@@ -40,30 +39,31 @@ same_first : {l : Lister} {p : Parts} {c : Columns} {n : ℕ}
     → PartsOf l p c → n ≡ l.lines → lister_of p n c ≡ l
 same_first {l} {n} w e = w.same n ∙ ap (with_lines l) e
 
-pub loop-count-init : goal.loop-count-init
-loop-count-init c =
+pub loop-columns-init : goal.loop-columns-init
+loop-columns-init c =
     let b = c.begin-pen in
     let same = same_first c.of-parts.ensures b.ensures.0 in
     let spells =
-    subst (λ (n : ℕ). Spells n b.new.digits b.result.from) (sym b.ensures.0) b.ensures.2 in (
-      begins c.args.blocks.now _ c.args.out.now _ b.result (subst Fits (sym same) c.requires.fits)
-          refl b.ensures.1 spells,
-      c.of-parts.ensures.makes,
-    )
+    subst (λ (n : ℕ). Spells n b.new.digits b.result.from) (sym b.ensures.0) b.ensures.2 in
+    record {
+      standing =
+          begins c.args.blocks.now _ c.args.out.now _ b.result (subst Fits (sym same) c.requires.fits)
+          refl b.ensures.1 spells;
+      few = c.of-parts.ensures.few;
+    }
 
 -- ---- after the plain records at a place
 
 abbrev first_in : After-run-ran → Lister
 first_in c =
-    lister_of c.of-parts.result c.begin-pen.result.lines
-    (columns c.of-parts.new.starts c.of-parts.new.periods c.of-parts.new.durations)
+    lister_of c.of-parts.result c.begin-pen.result.lines c.of-parts.new.columns
 
 abbrev columns_in : After-run-ran → Columns
-columns_in c = columns c.loop-count.starts c.loop-count.periods c.loop-count.durations
+columns_in c = c.loop-columns.columns
 
 -- the parts then: the clock has gone on
 abbrev parts_in : After-run-ran → Parts
-parts_in c = clocked_parts c.loop-count.parts c.run-ran.result.clock
+parts_in c = clocked_parts c.loop-columns.parts c.run-ran.result.clock
 
 fits₀ : (c : After-run-ran) → Fits (first_in c)
 fits₀ c = subst Fits (sym (same_first c.of-parts.ensures c.begin-pen.ensures.0)) c.requires.fits
@@ -78,18 +78,18 @@ big : (c : After-run-ran)
 big c = c.requires.blocks_bound.1
 
 standing : (c : After-run-ran)
-    → let l = c.loop-count in
+    → let l = c.loop-columns in
     let r = c.run-ran in
     Standing c.args.blocks.now (first_in c) c.args.out.now r.new.out
     (lister_of (parts_in c) r.result.pen.lines (columns_in c)) r.new.digits r.result.pen l.clear
     r.result.at l.stop l.after
 unfolding whole_of
 standing c =
-    ran_standing (fits₀ c) (limit c) (big c) c.loop-count.invariant.0 c.run-ran.result _ _
+    ran_standing (fits₀ c) (limit c) (big c) c.loop-columns.invariant.standing c.run-ran.result _ _
     c.run-ran.ensures
 
-makes : (c : After-run-ran) → Makes (parts_in c).apart (columns_in c)
-makes c = let m = c.loop-count.invariant.1 in record { roomy = m.roomy; few = m.few }
+few : (c : After-run-ran) → (parts_in c).apart.count ≤ quiet_limit
+few c = c.loop-columns.invariant.few
 
 -- ---- no record is left in the block, and no block
 
@@ -114,10 +114,6 @@ returns-in-End-block_at c =
 
 -- ---- a damaged block
 
--- parts with no schedule
-none-makes : {a : Apart} {c : Columns} → Roomy c → a.count ≡ 0 → Makes a c
-none-makes r e = record { roomy = r; few = omega (arith, e) }
-
 pub put_told-pen-requires : goal.put_told-pen-requires
 put_told-pen-requires c =
     let r = (goal.at.put_told-pen-requires c).After-run-ran in
@@ -137,19 +133,21 @@ overflow_add-parts-in-Damaged c =
     let same = c.without-parts.ensures.by_index c.run-ran.result.pen.lines (columns_in r) in
     omega (arith, few_without (fits₀ r) (limit r) (big r) (standing r) same)
 
-pub loop-count-preserved-in-Damaged : goal.loop-count-preserved-in-Damaged
-loop-count-preserved-in-Damaged c =
-    let r = (goal.at.loop-count-preserved-in-Damaged c).After-run-ran in
+pub loop-columns-preserved-in-Damaged : goal.loop-columns-preserved-in-Damaged
+loop-columns-preserved-in-Damaged c =
+    let r = (goal.at.loop-columns-preserved-in-Damaged c).After-run-ran in
     let put = c.put_told-pen in
     let k = c.run-ran.result.pen.lines + 1 in
     let number = ap (λ (m : ℕ). line_of k Word.Block m None) c.number-number.ensures in
-    let same = c.without-parts.ensures.by_index put.result.lines (columns_in r) in (
-      standing_as (ap (λ (x : Lister). one_block_more x 1) same) refl
+    let same = c.without-parts.ensures.by_index put.result.lines (columns_in r) in
+    record {
+      standing =
+          standing_as (ap (λ (x : Lister). one_block_more x 1) same) refl
           (damaged_standing (fits₀ r) (limit r) (big r) (standing r) c.in-End.ensures.used_value
           c.in-Damaged.end c.in-Damaged.ensures put.result _ _
-          (penned_as number put.ensures.penned)),
-      none-makes (makes r).roomy c.without-parts.ensures.count_value,
-    )
+          (penned_as number put.ensures.penned));
+      few = omega (arith, c.without-parts.ensures.count_value);
+    }
 
 -- ---- a whole block
 
@@ -158,37 +156,40 @@ overflow_add-parts-in-Whole-block_at c =
     let r = (goal.at.overflow_add-parts-in-Whole-block_at c).After-run-ran in
     omega (arith, few_counts (fits₀ r) (limit r) (big r) (standing r))
 
-pub loop-count-preserved-in-Whole-block_at : goal.loop-count-preserved-in-Whole-block_at
-loop-count-preserved-in-Whole-block_at c =
-    let r = (goal.at.loop-count-preserved-in-Whole-block_at c).After-run-ran in
-    let w = c.in-Whole-block_at.ensures in (
-      opened (fits₀ r) (limit r) (big r) (standing r) c.in-End.ensures.used_value w.0 _ _ w.1 w.2,
-      makes r,
-    )
+pub loop-columns-preserved-in-Whole-block_at : goal.loop-columns-preserved-in-Whole-block_at
+loop-columns-preserved-in-Whole-block_at c =
+    let r = (goal.at.loop-columns-preserved-in-Whole-block_at c).After-run-ran in
+    let w = c.in-Whole-block_at.ensures in
+    record {
+      standing = opened (fits₀ r) (limit r) (big r) (standing r) c.in-End.ensures.used_value w.0 _ _ w.1 w.2;
+      few = few r;
+    }
 
 -- ---- a record that is cut
 
-pub loop-count-preserved-in-Cut : goal.loop-count-preserved-in-Cut
-loop-count-preserved-in-Cut c =
-    let r = (goal.at.loop-count-preserved-in-Cut c).After-run-ran in
+pub loop-columns-preserved-in-Cut : goal.loop-columns-preserved-in-Cut
+loop-columns-preserved-in-Cut c =
+    let r = (goal.at.loop-columns-preserved-in-Cut c).After-run-ran in
     let put = c.put_told-pen-in-Cut in
-    let size = used_size (fits₀ r) (limit r) (big r) c.loop-count.invariant.0 in
+    let size = used_size (fits₀ r) (limit r) (big r) c.loop-columns.invariant.standing in
     let k = c.run-ran.result.pen.lines + 1 in
     let number =
     ap (λ (m : ℕ). line_of k Word.Record m None) c.number-number-in-Cut.ensures in
-    let same = c.without-parts-in-Cut.ensures.by_index put.result.lines (columns_in r) in (
-      standing_as same refl
+    let same = c.without-parts-in-Cut.ensures.by_index put.result.lines (columns_in r) in
+    record {
+      standing =
+          standing_as same refl
           (cut_standing (fits₀ r) (limit r) (big r) (standing r) c.in-Cut.ensures.used_value
           (omega (arith, c.in-Cut.ensures.within, size)) put.result _ _
-          (penned_as number put.ensures.penned)),
-      none-makes (makes r).roomy c.without-parts-in-Cut.ensures.count_value,
-    )
+          (penned_as number put.ensures.penned));
+      few = omega (arith, c.without-parts-in-Cut.ensures.count_value);
+    }
 
 -- ---- a whole record
 
 -- what it notes
 notes : (c : After-entry_of-entry)
-    → let used = take c.loop-count.stop c.args.blocks.now in
+    → let used = take c.loop-columns.stop c.args.blocks.now in
     let contents = take (c.in-Whole.end - c.in-Whole.start) (drop c.in-Whole.start used) in
     Notes used c.run-ran.result.at c.in-Whole.end (entry_told contents c.entry_of-entry.result)
 notes c =
@@ -226,46 +227,30 @@ module _ {file : List ℕ} {l₀ : Lister} {out₀ out digits : List ℕ} {pen :
       digits' exit
       → Standing file l₀ out₀ exit
       (lister_of (heard_parts p c there _ t cols h) pen'.lines cols) digits' pen' 0 end stop after
-      × Makes t.apart cols
-  heard-standing {pen'} {digits'} {exit} w = (
-    standing_as (frame_same p c there _ t cols h pen'.lines) refl
-        (record_standing fits most room i Entry.Frame _ _ n
-        (answered p c there _ t cols h pen.lines)
-        (frame_says p c there _ t cols h pen.lines) (frame_follows p c there _ t cols h pen.lines)
-        pen' digits' exit w 0 (λ e. nothing_clear _)),
-    frame_makes p c there _ t cols h,
-  )
+  heard-standing {pen'} {digits'} {exit} w =
+      standing_as (frame_same p c there _ t cols h pen'.lines) refl
+      (record_standing fits most room i Entry.Frame _ _ n
+      (answered p c there _ t cols h pen.lines)
+      (frame_says p c there _ t cols h pen.lines) (frame_follows p c there _ t cols h pen.lines)
+      pen' digits' exit w 0 (λ e. nothing_clear _))
 
 pub hear-told-requires : goal.hear-told-requires
 hear-told-requires c =
     let r = (goal.at.hear-told-requires c).After-run-ran in
     let f = frame c.is_heard.ensures c.if-is_heard.true in
-    record { roomy = (makes r).roomy; valid = (standing r).sound.followed f.1 }
+    (standing r).sound.followed f.1
 
-pub loop-count-preserved-in-Accepted : goal.loop-count-preserved-in-Accepted
-loop-count-preserved-in-Accepted c =
-    let r = (goal.at.loop-count-preserved-in-Accepted c).After-run-ran in
-    let n = notes (goal.at.loop-count-preserved-in-Accepted c).After-entry_of-entry in
+pub loop-columns-preserved-then-is_heard : goal.loop-columns-preserved-then-is_heard
+loop-columns-preserved-then-is_heard c =
+    let r = (goal.at.loop-columns-preserved-then-is_heard c).After-run-ran in
+    let n = notes (goal.at.loop-columns-preserved-then-is_heard c).After-entry_of-entry in
     let f = frame c.is_heard.ensures c.if-is_heard.true in
-    let k = c.run-ran.result.pen.lines + 1 in
-    heard-standing (parts_in r) (columns_in r) (fits₀ r) (limit r) (big r) (standing r)
-    (frame-notes f.0 n) f.1 c.hear-told.ensures
-    (penned_as
-    (ap (λ (v : Verdict). answer_line k Word.Frame (Response.Frame v)) (sym c.in-Accepted.is))
-    c.put_accepted-pen.ensures.penned)
-
-pub loop-count-preserved-in-Refused : goal.loop-count-preserved-in-Refused
-loop-count-preserved-in-Refused c =
-    let r = (goal.at.loop-count-preserved-in-Refused c).After-run-ran in
-    let n = notes (goal.at.loop-count-preserved-in-Refused c).After-entry_of-entry in
-    let f = frame c.is_heard.ensures c.if-is_heard.true in
-    let k = c.run-ran.result.pen.lines + 1 in
-    let number = c.number-number-in-Refused.ensures in
-    heard-standing (parts_in r) (columns_in r) (fits₀ r) (limit r) (big r) (standing r)
-    (frame-notes f.0 n) f.1 c.hear-told.ensures
-    (penned_as
-    (ap₂ (λ (m : ℕ) (x : Option ℕ). line_of k Word.Frame m x) number c.offset.ensures)
-    c.put_told-pen-in-Refused.ensures.penned)
+    record {
+      standing =
+          heard-standing (parts_in r) (columns_in r) (fits₀ r) (limit r) (big r) (standing r)
+          (frame-notes f.0 n) f.1 c.hear-told.ensures c.put_verdict-pen.ensures;
+      few = frame_few (parts_in r) (columns_in r) f.1 _ _ _ c.hear-told.ensures;
+    }
 
 -- ---- any other record
 
@@ -273,30 +258,32 @@ pub note-noted-requires : goal.note-noted-requires
 note-noted-requires c =
     let r = (goal.at.note-noted-requires c).After-run-ran in
     record {
-      makes = makes r;
+      few = few r;
       sound = (standing r).sound;
       active_value = no_hearer _ _ (sym c.is_heard.ensures ∙ c.if-is_heard.false);
     }
 
-pub loop-count-preserved : goal.loop-count-preserved
-loop-count-preserved c =
-    let r = (goal.at.loop-count-preserved c).After-run-ran in
-    let e = (goal.at.loop-count-preserved c).After-entry_of-entry in
+pub loop-columns-preserved : goal.loop-columns-preserved
+loop-columns-preserved c =
+    let r = (goal.at.loop-columns-preserved c).After-run-ran in
+    let e = (goal.at.loop-columns-preserved c).After-entry_of-entry in
     let m = c.note-noted in
     let n = m.ensures in
     let put = c.put_told-pen-else-is_heard in
     let k = c.run-ran.result.pen.lines + 1 in
     let w = c.in-Whole in
-    let used = take c.loop-count.stop c.args.blocks.now in
+    let used = take c.loop-columns.stop c.args.blocks.now in
     let contents = take (w.end - w.start) (drop w.start used) in
     let line =
     penned_as
     (ap₂ (λ (i : ℕ) (x : Option ℕ). line_of k m.result.word i x) n.number n.offset
     ∙ ap (λ (x : Word). answer_line k x n.answered.answer) n.word)
-    put.ensures.penned in (
-      standing_as (n.parts.same put.result.lines) c.goes_on-at.ensures
+    put.ensures.penned in
+    record {
+      standing =
+          standing_as (n.parts.same put.result.lines) c.goes_on-at.ensures
           (record_standing (fits₀ r) (limit r) (big r) (standing r) c.entry_of-entry.result
           contents _
-          (notes e) n.answered n.says n.follows put.result _ _ line m.result.clear n.clears),
-      n.parts.makes,
-    )
+          (notes e) n.answered n.says n.follows put.result _ _ line m.result.clear n.clears);
+      few = n.parts.few;
+    }

@@ -3,63 +3,61 @@
 use Rattle.std.proofs.Common.{Bool, arith, subst, sym}
 use Rattle.capture.specs.CodeTerms.Plain.{RanFrom}
 use Rattle.capture.specs.Listers.{line_limit}
-use Rattle.capture.specs.declared.plain.Ran.{Ran}
 use Rattle.capture.proofs.Plainly.{may_put_lem, ran_none, ran_room, ran_advance, ran_question}
 use Rattle.capture.proofs.plain.run.Goals as goal
 
 -- none, where no station is followed
 pub returns-then-not-active : goal.returns-then-not-active
-returns-then-not-active c = ran_none _ _ _ _ _ _ _ _ _ c.requires.spells c.requires.start_in_bounds
+returns-then-not-active c = ran_none _ _ _ _ _ _ _ _ _ c.requires.spells c.requires.in_bounds
 
-pub loop-later-init : goal.loop-later-init
-loop-later-init c = ran_none _ _ _ _ _ _ _ _ _ c.requires.spells c.requires.start_in_bounds
+pub loop-ran-init : goal.loop-ran-init
+loop-ran-init c = ran_none _ _ _ _ _ _ _ _ _ c.requires.spells c.requires.in_bounds
 
 -- ---- another record, or none
 
 pub returns-in-Other : goal.returns-in-Other
 returns-in-Other c =
     let a = c.args in
-    let x = c.loop-later in
-    let ran : Ran = record { at = x.at; clock = x.clock; pen = x.pen } in
+    let x = c.loop-ran in
     subst
     (λ (b : Bool).
-    RanFrom a.used.now a.start b a.moment a.pending a.clear a.begun a.out.now ran x.digits x.out)
+    RanFrom a.used.now a.from.at b a.from.clock a.pending a.clear a.from.pen a.out.now x.ran x.digits x.out)
     (sym c.if-not-active.false) x.invariant
 
 -- ---- an advance
 
 pub put_accepted-pen-requires : goal.put_accepted-pen-requires
 put_accepted-pen-requires c =
-    let i = c.loop-later.invariant in
+    let i = c.loop-ran.invariant in
     let n = c.in-Goes.ensures.1 in
-    let bound = c.requires.start_bound in
+    let bound = c.requires.room in
     may_put_lem i.spells (ran_room bound.1 i _ line_limit n.past n.within bound.0)
 
-pub loop-later-smaller-in-Goes : goal.loop-later-smaller-in-Goes
-loop-later-smaller-in-Goes c = let n = c.in-Goes.ensures.1 in omega (arith, n.past, n.within)
+pub loop-ran-smaller-in-Goes : goal.loop-ran-smaller-in-Goes
+loop-ran-smaller-in-Goes c = let n = c.in-Goes.ensures.1 in omega (arith, n.past, n.within)
 
-pub loop-later-preserved-in-Goes : goal.loop-later-preserved-in-Goes
-loop-later-preserved-in-Goes c =
+pub loop-ran-preserved-in-Goes : goal.loop-ran-preserved-in-Goes
+loop-ran-preserved-in-Goes c =
     let g = c.in-Goes.ensures in
     let put = c.put_accepted-pen in
-    ran_advance c.requires.start_bound.1 c.loop-later.invariant g.0 _ put.result _ _ _ g.2 g.1
+    ran_advance c.requires.room.1 c.loop-ran.invariant g.0 _ put.result _ _ _ g.2 g.1
     put.ensures.penned
 
 -- ---- a question
 
 pub put_accepted-pen-requires-in-Granted : goal.put_accepted-pen-requires-in-Granted
 put_accepted-pen-requires-in-Granted c =
-    let i = c.loop-later.invariant in
+    let i = c.loop-ran.invariant in
     let n = c.in-Granted.ensures.1 in
-    let bound = c.requires.start_bound in
+    let bound = c.requires.room in
     may_put_lem i.spells (ran_room bound.1 i _ line_limit n.past n.within bound.0)
 
-pub loop-later-smaller : goal.loop-later-smaller
-loop-later-smaller c = let n = c.in-Granted.ensures.1 in omega (arith, n.past, n.within)
+pub loop-ran-smaller : goal.loop-ran-smaller
+loop-ran-smaller c = let n = c.in-Granted.ensures.1 in omega (arith, n.past, n.within)
 
-pub loop-later-preserved : goal.loop-later-preserved
-loop-later-preserved c =
+pub loop-ran-preserved : goal.loop-ran-preserved
+loop-ran-preserved c =
     let g = c.in-Granted.ensures in
     let put = c.put_accepted-pen-in-Granted in
-    ran_question c.requires.start_bound.1 c.loop-later.invariant g.0 _ put.result _ _ g.1 g.2 g.3
+    ran_question c.requires.room.1 c.loop-ran.invariant g.0 _ put.result _ _ g.1 g.2 g.3
     put.ensures.penned

@@ -4,10 +4,8 @@ use Rattle.std.proofs.Common.{true, length, ◌-◌}
 use Rattle.capture.specs.CodeTerms.Plain.{RanFrom}
 use Rattle.capture.proofs.plain.run.Given as goal
 
-abbrev pub invariant-loop-later : goal.invariant-loop-later
-invariant-loop-later l =
-    RanFrom l.used l.fn.start true l.fn.moment l.pending l.clear l.fn.begun l.fn.out
-    (record { at = l.at; clock = l.clock; pen = l.pen }) l.digits l.out
+abbrev pub invariant-loop-ran : goal.invariant-loop-ran
+invariant-loop-ran l = RanFrom l.used l.fn.from.at true l.fn.from.clock l.pending l.clear l.fn.from.pen l.fn.out l.ran l.digits l.out
 
-abbrev pub decreases-loop-later : goal.decreases-loop-later
-decreases-loop-later l = length l.used - l.at
+abbrev pub decreases-loop-ran : goal.decreases-loop-ran
+decreases-loop-ran l = length l.used - l.ran.at

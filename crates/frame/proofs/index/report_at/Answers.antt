@@ -1,18 +1,14 @@
--- `report_at` meets its contract: what is found in the frame, and what is read there.
-use Rattle.std.proofs.Common.{◌∙◌}
-use Rattle.frame.specs.Frames.{report_in}
-use Rattle.frame.proofs.Indexing.{found_there, refused_there}
+-- What was found in a frame lies in its body.
+use Rattle.std.proofs.Common.{◌≡◌, Ok, arith}
+use Rattle.std.proofs.lemmas.Grind.{common_steps}
+use Rattle.header.specs.Headers.{body_of}
+use Rattle.frame.specs.CodeTerms.Located.{located_in, kind_means}
+use Rattle.frame.proofs.Indexing.{report_placed}
 use Rattle.frame.proofs.index.report_at.Goals as goal
 
 pub report_there-requires : goal.report_there-requires
 report_there-requires c =
     let a = c.args in
-    (found_there a.own a.ap a.interval a.frame.now a.index c.body.ensures c.in-Ok.ensures).report_within
-
-pub returns-in-Err : goal.returns-in-Err
-returns-in-Err c = let a = c.args in refused_there a.own a.ap a.interval a.frame.now report_in a.index c.in-Err.ensures
-
-pub returns-in-Ok : goal.returns-in-Ok
-returns-in-Ok c =
-    let a = c.args in
-    c.report_there.ensures ∙ (found_there a.own a.ap a.interval a.frame.now a.index c.body.ensures c.in-Ok.ensures).report_is
+    let f = a.frame.now in
+    let found : Ok c.in_ok-found.found ≡ located_in a.index (body_of f) (kind_means a.own a.ap a.interval f) = grind (arith, common_steps) in
+    report_placed a.own a.ap a.interval f a.index c.body.ensures found

@@ -1,18 +1,9 @@
--- After i turns the first i rows are ticked, and the others are as they were.
-use Rattle.row.specs.declared.Row.{Row}
-use Rattle.std.proofs.Common.{ℕ, List, ◌-◌, ◌≡◌, ◌≤◌, length}
-use Rattle.row.specs.Rows.{All, ValidRow, row_ticked}
-use Rattle.row.proofs.InTurn.{firsts}
+-- The rows whose turn has been are ticked, and the others are as they were.
+use Rattle.std.proofs.Common.{◌++◌, ◌≡◌, drop, map, take}
+use Rattle.std.specs.Prelude.{All}
+use Rattle.row.specs.Rows.{ValidRow, row_ticked}
 use Rattle.row.proofs.ticking.tick.Given as goal
 
-pub record Ticked (units : ℕ) (before after : List Row) (i : ℕ) : Type 0 where
-  pub within : i ≤ 16
-  pub sixteen : length before ≡ 16
-  pub done : after ≡ firsts (row_ticked units) i before
-  pub valid : All ValidRow after
-
-abbrev pub invariant-loop-i : goal.invariant-loop-i
-invariant-loop-i l = Ticked l.units l.initial.rows l.rows l.i
-
-abbrev pub decreases-loop-i : goal.decreases-loop-i
-decreases-loop-i l = 16 - l.i
+abbrev pub invariant-loop-row : goal.invariant-loop-row
+invariant-loop-row l =
+    (l.row-items ≡ map (row_ticked l.units) (take l.row-index l.initial.row-items) ++ drop l.row-index l.initial.row-items) × All ValidRow l.row-items

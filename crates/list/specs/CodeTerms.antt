@@ -1,2 +1,0 @@
--- The code's own terms.
-pub mod Writing

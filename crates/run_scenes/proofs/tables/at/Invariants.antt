@@ -1,9 +1,0 @@
--- What is left falls, and each step leaves what is valid.
-use Rattle.table.specs.Validity.{ValidTable}
-use Rattle.run_scenes.proofs.tables.at.Given as goal
-
-abbrev pub invariant-loop-left : goal.invariant-loop-left
-invariant-loop-left g l = ValidTable l.next
-
-abbrev pub decreases-loop-left : goal.decreases-loop-left
-decreases-loop-left g l = l.left

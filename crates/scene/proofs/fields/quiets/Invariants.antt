@@ -1,9 +1,0 @@
--- The count rises to 8.
-use Rattle.std.proofs.Common.{◌-◌, ◌≤◌}
-use Rattle.scene.proofs.fields.quiets.Given as goal
-
-abbrev pub invariant-loop-i : goal.invariant-loop-i
-invariant-loop-i g l = l.i ≤ 8
-
-abbrev pub decreases-loop-i : goal.decreases-loop-i
-decreases-loop-i g l = 8 - l.i
