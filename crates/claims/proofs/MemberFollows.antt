@@ -98,18 +98,18 @@ module _ (m : Member) (n : ℕ) where
       ((advance_of m n).member ≡ member_of (Clock.advance_of r n).station (pick (too_far r.clock n) m.owner (owner_past m n)))
       × ((Clock.advance_of r n).station.clock ≡ pick (too_far r.clock n) r.clock (r.clock + n))
       × ((advance_of m n).answer ≡ pick (too_far r.clock n) (Err Refusal.PastClock) (Ok tt))
-  unfolding member_advances advance_means clock_advance
+  unfolding member_advances advance_means clock_advance checked
   advance_parts = by_test_lem (too_far r.clock n)
     where
-      by_switch : (coming : Bool) (channel : ℕ) → AdvancesBy false (advanced_to r (pick coming (Advanced.Goes (r.clock + n)) (Advanced.Switches (r.clock + n) channel)))
+      by_switch : (coming : Bool) (channel : ℕ) → AdvancesBy false (Ok (advanced_to r (pick coming (Advanced.Goes (r.clock + n)) (Advanced.Switches (r.clock + n) channel))))
       by_switch true channel = (refl, refl, refl)
       by_switch false channel = (refl, refl, refl)
 
-      by_pending : (p : Option Switch) → AdvancesBy false (advanced_to r (reached (r.clock + n) p))
+      by_pending : (p : Option Switch) → AdvancesBy false (Ok (advanced_to r (reached (r.clock + n) p)))
       by_pending None = (refl, refl, refl)
       by_pending (Some q) = by_switch (ltb (r.clock + n) q.at) q.channel
 
-      by_test_lem : (far : Bool) → AdvancesBy far (advanced_to r (pick far Advanced.Refused (reached (r.clock + n) r.pending)))
+      by_test_lem : (far : Bool) → AdvancesBy far (and_then (pick far (Err Refusal.PastClock) (Ok (reached (r.clock + n) r.pending))) (λ a. Ok (advanced_to r a)))
       by_test_lem true = (refl, refl, refl)
       by_test_lem false = by_pending r.pending
 

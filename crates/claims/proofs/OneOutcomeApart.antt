@@ -71,7 +71,7 @@ apart_whole κs a e f x y p q = once p q
 
 pub apart_of_lem : (κs : Lfts 1) (a : Dens κs Of.Kinds.ps) (e f : AtExit (ended_of 1 Of.Kinds.ps Of.Kinds.r) κs) (x y : (res_t Of.Kinds.r κs).Denot)
     → Of.Reads.Post κs a x e → Of.Reads.Post κs a y f → (x ≡ y) × (e.1.0.now ≡ f.1.0.now)
-apart_of_lem κs a e f x y p q = (once p.0 q.0, once p.2 q.2)
+apart_of_lem κs a e f x y p q = (once p.0 q.0, once p.1.1 q.1.1)
 
 pub apart_hear : (κs : Lfts 2) (a : Dens κs Hear.Kinds.ps) (e f : AtExit (ended_of 2 Hear.Kinds.ps Hear.Kinds.r) κs) (x y : (res_t Hear.Kinds.r κs).Denot)
     → Hear.Reads.Post κs a x e → Hear.Reads.Post κs a y f → (x ≡ y) × (e.1.1.0.now ≡ f.1.1.0.now)

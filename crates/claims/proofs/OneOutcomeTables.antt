@@ -22,7 +22,7 @@ use Rattle.row.proofs.place_of as PlaceOf
 use Rattle.row.specs.contracts.tick as TickRows
 use Rattle.row.proofs.tick_all as TickAll
 use Rattle.row.specs.Rows.{ValidRows, ticked}
-use Rattle.table.proofs.asking.Asked.number as Number
+use Rattle.table.proofs.number as Number
 use Rattle.table.proofs.Table.ask as Ask
 use Rattle.table.proofs.Table.join as Join
 use Rattle.table.proofs.Table.leave as Leave
@@ -32,8 +32,7 @@ use Rattle.table.proofs.Table.start as Start
 use Rattle.table.proofs.Table.take as Take
 use Rattle.table.proofs.Table.tick as Tick
 use Rattle.claims.proofs.Replies.{replied_once}
-use Rattle.claims.proofs.Same.{once, told_once}
-use Rattle.claims.proofs.TableMeans.{asked_as, asked_told_lem}
+use Rattle.claims.proofs.Same.{once}
 
 -- ---- rows
 
@@ -92,7 +91,7 @@ pub table_take : OneResult 1 Take.Kinds.ps Take.Kinds.r Take.Reads.Post
 table_take κs a e f x y p q = once p.0 q.0
 
 pub table_ask : OneResult 0 Ask.Kinds.ps Ask.Kinds.r Ask.Reads.Post
-table_ask κs a e f x y p q = told_once asked_as asked_told_lem p q
+table_ask κs a e f x y p q = once p q
 
 pub asked_number_lem : OneResult 0 Number.Kinds.ps Number.Kinds.r Number.Reads.Post
 asked_number_lem κs a e f x y p q = once p q

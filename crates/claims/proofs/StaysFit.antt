@@ -11,7 +11,7 @@ use lib.Dec.{ltb, eqb}
 use lib.ListN.{length, take, replicate}
 use lib.Seq.{take_at}
 use Rattle.answer.proofs.Booleans.{neither}
-use Rattle.answer.proofs.Judged.{passed, kept}
+use Rattle.answer.proofs.Judged.{passed as passed_check, kept}
 use Rattle.answer.proofs.Yielding.{Yields, of_refusal, of_value, after_check, after_all, after_value}
 use Rattle.answer.specs.Checks.{pick}
 use Rattle.beacon.specs.Beacons.{quiet_limit, Told, tells}
@@ -139,7 +139,7 @@ unfolding advance_means clock_advance
 advanced_fits s n t f =
     after_value Fits (clock_advance s.clock s.pending n) _
     (λ a e.
-    let p = passed _ _ _ e in
+    let p = passed_check _ _ _ e in
     let near : s.clock + n ≤ clock_limit = ltb-false clock_limit (s.clock + n) (neither (ltb unit_limit n) _ p.0).1 in
     let fits = reached_fits s (s.clock + n) s.pending f (omega arith) in
     of_value Fits (subst (λ (b : Advanced). Fits (advanced_to s b)) (kept _ p.1) fits))

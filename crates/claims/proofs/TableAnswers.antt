@@ -26,15 +26,13 @@ use Rattle.reply.specs.Replies.{owed_to, tpc_answer_to, measurement_answer_to, t
 use Rattle.station.specs.Stations.{fresh}
 use Rattle.station.specs.Starting.{start_forbids as station_forbids, start_means as station_starts}
 use Rattle.table.proofs.Readers.{reader_joined, reader_else, read_alike}
-use Rattle.table.specs.Tables.{with_rows, is_joined, stepped, empty, started, start_forbids, start_means, ticked_table, tick_means, heard_rows, reader_of, take_means, taken}
+use Rattle.table.specs.Tables.{with_rows, is_joined, stepped, empty, start_forbids, start_means, ticked_table, tick_means, heard_rows, reader_of, take_means, taken}
 use Rattle.table.specs.Validity.{ValidTable}
 use Rattle.table.specs.declared.Table.{Table}
-use Rattle.table.specs.declared.starting.Started.{Started}
 use Rattle.claims.specs.Histories.{too_far}
 use Rattle.claims.specs.Joinings.{joined_in, tick_answer, OnlyJoined}
 use Rattle.claims.specs.Runs.{Ran}
 use Rattle.claims.specs.TableRuns.{tick, take, tpc, measurement, TableAnswer, answered, judged, replied, TableMade, started_with, TableStartGives, Does, table}
-use Rattle.claims.proofs.Same.{answer}
 use Rattle.claims.proofs.TableMeans.{replied_with, does_means}
 use Rattle.claims.proofs.TableStays.{reaches}
 use Rattle.claims.proofs.WhoIsJoined.{joined_exactly}
@@ -45,15 +43,15 @@ same_start : (own ap' : List ℕ) (b channel : ℕ) → bit 0 (octet 0 own) ≡ 
 same_start own ap' b channel single known =
     ap₂ (λ (x y : Bool). eqb b 0 || (x || (y || bit 0 (octet 0 ap')))) (sym (le-ltb highest channel known)) (sym single)
 
-pub start_exactly : (ap' own : List ℕ) (b channel : ℕ) (r : Answer) (t : Table) → bit 0 (octet 0 own) ≡ false → channel ≤ highest
-    → TableStartGives (started_with ap' b) r t → r ≡ answer_of (station_starts own ap' b channel)
+pub start_exactly : (ap' own : List ℕ) (b channel : ℕ) (o : Outcome Table) → bit 0 (octet 0 own) ≡ false → channel ≤ highest
+    → TableStartGives (started_with ap' b) o → answer_of o ≡ answer_of (station_starts own ap' b channel)
 unfolding start_means station_starts checked
-start_exactly ap' own b channel r t single known (κs, a, x, e, promise, (address, interval, told, result)) =
-    let mine : x ≡ started (start_means ap' b) = rw (← address, ← interval) promise.0 in
-    sym told ∙ ap (λ (y : Started). y.answer) mine ∙ by (start_forbids ap' b)
+start_exactly ap' own b channel o single known (κs, a, x, e, promise, (address, interval, told)) =
+    let mine : x ≡ start_means ap' b = rw (← address, ← interval) promise.0 in
+    ap answer_of (sym told ∙ mine) ∙ by (start_forbids ap' b)
     ∙ ap (λ (bad : Bool). answer_of {A = Unit {0}} (pick bad (Err Refusal.BadStart) (Ok tt))) (same_start own ap' b channel single known) ∙ by_station (station_forbids own ap' b channel)
   where
-    by : (bad : Bool) → (started (pick bad (Err Refusal.BadStart) (Ok (empty ap' b)))).answer ≡ answer_of {A = Unit {0}} (pick bad (Err Refusal.BadStart) (Ok tt))
+    by : (bad : Bool) → answer_of (pick bad (Err Refusal.BadStart) (Ok (empty ap' b))) ≡ answer_of {A = Unit {0}} (pick bad (Err Refusal.BadStart) (Ok tt))
     by true = refl
     by false = refl
 
@@ -154,14 +152,14 @@ module _ (ap' : List ℕ) (b : ℕ) (ms : List TableMade) (t : Table) (ran : Ran
     -- nor is a reply made to it: the buffer stays as it was
     pub stranger_unanswered : (report : TpcReport) (buffer : List ℕ) (r : TableAnswer) (next : Table) → Does t (tpc f report buffer) r next
         → r ≡ replied (Err Refusal.ForeignAddress) buffer
-    unfolding tpc_reply_in due_in answer
+    unfolding tpc_reply_in due_in
     stranger_unanswered report buffer r next does =
         (does_means t (tpc f report buffer) r next valid does).answers
         ∙ ap (λ (o : Outcome Head). replied_with (and_then (and_then o (after_header f)) (owed_to (reader_of t f) t.ap t.ap (tpc_answer_to (reader_of t f) t.ap t.ap report))) buffer) reader_head
 
     pub stranger_unmeasured : (index : ℕ) (readings : Readings) (buffer : List ℕ) (r : TableAnswer) (next : Table) → Does t (measurement f index readings buffer) r next
         → r ≡ replied (Err Refusal.ForeignAddress) buffer
-    unfolding measurement_reply_in due_in answer
+    unfolding measurement_reply_in due_in
     stranger_unmeasured index readings buffer r next does =
         (does_means t (measurement f index readings buffer) r next valid does).answers
         ∙ ap (λ (o : Outcome Head). replied_with (and_then (and_then o (after_header f)) (owed_to (reader_of t f) t.ap t.ap (measurement_answer_to (reader_of t f) t.ap t.ap t.clock index readings))) buffer) reader_head

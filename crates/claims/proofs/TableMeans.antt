@@ -1,11 +1,12 @@
 -- What a call of a table answers and leaves, by its meaning. Assumes nothing.
-use Rattle.std.specs.Prelude.{Ok, Err}
+use Rattle.std.specs.Prelude.{Ok, Err, IfOk}
 use mathlib.Core.Bool.{Bool, true, false, ◌||◌}
 use mathlib.Core.List.{List, [], ◌∷◌}
 use mathlib.Core.Path.{◌≡◌, refl, sym, ap, ap₂, ◌∙◌, subst}
 use Prim.Native.Nat.{ℕ, ◌+◌}
 use native.Mathlib.Omega.{arith}
 use lib.Dec.{ltb}
+use Rattle.answer.proofs.Judged.{passed, kept}
 use Rattle.answer.specs.Checks.{Outcome, pick, Check, checked, and_then, Answer}
 use Rattle.answer.specs.Faults.{Placed}
 use Rattle.answer.specs.declared.Refusal.{Refusal}
@@ -18,40 +19,29 @@ use Rattle.row.specs.Rows.{is_of}
 use Rattle.table.proofs.Outcomes.{join_forbidden, join_seats, join_valid, tick_refused, tick_accepted, take_valid}
 use Rattle.table.proofs.StaysValid.{valid_left}
 use Rattle.table.specs.Replies.{tpc_reply_of, measurement_reply_of}
-use Rattle.table.specs.Tables.{with_rows, heard_rows, stepped, empty, started, start_forbids, start_means, join_forbids, join_means, join_of, leave_means, leave_of, ticked_table, tick_means, tick_of, reader_of, take_means, taken, take_of, ask_means}
+use Rattle.table.specs.Tables.{with_rows, heard_rows, stepped, empty, start_forbids, start_means, join_forbids, join_means, join_of, leave_means, leave_of, ticked_table, tick_means, tick_of, reader_of, take_means, taken, take_of, ask_means}
 use Rattle.table.specs.Validity.{ValidTable}
 use Rattle.table.specs.declared.Stepped.{Stepped}
 use Rattle.table.specs.declared.Table.{Table}
-use Rattle.table.specs.declared.starting.Started.{Started}
 use Rattle.table.specs.declared.taking.Taken.{Taken}
 use Rattle.claims.specs.Histories.{History, too_far, clock_from}
 use Rattle.claims.specs.TableHistories.{advance_in}
 use Rattle.claims.specs.TableRuns.{TableCall, join, leave, tick, take, question, tpc, measurement, TableAnswer, answered, judged, asked, replied, started_with, TableStarts, Does, table}
 use Rattle.claims.proofs.RunsMeant.{Meaning, Meant, Exactly, Meets, meets_exactly}
-use Rattle.claims.proofs.Same.{answer, answer_told_lem}
 
 pub answered_once : {x y : Answer} → answered x ≡ answered y → x ≡ y
 answered_once {x} {y} e = cc
 
--- the answer to a question, by what it stands for
-abbrev pub asked_as : Outcome Permission → Outcome Permission
-asked_as (Err r) = Err r
-asked_as (Ok p) = Ok p
-
-pub asked_told_lem : (x : Outcome Permission) → asked_as (x) ≡ x
-asked_told_lem (Err r) = refl
-asked_told_lem (Ok p) = refl
-
 -- a reply, and the buffer after it
 abbrev pub replied_with : Outcome (List ℕ) → List ℕ → TableAnswer
-replied_with o buffer = replied (answer (and_then o (λ os. wrote true os 0 buffer))) (left_by o buffer)
+replied_with o buffer = replied (and_then o (λ os. wrote true os 0 buffer)) (left_by o buffer)
 
 abbrev pub table_answers : Table → TableCall → TableAnswer
 table_answers t (join own channel) = answered (join_of t own channel).answer
 table_answers t (leave own) = answered (leave_of t own).answer
 table_answers t (tick n) = answered (tick_of t n).answer
 table_answers t (take f) = judged (take_of t f).verdict
-table_answers t (question own n) = asked (asked_as (ask_means t own n))
+table_answers t (question own n) = asked (ask_means t own n)
 table_answers t (tpc f report buffer) = replied_with (tpc_reply_of t report f) buffer
 table_answers t (measurement f index readings buffer) = replied_with (measurement_reply_of t index readings f) buffer
 
@@ -80,7 +70,7 @@ of_step t c x m r next e is leaves v told result = record {
 }
 
 of_reply : (o : Outcome (List ℕ)) (buffer exit : List ℕ) (x : Outcome ℕ) → Replied o buffer x exit → replied x exit ≡ replied_with o buffer
-of_reply o buffer exit x w = ap₂ replied (sym (answer_told_lem x) ∙ ap answer w.answers) w.leaves
+of_reply o buffer exit x w = ap₂ replied w.answers w.leaves
 
 pub does_means : (t : Table) (c : TableCall) (r : TableAnswer) (next : Table) → ValidTable t → Does t c r next → TableMeant t c r next
 does_means t (join own channel) r next v (κs, a, x, e, promise, (self, address, number, told, result)) =
@@ -98,7 +88,7 @@ does_means t (take f) r next v (κs, a, x, e, promise, (self, octets, told, resu
     }
 does_means t (question own n) r next v (κs, a, x, e, promise, (self, address, units, told, result)) =
     let same : x ≡ ask_means t own n = rw (← self, ← address, ← units) promise in
-    record { answers = sym told ∙ ap asked (sym (asked_told_lem x) ∙ ap asked_as same); leaves = sym result; valid = subst ValidTable result v }
+    record { answers = sym told ∙ ap asked same; leaves = sym result; valid = subst ValidTable result v }
 does_means t (tpc f report buffer) r next v (κs, a, x, e, promise, (self, octets, found, lent, told, result)) =
     record {
       answers = sym told ∙ of_reply (tpc_reply_of t report f) buffer _ x (rw (← self, ← octets, ← found, ← lent) promise);
@@ -247,21 +237,12 @@ refused_keeps t c r next v d x =
 
 -- ---- start
 
-start_gives : (ap' : List ℕ) (b : ℕ) → (started (start_means ap' b)).answer ≡ Ok tt → (started (start_means ap' b)).table ≡ empty ap' b
-unfolding start_means checked
-start_gives ap' b e = by (start_forbids ap' b) e
-  where
-    by : (bad : Bool) → (started (pick bad (Err Refusal.BadStart) (Ok (empty ap' b)))).answer ≡ Ok tt
-        → (started (pick bad (Err Refusal.BadStart) (Ok (empty ap' b)))).table ≡ empty ap' b
-    by true e = absurd (let z : ◌≡◌ {A = ℕ} 0 1 = cc in omega arith)
-    by false e = refl
-
 pub starts_empty : (ap' : List ℕ) (b : ℕ) (t : Table) → TableStarts (started_with ap' b) t → Exactly ValidTable t (empty ap' b)
-starts_empty ap' b t (κs, a, x, e, promise, (address, interval, told, result)) =
-    let same : x ≡ started (start_means ap' b) = rw (← address, ← interval) promise.0 in (
-      sym result ∙ ap (λ (y : Started). y.table) same ∙ start_gives ap' b (ap (λ (y : Started). y.answer) (sym same) ∙ told),
-      subst ValidTable result (promise.1 told),
-    )
+unfolding start_means
+starts_empty ap' b t (κs, a, x, e, promise, (address, interval, accepts)) =
+    let same : x ≡ start_means ap' b = rw (← address, ← interval) promise.0 in
+    let p = passed _ _ _ (sym same ∙ accepts) in
+    (sym (kept (empty ap' b) p.1), subst (λ (o : Outcome Table). IfOk o ValidTable) accepts promise.1)
 
 pub table_meets : (ap' : List ℕ) (b : ℕ) → Meets table table_means (Exactly ValidTable) (started_with ap' b) (empty ap' b)
 table_meets ap' b = meets_exactly table table_means ValidTable does_means (started_with ap' b) (empty ap' b) (starts_empty ap' b)

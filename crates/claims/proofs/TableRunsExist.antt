@@ -1,5 +1,5 @@
 -- After a start that is not forbidden any calls of a table can be made (02, Six). Assumes nothing.
-use Rattle.std.specs.Prelude.{Ok, Err}
+use Rattle.std.specs.Prelude.{Ok, Err, IfOk}
 use mathlib.Core.Bool.{true, false}
 use mathlib.Core.List.{List, []}
 use mathlib.Core.Path.{◌≡◌, refl, sym, ap, subst}
@@ -20,14 +20,13 @@ use Rattle.table.proofs.Table.start as Start
 use Rattle.table.proofs.Table.take as Take
 use Rattle.table.proofs.Table.tick as Tick
 use Rattle.table.specs.Replies.{tpc_reply_of, measurement_reply_of}
-use Rattle.table.specs.Tables.{empty, started, start_forbids, start_means, join_of, leave_of, tick_of, take_of, ask_means}
+use Rattle.table.specs.Tables.{empty, start_forbids, start_means, join_of, leave_of, tick_of, take_of, ask_means}
 use Rattle.table.specs.Validity.{ValidTable}
 use Rattle.table.specs.declared.Table.{Table}
 use Rattle.claims.specs.Runs.{CanRun}
 use Rattle.claims.specs.TableRuns.{TableCall, join, leave, tick, take, question, tpc, measurement, started_with, TableStarts, Does, table}
 use Rattle.claims.proofs.RunsExist.{can_run_exactly, lent, lent_mut}
-use Rattle.claims.proofs.Same.{answer}
-use Rattle.claims.proofs.TableMeans.{asked_as, table_answers, table_after, valid_after, table_meets}
+use Rattle.claims.proofs.TableMeans.{table_answers, table_after, valid_after, table_meets}
 
 module _ (ap' : List ℕ) (b : ℕ) (may : start_forbids ap' b ≡ false) where
   accepts : start_means ap' b ≡ Ok (empty ap' b)
@@ -38,24 +37,14 @@ module _ (ap' : List ℕ) (b : ℕ) (may : start_forbids ap' b ≡ false) where
   starts_can = (
     tt,
     (ap', (b, tt)),
-    started (start_means ap' b),
+    start_means ap' b,
     at_exit (ended_of 0 Start.Kinds.ps Start.Kinds.r) tt (ap', (b, tt)) (tt, (tt, tt)),
-    (refl, λ e. subst (λ (o : Outcome Table). ValidTable (started o).table) (sym accepts) (valid_empty ap' b may)),
-    (refl, refl, ap (λ (o : Outcome Table). (started o).answer) accepts, ap (λ (o : Outcome Table). (started o).table) accepts),
+    (refl, subst (λ (o : Outcome Table). IfOk o ValidTable) (sym accepts) (valid_empty ap' b may)),
+    (refl, refl, accepts),
   )
 
--- an answer to a question, and one to a reply, stands for its outcome
-told_asked : (o : Outcome Permission) → (asked_as o) ≡ o
-told_asked (Err r) = refl
-told_asked (Ok p) = refl
-
-told_answer : (o : Outcome ℕ) → (answer o) ≡ o
-unfolding answer
-told_answer (Err r) = refl
-told_answer (Ok n) = refl
-
-replied_can : (o : Outcome (List ℕ)) (buffer : List ℕ) → Replied o buffer (answer (and_then o (λ os. wrote true os 0 buffer))) (left_by o buffer)
-replied_can o buffer = record { answers = told_answer (and_then o (λ os. wrote true os 0 buffer)); leaves = refl }
+replied_can : (o : Outcome (List ℕ)) (buffer : List ℕ) → Replied o buffer (and_then o (λ os. wrote true os 0 buffer)) (left_by o buffer)
+replied_can o buffer = record { answers = refl; leaves = refl }
 
 does_can : (t : Table) → ValidTable t → (c : TableCall) → Does t c (table_answers t c) (table_after t c)
 does_can t v (join own channel) = (
@@ -93,16 +82,16 @@ does_can t v (take f) = (
 does_can t v (question own n) = (
   tt,
   (t, (own, (n, tt))),
-  asked_as (ask_means t own n),
+  ask_means t own n,
   at_exit (ended_of 0 Ask.Kinds.ps Ask.Kinds.r) tt (t, (own, (n, tt))) (tt, (tt, (tt, tt))),
-  told_asked (ask_means t own n),
+  refl,
   (refl, refl, refl, refl, refl),
 )
 does_can t v (tpc f report buffer) =
     let o = tpc_reply_of t report f in (
       ([], ([], tt)),
       (t, (lent f, (report, (lent_mut buffer, tt)))),
-      answer (and_then o (λ os. wrote true os 0 buffer)),
+      and_then o (λ os. wrote true os 0 buffer),
       at_exit (ended_of 2 Tpc.Kinds.ps Tpc.Kinds.r) ([], ([], tt)) (t, (lent f, (report, (lent_mut buffer, tt)))) (tt, (tt, (tt, (left_by o buffer, tt)))),
       replied_can o buffer,
       (refl, refl, refl, refl, refl, refl),
@@ -111,7 +100,7 @@ does_can t v (measurement f index readings buffer) =
     let o = measurement_reply_of t index readings f in (
       ([], ([], tt)),
       (t, (lent f, (index, (readings, (lent_mut buffer, tt))))),
-      answer (and_then o (λ os. wrote true os 0 buffer)),
+      and_then o (λ os. wrote true os 0 buffer),
       at_exit (ended_of 2 Measurement.Kinds.ps Measurement.Kinds.r) ([], ([], tt)) (t, (lent f, (index, (readings, (lent_mut buffer, tt))))) (tt, (tt, (tt, (tt, (left_by o buffer, tt))))),
       replied_can o buffer,
       (refl, refl, refl, refl, refl, refl, refl),
