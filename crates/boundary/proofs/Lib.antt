@@ -1,7 +1,6 @@
 pub mod Coded
 pub mod FieldByField
 pub mod FieldLengths
-pub mod OnStations
 pub mod OneOutcome
 pub mod Passes
 pub mod QuietsByIndex

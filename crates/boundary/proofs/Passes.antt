@@ -228,11 +228,11 @@ module _ {file : List ℕ} {store : Bool} {out₀ out : List ℕ} {p : Progress}
 
 -- ---- both passes
 
--- a pass that stores nothing leaves the buffer, which is too short or has room
-pub seen_short : (os : List ℕ) {out exit : List ℕ} {r : Refusal} → Passes false os 0 out (Err r) exit → Written true os 0 out (Err r) exit
-seen_short os {out} w =
+-- of a buffer that is too short every octet is left; a pass that stores nothing leaves each, and sees that there is room
+pub seen_short : {store : Bool} (os : List ℕ) {out exit : List ℕ} {r : Refusal} → Passes store os 0 out (Err r) exit → Written true os 0 out (Err r) exit
+seen_short {store} os {out} w =
     let long = short_wrote os 0 out w.answers in
-    record { answers = w.answers; leaves = w.leaves ∙ left_short os 0 out long.1 false ∙ sym (left_short os 0 out long.1 true) }
+    record { answers = w.answers; leaves = w.leaves ∙ left_short os 0 out long.1 store ∙ sym (left_short os 0 out long.1 true) }
 
 pub seen_to_fit : (os : List ℕ) {out exit : List ℕ} {n : ℕ} → Passes false os 0 out (Ok n) exit → (exit ≡ out) × (length os ≤ length exit)
 seen_to_fit os {out} w =

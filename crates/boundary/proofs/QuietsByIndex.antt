@@ -2,28 +2,24 @@
 use Rattle.std.specs.Prelude.{Ok, Err}
 use mathlib.Core.Bool.{Bool, true, false}
 use mathlib.Core.List.{List, [], ◌∷◌, ◌++◌}
-use mathlib.Core.Path.{◌≡◌, refl, sym, ap, subst, ◌∙◌}
+use mathlib.Core.Path.{◌≡◌, refl, sym, ap, ◌∙◌}
 use Prim.Native.Nat.{ℕ, zero, suc, ◌-◌, ◌<◌, ◌≤◌}
 use native.Mathlib.Omega.{arith}
-use borrow.Author.Tests.{le-leb, lt-leb, leb-true, leb-false}
+use borrow.Author.Tests.{leb-true, leb-false}
 use lib.Dec.{leb}
 use lib.ListN.{length, get_or, replicate}
 use Rattle.answer.proofs.Judged.{never}
 use Rattle.answer.specs.Checks.{pick}
 use Rattle.answer.specs.Faults.{Placed}
-use Rattle.answer.specs.declared.Fault.{Fault}
 use Rattle.answer.specs.declared.Refusal.{Refusal}
 use Rattle.beacon.specs.Beacons.{quiet_limit}
 use Rattle.beacon.specs.Laid.{no_quiet, slots}
 use Rattle.element.specs.declared.quiet.Quiet.{Quiet}
-use Rattle.frame.specs.Allowed.{KindAllowed}
-use Rattle.frame.specs.Frames.{Kind, beacon, probe_response, action, Sent, frame_means}
-use Rattle.frame.specs.IbssFrames.{SentInIbss, ibss_frame_means}
+use Rattle.frame.specs.Frames.{Sent}
+use Rattle.frame.specs.IbssFrames.{SentInIbss}
 use Rattle.frame.specs.IbssLaid.{ibss_laid}
 use Rattle.frame.specs.Laid.{received, frame_of, quiets_of, frame_laid}
 use Rattle.frame.specs.declared.Received.{Received}
-use Rattle.frame.proofs.Allowing.{frame_allowed}
-use Rattle.frame.proofs.FromAp.{ibss_allowed}
 use Rattle.measurement_body.specs.Lists.{nth}
 use Rattle.boundary.specs.CodeTerms.HeldQuiets.{held_quiet}
 use Rattle.boundary.specs.ElementFields.{quiet_of}
@@ -42,10 +38,6 @@ at_index zero (q ∷ qs) rest blank h = refl
 at_index (suc i) (q ∷ qs) rest blank h = at_index i qs rest blank (omega arith)
 
 -- of what was laid out
-pub quiet_refused : (i : ℕ) (o : Placed Sent) {x : Fault} → frame_laid o ≡ Err x → quiet_of i o ≡ Err x.refusal
-quiet_refused i (Err y) {x} e = ap (λ (z : Fault). Err z.refusal) (let same : y ≡ x = cc in same)
-quiet_refused i (Ok s) e = absurd (never (sym e))
-
 pub quiet_held : (i : ℕ) (o : Placed Sent) {v : Received} → frame_laid o ≡ Ok v → quiet_of i o ≡ held_quiet i v
 quiet_held i (Err x) e = absurd (never e)
 quiet_held i (Ok s) {v} e = sym (by (leb (length (quiets_of s.kind)) i) refl) ∙ ap (held_quiet i) (let same : received (frame_of s.kind) s.to_all (quiets_of s.kind) ≡ v = cc in same)
@@ -56,32 +48,8 @@ quiet_held i (Ok s) {v} e = sym (by (leb (length (quiets_of s.kind)) i) refl) �
     by false e =
         sym (at_index i (quiets_of s.kind) (replicate (quiet_limit - length (quiets_of s.kind)) no_quiet) no_quiet (leb-false (length (quiets_of s.kind)) i e))
 
--- the slots in use are some of the slots
-few_quiets : (b : ℕ) (k : Kind) → KindAllowed b k → length (quiets_of k) ≤ quiet_limit
-few_quiets b (beacon t) a = a.few
-few_quiets b (probe_response t) a = a.few
-few_quiets b (action body) a = omega arith
-
-few_slots : (b : ℕ) (o : Placed Sent) → ((x : Sent) → o ≡ Ok x → KindAllowed b x.kind) → {v : Received} → frame_laid o ≡ Ok v → v.count ≤ quiet_limit
-few_slots b (Err x) h e = absurd (never e)
-few_slots b (Ok s) h {v} e =
-    let same : received (frame_of s.kind) s.to_all (quiets_of s.kind) ≡ v = cc in
-    subst (λ (w : Received). w.count ≤ quiet_limit) same (few_quiets b s.kind (h s refl))
-
-pub slots_in_use : (own ap' : List ℕ) (b : ℕ) (f : List ℕ) {v : Received} → frame_laid (frame_means own ap' b f) ≡ Ok v → v.count ≤ quiet_limit
-slots_in_use own ap' b f = few_slots b (frame_means own ap' b f) (frame_allowed b own ap' f)
-
 -- ---- in an IBSS: of what 01 reads of the frame
 
 pub laid_in_ibss : (o : Placed SentInIbss) → (ibss_laid o).received ≡ frame_laid (sent_in o)
 laid_in_ibss (Err x) = refl
 laid_in_ibss (Ok s) = refl
-
-sent_allowed : (b : ℕ) (o : Placed SentInIbss) → ((x : SentInIbss) → o ≡ Ok x → KindAllowed b x.sent.kind) → (y : Sent) → sent_in o ≡ Ok y → KindAllowed b y.kind
-sent_allowed b (Err x) h y e = absurd (never e)
-sent_allowed b (Ok s) h y e = subst (λ (z : Sent). KindAllowed b z.kind) (let same : s.sent ≡ y = cc in same) (h s refl)
-
-pub slots_in_ibss : (own bss : List ℕ) (b : ℕ) (f : List ℕ) {v : Received} → (ibss_laid (ibss_frame_means own bss b f)).received ≡ Ok v → v.count ≤ quiet_limit
-slots_in_ibss own bss b f e =
-    let o = ibss_frame_means own bss b f in
-    few_slots b (sent_in o) (sent_allowed b o (ibss_allowed own bss b f)) (sym (laid_in_ibss o) ∙ e)

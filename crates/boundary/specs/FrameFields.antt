@@ -1,5 +1,5 @@
 -- A frame as its fields, one after the other at fixed places (docs/BOUNDARY.md). What a kind has not got is 0.
-use Rattle.std.specs.Prelude.{Bool, List, [], ◌∷◌, ◌++◌, ℕ, Ok, Err, Some, None, Option}
+use Rattle.std.specs.Prelude.{Bool, List, [], ◌∷◌, ◌++◌, ℕ, Ok, Some, None, Option}
 use Rattle.answer.specs.Checks.{Outcome, pick, and_then}
 use Rattle.beacon.specs.Notices.{elementless, with_report, with_switch, held_power}
 use Rattle.beacon.specs.declared.Notice.{Notice}

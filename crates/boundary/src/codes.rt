@@ -8,7 +8,7 @@ use answer::{Fault, Refusal};
 pub fn refused(refusal: Refusal) -> u64
     ensures { result ≡ refusal_code refusal }
 {
-    18446744073709551615 - ((refusal.number() - 1) as u64)
+    u64::from(refusal.number()).wrapping_neg()
 }
 
 pub fn wrote(answer: Result<usize, Refusal>) -> u64
@@ -43,6 +43,5 @@ pub fn judged(verdict: Result<(), Fault>) -> u64
 pub fn address(number: u64) -> [u8; 6]
     ensures { result ≡ address_of number }
 {
-    let o = octets::octets64(number);
-    [o[0], o[1], o[2], o[3], o[4], o[5]]
+    octets::address_at(&octets::octets64(number), 0)
 }

@@ -10,20 +10,14 @@ use crate::codes;
 pub extern "C" fn oneiralth_centre(channel: u8) -> u64
     ensures { result ≡ code_of (centre_of channel) }
 {
-    match channel::centre(channel) {
-        Err(refusal) => codes::refused(refusal),
-        Ok(megahertz) => u64::from(megahertz),
-    }
+    codes::wrote(channel::centre(channel).map(usize::from))
 }
 
 #[unsafe(no_mangle)]
 pub extern "C" fn oneiralth_busy_fraction(busy: u32, duration: u16) -> u64
     ensures { result ≡ code_of (busy_of duration busy) }
 {
-    match fraction::busy_fraction(busy, duration) {
-        Err(refusal) => codes::refused(refusal),
-        Ok(fraction) => u64::from(fraction),
-    }
+    codes::wrote(fraction::busy_fraction(busy, duration).map(usize::from))
 }
 
 // Eight times in µs; the eight densities come out as eight octets.

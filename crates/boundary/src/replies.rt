@@ -59,9 +59,8 @@ pub extern "C" fn oneiralth_reply_to_measurement_request(
 ) -> u64
     ensures { Given (measurement_reply (address_of own) (address_of ap) clock index (record { finding = finding_given found value; times = t0 ∷ t1 ∷ t2 ∷ t3 ∷ t4 ∷ t5 ∷ t6 ∷ t7 ∷ [] }) frame.now) out.old result out.new }
 {
-    let finding = finding(found, value);
     let readings = Readings {
-        finding,
+        finding: finding(found, value),
         times: [t0, t1, t2, t3, t4, t5, t6, t7],
     };
     let own = codes::address(own);

@@ -105,9 +105,8 @@ pub extern "C" fn oneiralth_station_reply_to_measurement_request(
     match station_record::read(station) {
         Err(refusal) => codes::refused(refusal),
         Ok(held) => {
-            let finding = replies::finding(found, value);
             let readings = Readings {
-                finding,
+                finding: replies::finding(found, value),
                 times: [t0, t1, t2, t3, t4, t5, t6, t7],
             };
             codes::wrote(reply::to_measurement_request(

@@ -68,6 +68,7 @@ fn listed(put: Put) -> Listing
 
 impl Lister {
     // The lines of a block, from the front of the buffer on. Any octets may be handed in as a block: a short last one is damaged.
+    #[tactic(auto, using(crate::proofs::Fitting::roomy))]
     pub fn feed(self, block: &[u8], out: &mut [u8]) -> Listing
         requires { Fits self }
         ensures fed_with { FedWith (feed_means self 1 (block_told block.now self) (length out.old)) self out.old result out.new }
@@ -80,6 +81,7 @@ impl Lister {
     }
 
     // The lines of the blocks of some octets, in the same way.
+    #[tactic(auto, using(crate::proofs::Fitting::roomy, crate::proofs::FedBlocks::blocks_counted))]
     pub fn feed_all(self, blocks: &[u8], out: &mut [u8]) -> Listing
         requires { Fits self }
         ensures fed_with { FedWith (feed_means self (length (blocks_in blocks.now)) (blocks_told (blocks_in blocks.now) self) (length out.old)) self out.old result out.new }

@@ -34,6 +34,7 @@ enum BlockAt {
     Whole { stop: usize, end: usize },
 }
 
+#[tactic(auto, using(block::proofs::Ending::end_inside))]
 fn block_at(blocks: &[u8], at: usize) -> BlockAt
     ensures { BlockFound blocks.now at result }
 {

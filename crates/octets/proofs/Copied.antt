@@ -1,15 +1,15 @@
 -- Octets that are copied over as many others: at a place, and where those before them end. Assumes nothing.
 use Rattle.std.specs.Prelude.{Ok}
 use mathlib.Core.Bool.{true}
-use mathlib.Core.List.{List, [], ◌∷◌, ◌++◌, append_assoc}
+use mathlib.Core.List.{List, [], ◌∷◌, ◌++◌, append_assoc, append-nil}
 use mathlib.Core.Path.{◌≡◌, refl, sym, ap, ap₂, ◌∙◌}
 use Prim.Native.Nat.{ℕ, zero, suc, ◌+◌, ◌<◌, ◌≤◌}
 use native.Mathlib.Omega.{arith}
 use borrow.Rule.Slice.PartMut.{put_mid}
-use lib.ListN.{length, take, drop, set, length-append}
+use lib.ListN.{length, take, drop, set, length-append, take-append-drop}
 use lib.Seq.{length-take-le, take_at, drop_at, drop-drop}
 use Rattle.octets.proofs.Storing.{room_answer, room_left, over_length}
-use Rattle.octets.specs.Writing.{over, Written}
+use Rattle.octets.specs.Writing.{over, filled, Written}
 
 pub copied_over : (at : ℕ) {n : ℕ} (buffer : List ℕ) {part os : List ℕ} → part ≡ os → n ≡ length os → put_mid at n buffer part ≡ over buffer at os
 copied_over at {n} buffer {part} {os} e many =
@@ -21,6 +21,9 @@ copied_over at {n} buffer {part} {os} e many =
 pub front_over : (n : ℕ) (buffer : List ℕ) {part os : List ℕ} → part ≡ os → n ≡ length os → part ++ drop n buffer ≡ over buffer 0 os
 front_over n buffer {part} {os} e many =
     ap₂ (λ (xs : List ℕ) (k : ℕ). xs ++ drop k buffer) e (let same : n ≡ 0 + length os = omega (arith, many) in same)
+
+pub over_front : (os buffer : List ℕ) → over buffer 0 os ≡ filled os buffer
+over_front os buffer = ap (λ (n : ℕ). os ++ drop n buffer) (let same : 0 + length os ≡ length os = omega arith in same)
 
 -- one octet
 pub set_over : (at : ℕ) (buffer : List ℕ) (x : ℕ) → at < length buffer → set buffer at x ≡ over buffer at (x ∷ [])
@@ -54,6 +57,15 @@ over_next at xs ys buffer fits =
 pub record Put (at : ℕ) (os buffer now : List ℕ) : Type 0 where
   pub fits : at + length os ≤ length buffer
   pub stands : now ≡ over buffer at os
+
+pub nothing_put : (at : ℕ) (buffer : List ℕ) → at ≤ length buffer → Put at [] buffer buffer
+nothing_put at buffer h =
+    record {
+      fits = omega arith;
+      stands =
+          sym (take-append-drop at buffer)
+          ∙ ap₂ (λ (front : List ℕ) (k : ℕ). front ++ drop k buffer) (sym (append-nil (take at buffer))) (let same : at ≡ at + 0 = omega arith in same);
+    }
 
 -- the first
 pub first_put : (at : ℕ) (os buffer : List ℕ) {now : List ℕ} → at + length os ≤ length buffer → now ≡ over buffer at os → Put at os buffer now

@@ -13,23 +13,18 @@ use std::io::Write;
 
 // A reply is asked for without a station.
 fn reply<W: Write>(page: &mut Page<W>, to: Reply, call: Call) {
-    played::reply(
-        page,
-        to,
-        call,
-        |frame: &[u8], buffer: &mut [u8]| match to {
-            Reply::Tpc => reply::to_tpc_request(frame, OWN, AP, replies::report(call), buffer),
-            Reply::Measurement => reply::to_measurement_request(
-                frame,
-                OWN,
-                AP,
-                last::four(call.numbers[3]),
-                call.numbers[4] as usize,
-                replies::readings(call),
-                buffer,
-            ),
-        },
-    );
+    played::reply(page, to, call, |frame: &[u8], buffer: &mut [u8]| match to {
+        Reply::Tpc => reply::to_tpc_request(frame, OWN, AP, replies::report(call), buffer),
+        Reply::Measurement => reply::to_measurement_request(
+            frame,
+            OWN,
+            AP,
+            last::four(call.numbers[3]),
+            call.numbers[4] as usize,
+            replies::readings(call),
+            buffer,
+        ),
+    });
 }
 
 impl Played for Station {

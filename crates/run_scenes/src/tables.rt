@@ -24,20 +24,15 @@ fn row<W: Write>(page: &mut Page<W>, table: Table, own: [u8; 6]) {
 }
 
 fn reply<W: Write>(page: &mut Page<W>, table: Table, to: Reply, call: Call) {
-    played::reply(
-        page,
-        to,
-        call,
-        |frame: &[u8], buffer: &mut [u8]| match to {
-            Reply::Tpc => table.reply_to_tpc_request(frame, replies::report(call), buffer),
-            Reply::Measurement => table.reply_to_measurement_request(
-                frame,
-                call.numbers[4] as usize,
-                replies::readings(call),
-                buffer,
-            ),
-        },
-    );
+    played::reply(page, to, call, |frame: &[u8], buffer: &mut [u8]| match to {
+        Reply::Tpc => table.reply_to_tpc_request(frame, replies::report(call), buffer),
+        Reply::Measurement => table.reply_to_measurement_request(
+            frame,
+            call.numbers[4] as usize,
+            replies::readings(call),
+            buffer,
+        ),
+    });
 }
 
 // The answer of a step, and the table after it.

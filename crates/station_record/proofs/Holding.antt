@@ -1,15 +1,16 @@
--- What octets hold, by the one test of them, and what a call on them comes to. Assumes nothing.
-use Rattle.std.specs.Prelude.{Ok, Err, Result}
+-- What octets hold, by the one test of them. Assumes nothing.
+use Rattle.std.specs.Prelude.{Ok, Err}
 use mathlib.Core.Bool.{true, false}
 use mathlib.Core.List.{List}
-use mathlib.Core.Path.{◌≡◌, sym, ap, ◌∙◌}
+use mathlib.Core.Path.{◌≡◌, sym}
 use Prim.Native.Nat.{ℕ, ◌≤◌}
 use lib.ListN.{length}
 use Rattle.answer.proofs.Judged.{passed, past, stop, done}
 use Rattle.answer.specs.declared.Refusal.{Refusal}
+use Rattle.beacon.specs.Beacons.{quiet_limit}
+use Rattle.octets.specs.Numbers.{octet}
 use Rattle.station.specs.declared.Station.{Station}
 use Rattle.station_record.proofs.Sound.{sound}
-use Rattle.station_record.specs.Calls.{relaid}
 use Rattle.station_record.specs.Held.{station_at, no_record, held_in}
 use Rattle.station_record.specs.Records.{size}
 
@@ -22,12 +23,11 @@ module _ (os : List ℕ) where
   unfolding held_in
   held_some e = sym (past _ _ _ e (done _))
 
+-- octets that hold a station have a schedule's slot for each in use
+pub held_few : (os : List ℕ) → no_record os ≡ false → octet 41 os ≤ quiet_limit
+held_few os e = (sound os e).few
+
 -- where a station is held there is room for any record
 pub held_room : (os : List ℕ) (s : Station) → held_in os ≡ Ok s → size ≤ length os
 unfolding held_in
 held_room os s e = (sound os (passed _ _ _ e).0).roomy
-
--- a call that comes to an outcome, whatever says it
-pub comes_to : {R A : Type 0} (say : Result Station R → A) (os : List ℕ) (o p : Result Station R) {answer : A} {exit : List ℕ} → o ≡ p → answer ≡ say p → exit ≡ relaid os p
-    → (answer ≡ say o) × (exit ≡ relaid os o)
-comes_to say os o p e f g = (f ∙ ap say (sym e), g ∙ ap (relaid os) (sym e))

@@ -1,6 +1,8 @@
+pub mod Advancing
 pub mod Heads
 pub mod Holding
 pub mod InPlace
+pub mod Laid
 pub mod Layouts
 pub mod Lengths
 pub mod Outcomes

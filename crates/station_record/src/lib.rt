@@ -23,7 +23,7 @@ const VERSION: u8 = 1;
 // The octets that a keeper sets aside: room for sixteen schedules, so that it need not grow with a later version.
 pub const SIZE: usize = 336;
 
-// Where each field stands.
+// Where each field stands, and the moment of a pending switch.
 const CHANNEL: usize = 1;
 
 const INTERVAL: usize = 2;
@@ -38,6 +38,8 @@ const POWER: usize = 20;
 
 const PENDING: usize = 22;
 
+const MOMENT: usize = 25;
+
 const UNTIL: usize = 33;
 
 const COUNT: usize = 41;
@@ -48,59 +50,41 @@ const SLOTS: usize = 42;
 const SLOT: usize = 18;
 
 // A station at moment 0 that has heard nothing, into octets that need hold nothing yet.
-pub fn start(own: [u8; 6], ap: [u8; 6], interval: u16, channel: u8, memory: &mut [u8]) -> Result<(), Refusal>
+#[tactic(auto, using(crate::proofs::Outcomes::start_refused, crate::proofs::Outcomes::no_room, crate::proofs::Outcomes::has_room))]
+pub fn start(
+    own: [u8; 6],
+    ap: [u8; 6],
+    interval: u16,
+    channel: u8,
+    memory: &mut [u8],
+) -> Result<(), Refusal>
     ensures value { result ≡ answer_of (started_in own ap interval channel memory.old) }
     ensures memory_after { memory.new ≡ relaid memory.old (started_in own ap interval channel memory.old) }
 {
-    let started = Station::start(own, ap, interval, channel);
-    let answer = started.answer;
-    let station = started.station;
-    match answer {
-        Err(_) => answer,
-        Ok(()) => {
-            if memory.len() < SIZE {
-                return Err(Refusal::BufferShort);
-            }
-            laying::lay(station, memory);
-            Ok(())
-        }
+    let station = Station::start(own, ap, interval, channel)?;
+    if memory.len() < SIZE {
+        return Err(Refusal::BufferShort);
     }
+    laying::lay(&station, memory);
+    Ok(())
 }
 
 // A frame. One that is refused leaves every octet.
+#[tactic(auto, using(crate::proofs::Holding::held_room))]
 pub fn take(memory: &mut [u8], frame: &[u8]) -> Result<(), Fault>
     ensures value { result ≡ verdict_of (taken_in frame.now memory.old) }
     ensures memory_after { memory.new ≡ relaid memory.old (taken_in frame.now memory.old) }
 {
-    let held = reading::read(memory);
-    let answer = held.answer;
-    let station = held.station;
-    match answer {
-        Err(refusal) => Err(Fault::nowhere(refusal)),
-        Ok(()) => {
-            let taken = station.take(frame);
-            let verdict = taken.verdict;
-            let next = taken.station;
-            match verdict {
-                Err(_) => verdict,
-                Ok(()) => {
-                    laying::lay(next, memory);
-                    Ok(())
-                }
-            }
-        }
-    }
+    let station = reading::read(memory).map_err(Fault::nowhere)?;
+    let taken = station.take(frame);
+    taken.verdict?;
+    laying::lay(&taken.station, memory);
+    Ok(())
 }
 
 // A question: nothing of the record changes by it.
 pub fn ask(memory: &[u8], units: u32) -> Result<Permission, Refusal>
     ensures { result ≡ asked_in units memory.now }
 {
-    let held = reading::read(memory);
-    let answer = held.answer;
-    let station = held.station;
-    match answer {
-        Err(refusal) => Err(refusal),
-        Ok(()) => Ok(station.ask(units)),
-    }
+    Ok(reading::read(memory)?.ask(units))
 }

@@ -15,8 +15,7 @@ fn tell(moment: u32, memory: &mut [u8])
     requires { size ≤ length memory.old }
     ensures { memory.new ≡ over memory.old 4 (split 4 moment) }
 {
-    let octets = octets::octets32(moment);
-    octets::put(true, &octets, memory, crate::CLOCK);
+    memory[crate::CLOCK..crate::OWN].copy_from_slice(&octets::octets32(moment));
 }
 
 // On another channel nothing of the old one holds.
@@ -24,13 +23,12 @@ fn switch(channel: u8, memory: &mut [u8])
     requires { size ≤ length memory.old }
     ensures { memory.new ≡ over (over memory.old 1 (channel ∷ [])) 20 (state_octets None None 0 0) }
 {
-    let octet = [channel];
-    octets::put(true, &octet, memory, crate::CHANNEL);
-    let state = laying::state_octets(None, None, 0, 0);
-    octets::put(true, &state, memory, crate::POWER);
+    memory[crate::CHANNEL] = channel;
+    laying::lay_state(None, None, 0, 0, memory);
 }
 
 // An advance. Where it is refused every octet stays.
+#[tactic(auto, using(crate::proofs::Advancing::steps))]
 pub fn advance(memory: &mut [u8], units: u32) -> Result<(), Refusal>
     ensures value { result ≡ answer_of (advanced_in units memory.old) }
     ensures memory_after { memory.new ≡ relaid memory.old (advanced_in units memory.old) }
@@ -40,17 +38,12 @@ pub fn advance(memory: &mut [u8], units: u32) -> Result<(), Refusal>
     }
     let clock = octets::number32(memory, crate::CLOCK);
     let pending = reading::pending_in(memory);
-    let accepted = Ok(());
-    match station::advance_clock(clock, pending, units) {
-        Advanced::Refused => Err(Refusal::PastClock),
-        Advanced::Goes(moment) => {
-            tell(moment, memory);
-            accepted
-        }
+    match station::advance_clock(clock, pending, units)? {
+        Advanced::Goes(moment) => tell(moment, memory),
         Advanced::Switches { moment, channel } => {
             tell(moment, memory);
             switch(channel, memory);
-            accepted
         }
     }
+    Ok(())
 }

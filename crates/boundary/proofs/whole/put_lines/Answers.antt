@@ -1,5 +1,5 @@
 -- `put_lines` meets its contract where nothing is stored: the lines do not fit, or would.
-use Rattle.std.proofs.Common.{ap, arith, false, length, sym, ◌+◌, ◌<◌, ◌≤◌, ◌∙◌}
+use Rattle.std.proofs.Common.{ap, arith, sym, ◌∙◌}
 use Rattle.octets.proofs.Storing.{left_not, room_answer}
 use Rattle.octets.specs.Writing.{left}
 use Rattle.boundary.proofs.Passes.{short_pass}

@@ -1,17 +1,10 @@
 -- `feed` meets its contract: refused where there is no room, else the lines of the block.
-use Rattle.std.proofs.Common.{arith, length, subst, sym}
+use Rattle.std.proofs.Common.{length, subst, sym}
 use Rattle.capture.specs.Feeding.{feed_means, FedWith}
 use Rattle.capture.specs.Lists.{block_told}
 use Rattle.capture.specs.declared.feeding.Listing.{Listing}
-use Rattle.capture.proofs.Fitting.{not_fed, roomy, fed}
+use Rattle.capture.proofs.Fitting.{not_fed, fed}
 use Rattle.capture.proofs.lister.Lister.feed.Goals as goal
-
-pub put_block-requires-clause-blocks_lt_block_limit :
-    goal.put_block-requires-clause-blocks_lt_block_limit
-put_block-requires-clause-blocks_lt_block_limit c =
-    let a = c.args in
-    let r = roomy a.self 1 (block_told a.block.now a.self) a.out.now c.in-Ok.ensures in
-    (omega (arith, r.0), omega (arith, r.1))
 
 pub returns-in-Err-clause-fed_with : goal.returns-in-Err-clause-fed_with
 returns-in-Err-clause-fed_with c =

@@ -7,18 +7,12 @@ use Rattle.capture.specs.Feeding.{feed_means, FedWith}
 use Rattle.capture.specs.Lists.{blocks_in, blocks_told}
 use Rattle.capture.specs.declared.feeding.Listing.{Listing}
 use Rattle.capture.proofs.FedBlocks.{blocks_counted}
-use Rattle.capture.proofs.Fitting.{not_fed, roomy, fed}
+use Rattle.capture.proofs.Fitting.{not_fed, fed}
 use Rattle.capture.proofs.lister.Lister.feed_all.Goals as goal
 
 -- what was asked of the room is asked of as many blocks as there are
 asked : {o : Answer} {n : ℕ} (file : List ℕ) (blocks size : ℕ) → o ≡ room_for blocks n size → n ≡ blocks_of (length file) → o ≡ room_for blocks (length (blocks_in file)) size
 asked file blocks size e counted = e ∙ ap (λ (n : ℕ). room_for blocks n size) (counted ∙ sym (blocks_counted file))
-
-pub put_blocks-requires-clause-blocks_bound : goal.put_blocks-requires-clause-blocks_bound
-put_blocks-requires-clause-blocks_bound c =
-    let a = c.args in
-    let bs = blocks_in a.blocks.now in
-    roomy a.self (length bs) (blocks_told bs a.self) a.out.now (asked a.blocks.now _ _ c.in-Ok.ensures c.count_in.ensures)
 
 pub returns-in-Err-clause-fed_with : goal.returns-in-Err-clause-fed_with
 returns-in-Err-clause-fed_with c =
