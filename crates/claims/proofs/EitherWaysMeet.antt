@@ -18,7 +18,7 @@ use types.Logic.{Logic}
 use contract.Monad.{Fun, fact_i}
 use denote.Triple.Clauses.{at_exit}
 use lib.ListN.{length, drop, length-append, length-drop}
-use Rattle.answer.proofs.Judged.{never, passed, kept, followed}
+use Rattle.answer.proofs.Judged.{passed, kept, followed}
 use Rattle.answer.specs.contracts.Refusal as RefusalRow
 use Rattle.answer.specs.Checks.{Outcome, and_then, answer_of, Answer}
 use Rattle.answer.specs.Faults.{Placed, nowhere, verdict_of}

@@ -1,6 +1,6 @@
 -- Each line of a file's list is what the history of the station that it belongs to says (00, demand 3; 01, "Capture blocks and the evening list").
 -- Assumes nothing.
-use Rattle.std.specs.Prelude.{Ok, Err, Some, None, Option}
+use Rattle.std.specs.Prelude.{Ok, Err, Some, None}
 use mathlib.Core.Bool.{Bool, true, false}
 use mathlib.Core.List.{List, [], ◌∷◌, ◌++◌, append-nil}
 use mathlib.Core.Logic.{inl, inr}
@@ -8,7 +8,7 @@ use mathlib.Core.Path.{◌≡◌, refl, sym, ap, ap₂, ◌∙◌, subst}
 use Prim.Native.Nat.{ℕ, ◌+◌, ◌≤◌}
 use native.Mathlib.Omega.{arith}
 use borrow.Author.Tests.{eqb-false}
-use lib.Dec.{eqb, ltb}
+use lib.Dec.{eqb}
 use lib.ListN.{length, length-append}
 use Rattle.answer.proofs.Booleans.{neither}
 use Rattle.answer.specs.Checks.{Outcome, pick, checked, and_then}
@@ -42,7 +42,6 @@ use Rattle.claims.specs.Records.{record_from, record_after, Agrees}
 use Rattle.claims.proofs.Agreement.{agrees}
 use Rattle.claims.proofs.Asked.{answered_from}
 use Rattle.claims.proofs.ListedFiles.{numbered_append, blocks_counted}
-use Rattle.pending.specs.declared.Switch.{Switch}
 
 -- the lister follows the station of this history, or none
 Matches : Lister → Followed → Type 0

@@ -1,10 +1,9 @@
 -- What a call of a station of an IBSS answers and leaves, by its meaning, and so any calls of a run (02, Five). Assumes nothing.
 use Rattle.std.specs.Prelude.{Ok, Err, Some, None, Option}
-use mathlib.Core.Bool.{Bool, true, false, not}
+use mathlib.Core.Bool.{Bool, true, false}
 use mathlib.Core.List.{List, [], ◌∷◌}
 use mathlib.Core.Path.{◌≡◌, refl, sym, ap, ◌∙◌, subst}
 use Prim.Native.Nat.{ℕ, zero, suc, ◌+◌}
-use native.Mathlib.Omega.{arith}
 use lib.Dec.{leb}
 use Rattle.answer.proofs.Booleans.{clash}
 use Rattle.answer.proofs.Judged.{never}

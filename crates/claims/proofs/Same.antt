@@ -1,6 +1,6 @@
 -- When two values that meet one promise are the same. Assumes nothing.
 use Rattle.std.specs.Prelude.{Ok, Result}
-use mathlib.Core.Path.{◌≡◌, refl, sym, ap, ◌∙◌}
+use mathlib.Core.Path.{◌≡◌, sym, ap, ◌∙◌}
 use mathlib.Core.Bool.{Bool}
 use mathlib.Core.List.{List}
 use Prim.Native.Nat.{ℕ}

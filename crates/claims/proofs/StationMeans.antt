@@ -1,11 +1,10 @@
 -- What a call of document 01's station answers and leaves, by its meaning, and so any calls of a run. Assumes nothing.
-use Rattle.std.specs.Prelude.{Ok, Err}
+use Rattle.std.specs.Prelude.{Ok}
 use mathlib.Core.List.{List, [], ◌∷◌}
 use mathlib.Core.Path.{◌≡◌, refl, sym, ap, ◌∙◌, subst}
 use Prim.Native.Nat.{ℕ}
-use native.Mathlib.Omega.{arith}
 use Rattle.answer.proofs.Judged.{passed, kept}
-use Rattle.answer.specs.Checks.{Outcome, Answer}
+use Rattle.answer.specs.Checks.{Answer}
 use Rattle.answer.specs.Faults.{Placed, Verdict}
 use Rattle.capture_record.specs.declared.entry.Settings.{Settings}
 use Rattle.frame.proofs.Allowing.{read_allowed}

@@ -1,7 +1,7 @@
 -- A station that starts from numbers and octets fits the types that the code has for it, and an advance of the clock and an accepted frame keep it so.
 -- Assumes nothing.
 use Rattle.std.specs.Prelude.{Ok, Some, None, Option}
-use mathlib.Core.Bool.{Bool, true, false, ◌||◌}
+use mathlib.Core.Bool.{Bool, true, false}
 use mathlib.Core.List.{List, []}
 use mathlib.Core.Path.{◌≡◌, refl, sym, subst}
 use Prim.Native.Nat.{ℕ, ◌+◌, ◌-◌, ◌<◌, ◌≤◌, ◌^◌}
@@ -12,7 +12,7 @@ use lib.ListN.{length, take, replicate}
 use lib.Seq.{take_at}
 use Rattle.answer.proofs.Booleans.{neither}
 use Rattle.answer.proofs.Judged.{passed as passed_check, kept}
-use Rattle.answer.proofs.Yielding.{Yields, of_refusal, of_value, after_check, after_all, after_value}
+use Rattle.answer.proofs.Yielding.{of_value, after_check, after_all, after_value}
 use Rattle.answer.specs.Checks.{pick}
 use Rattle.beacon.specs.Beacons.{quiet_limit, Told, tells}
 use Rattle.element.specs.declared.channel_switch.ChannelSwitch.{ChannelSwitch}

@@ -8,7 +8,7 @@ use Prim.Native.Nat.{ℕ, ◌≤◌}
 use borrow.Author.Tests.{le-ltb}
 use lib.Dec.{eqb}
 use Rattle.answer.proofs.Booleans.{either}
-use Rattle.answer.specs.Checks.{Outcome, pick, and_then, checked, answer_of, Answer}
+use Rattle.answer.specs.Checks.{Outcome, pick, and_then, checked, answer_of}
 use Rattle.answer.specs.Faults.{Placed, fault_nowhere, nowhere, placed_past, verdict_of}
 use Rattle.answer.specs.declared.Refusal.{Refusal}
 use Rattle.channel.specs.Centres.{highest}

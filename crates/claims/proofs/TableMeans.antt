@@ -4,7 +4,6 @@ use mathlib.Core.Bool.{Bool, true, false, ◌||◌}
 use mathlib.Core.List.{List, [], ◌∷◌}
 use mathlib.Core.Path.{◌≡◌, refl, sym, ap, ap₂, ◌∙◌, subst}
 use Prim.Native.Nat.{ℕ, ◌+◌}
-use native.Mathlib.Omega.{arith}
 use lib.Dec.{ltb}
 use Rattle.answer.proofs.Judged.{passed, kept}
 use Rattle.answer.specs.Checks.{Outcome, pick, Check, checked, and_then, Answer}
@@ -14,12 +13,11 @@ use Rattle.frame.specs.Frames.{Sent, frame_means}
 use Rattle.octets.specs.Writing.{wrote}
 use Rattle.reply.specs.Replies.{left_by, Replied}
 use Rattle.station.specs.Stations.{unit_limit, clock_limit}
-use Rattle.station.specs.declared.asking.Permission.{Permission}
 use Rattle.row.specs.Rows.{is_of}
 use Rattle.table.proofs.Outcomes.{join_forbidden, join_seats, join_valid, tick_refused, tick_accepted, take_valid}
 use Rattle.table.proofs.StaysValid.{valid_left}
 use Rattle.table.specs.Replies.{tpc_reply_of, measurement_reply_of}
-use Rattle.table.specs.Tables.{with_rows, heard_rows, stepped, empty, start_forbids, start_means, join_forbids, join_means, join_of, leave_means, leave_of, ticked_table, tick_means, tick_of, reader_of, take_means, taken, take_of, ask_means}
+use Rattle.table.specs.Tables.{with_rows, heard_rows, stepped, empty, start_means, join_forbids, join_means, join_of, leave_means, leave_of, ticked_table, tick_means, tick_of, reader_of, take_means, taken, take_of, ask_means}
 use Rattle.table.specs.Validity.{ValidTable}
 use Rattle.table.specs.declared.Stepped.{Stepped}
 use Rattle.table.specs.declared.Table.{Table}

@@ -1,5 +1,5 @@
 -- A call for the station of an address does to it, and answers, what document 01's station does and answers; any other call leaves it. Assumes nothing.
-use Rattle.std.specs.Prelude.{Ok, Err, Some, None, Option}
+use Rattle.std.specs.Prelude.{Ok, Err}
 use mathlib.Core.Bool.{Bool, true, false, ◌||◌}
 use mathlib.Core.List.{List, map}
 use mathlib.Core.Logic.{⊎_elim}
@@ -8,7 +8,7 @@ use Prim.Native.Nat.{ℕ, ◌+◌}
 use lib.Dec.{ltb}
 use Rattle.answer.proofs.Booleans.{clash, either, both, neither, or_go, or_stop}
 use Rattle.answer.proofs.Judged.{past, stop}
-use Rattle.answer.specs.Checks.{Outcome, pick, checked, and_then, Answer}
+use Rattle.answer.specs.Checks.{Outcome, pick, checked, and_then}
 use Rattle.answer.specs.Faults.{Placed}
 use Rattle.answer.specs.declared.Refusal.{Refusal}
 use Rattle.frame.specs.Frames.{Kind, Sent, frame_means}
@@ -22,7 +22,6 @@ use Rattle.station.specs.Clock.{stepped as station_stepped, reached, clock_advan
 use Rattle.station.specs.Stations.{unit_limit, clock_limit}
 use Rattle.station.specs.Taking.{heard, taken as station_taken, take_means as station_takes, take_of as station_take}
 use Rattle.station.specs.declared.Station.{Station}
-use Rattle.station.specs.declared.clock.Advanced.{Advanced}
 use Rattle.station.specs.declared.clock.Stepped.{Stepped}
 use Rattle.station.specs.declared.taking.Taken.{Taken}
 use Rattle.table.proofs.Neighbours.{step_found, every_steps, own_steps, other_leaves, of_another, free_of_none, found_some, found_such}
@@ -36,7 +35,6 @@ use Rattle.table.specs.declared.taking.Taken.{Taken as TableTaken}
 use Rattle.claims.specs.TableHistories.{concerns, Leaves}
 use Rattle.claims.specs.TableRuns.{TableCall, join, leave, tick, take, question, tpc, measurement, TableAnswer, answered, judged, asked}
 use Rattle.claims.proofs.TableMeans.{replied_with, table_answers, table_after, far, through_checks}
-use Rattle.pending.specs.declared.Switch.{Switch}
 
 -- ---- what document 01's station does and answers
 

@@ -1,15 +1,14 @@
 -- After a start that is not forbidden any calls of a table can be made (02, Six). Assumes nothing.
-use Rattle.std.specs.Prelude.{Ok, Err, IfOk}
+use Rattle.std.specs.Prelude.{Ok, IfOk}
 use mathlib.Core.Bool.{true, false}
 use mathlib.Core.List.{List, []}
-use mathlib.Core.Path.{◌≡◌, refl, sym, ap, subst}
+use mathlib.Core.Path.{◌≡◌, refl, sym, subst}
 use Prim.Native.Nat.{ℕ}
 use borrow.Fn.Kinds.{ended_of}
 use denote.Triple.Clauses.{at_exit}
 use Rattle.answer.specs.Checks.{Outcome, checked, and_then}
 use Rattle.octets.specs.Writing.{wrote}
 use Rattle.reply.specs.Replies.{left_by, Replied}
-use Rattle.station.specs.declared.asking.Permission.{Permission}
 use Rattle.table.proofs.StaysValid.{valid_empty}
 use Rattle.table.proofs.Table.ask as Ask
 use Rattle.table.proofs.Table.join as Join

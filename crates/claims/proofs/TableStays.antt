@@ -10,7 +10,7 @@ use native.Mathlib.Omega.{arith}
 use borrow.Author.Tests.{not-false}
 use Rattle.answer.proofs.Booleans.{either}
 use Rattle.answer.proofs.Judged.{passed, kept}
-use Rattle.answer.specs.Checks.{Outcome, pick, Answer}
+use Rattle.answer.specs.Checks.{Outcome, pick}
 use Rattle.row.specs.Rows.{seated, is_free}
 use Rattle.station.specs.Stations.{fresh, with_clock}
 use Rattle.station.specs.declared.Station.{Station}
