@@ -1,4 +1,4 @@
--- Each promise of the frame layer leaves one outcome: the walk, headers, beacons, action bodies, measurement bodies and frames.
+-- Each promise of the frame layer leaves one outcome: headers, beacons, action bodies, measurement bodies and frames.
 -- Assumes nothing.
 use mathlib.Core.Path.{◌≡◌}
 use borrow.Fn.Kinds.{Dens, res_t, ended_of}

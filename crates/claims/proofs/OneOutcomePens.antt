@@ -11,6 +11,7 @@ use Rattle.pen.proofs.InNumeral.{placed_digits}
 use Rattle.pen.proofs.begin as Begin
 use Rattle.pen.proofs.put_accepted as PutAccepted
 use Rattle.pen.proofs.put_told as PutTold
+use Rattle.pen.proofs.words.Word.letters as WordLetters
 use Rattle.pen.specs.Numerals.{Spells}
 use Rattle.pen.specs.Penning.{Penned}
 use Rattle.pen.specs.declared.Pen.{Pen}
@@ -33,6 +34,11 @@ penned_once {x} {y} {d} {e} p q = (
       (once p.many q.many),
   once p.leaves q.leaves,
 )
+
+-- the letters of a word are lent: they are the same
+pub word_letters : (κs : Lfts 1) (a : Dens κs WordLetters.Kinds.ps) (e f : AtExit (ended_of 1 WordLetters.Kinds.ps WordLetters.Kinds.r) κs) (x y : (res_t WordLetters.Kinds.r κs).Denot)
+    → WordLetters.Reads.Post κs a x e → WordLetters.Reads.Post κs a y f → x.now ≡ y.now
+word_letters κs a e f x y p q = once p q
 
 pub pen_begin : OneOutcome 1 Begin.Kinds.ps Begin.Kinds.r Begin.Reads.Post (λ κs e. e.1.0.now)
 pen_begin κs a e f x y p q = (same_pen (once p.0 q.0) (one_place p.2 q.2) (once p.1 q.1), once p.3 q.3)
