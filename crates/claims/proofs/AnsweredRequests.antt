@@ -103,14 +103,10 @@ refusing_possible clock q measures = by q.matter refl measures
 
 -- ---- into a buffer that is long enough
 
-told_length : (w : Outcome ℕ) (n : ℕ) → w ≡ Ok n → w ≡ Ok n
-told_length (Err r) n e = absurd (never e)
-told_length (Ok m) n e = ap Ok (let same : m ≡ n = cc in same)
-
 put_in_front : {o : Outcome (List ℕ)} {os buffer exit : List ℕ} {answer : Outcome ℕ} → Replied o buffer answer exit → o ≡ Ok os → length os ≤ length buffer
     → (answer ≡ Ok (length os)) × (exit ≡ filled os buffer)
 put_in_front {os = os} {buffer = buffer} {answer = answer} w e h = (
-  told_length answer (length os) (w.answers ∙ ap (λ (x : Outcome (List ℕ)). and_then x (λ xs. wrote true xs 0 buffer)) e ∙ room_answer os 0 buffer (omega arith)),
+  w.answers ∙ ap (λ (x : Outcome (List ℕ)). and_then x (λ xs. wrote true xs 0 buffer)) e ∙ room_answer os 0 buffer (omega arith),
   w.leaves ∙ ap (λ (x : Outcome (List ℕ)). left_by x buffer) e ∙ front_left os buffer h,
 )
 
