@@ -2,46 +2,24 @@
 use Rattle.std.specs.Prelude.{Result, Ok, Err, IfOk}
 use mathlib.Core.List.{List, [], ◌++◌}
 use mathlib.Core.Logic.{◌⊎◌}
-use mathlib.Core.Path.{◌≡◌, refl, sym, ap, subst, ◌∙◌}
-use Prim.Native.Nat.{ℕ, ◌%◌, ◌≤◌}
+use mathlib.Core.Path.{◌≡◌, refl, sym, ap, ◌∙◌}
+use Prim.Native.Nat.{ℕ, ◌%◌}
 use native.Mathlib.Omega.{arith}
 use lib.ListN.{length, length-append}
 use Rattle.answer.specs.Checks.{Outcome}
-use Rattle.answer.specs.declared.Refusal.{Refusal}
 use Rattle.block.specs.Blocks.{block_size}
 use Rattle.capture.proofs.Cutting.{cut_at_block}
 use Rattle.capture.proofs.FedBlocks.{told_after}
-use Rattle.capture.proofs.Fitting.{has_lines, fed_is}
-use Rattle.octets.proofs.Storing.{filled_inside}
-use Rattle.capture.specs.Feeding.{listing_of, FedWith}
+use Rattle.capture.proofs.Fitting.{fed_is}
 use Rattle.capture.specs.Listers.{fresh}
 use Rattle.capture.specs.Lists.{Told, blocks_after, blocks_in, blocks_told, file_told}
-use Rattle.capture.specs.declared.feeding.Listing.{Listing}
 use Rattle.capture.specs.declared.lister.Lister.{Lister}
 use Rattle.list.specs.Program.{fed, ListedAs, PieceListed, LeftByFile}
 use Rattle.list.specs.declared.output.Cut.{Cut}
 
 -- ---- a piece
 
-module _ {o : Outcome Told} {l : Lister} {out exit : List ℕ} {x : Listing} (f : FedWith o l out x exit) where
-  -- its lines lie in the buffer
-  pub inside : {n : ℕ} → x.wrote ≡ Ok n → length exit ≡ length out → n ≤ length exit
-  inside e same = let w = has_lines f e in omega (arith, w.2, filled_inside w.0.text out exit w.4 same)
-
-  -- it was listed and written, or listed alone, or not listed
-  pub written : {n : ℕ} → x.wrote ≡ Ok n → ListedAs o (Ok x.lister)
-  written e = let w = has_lines f e in subst (λ (p : Outcome Told). ListedAs p (Ok x.lister)) (sym w.1) (◌⊎◌.inl (ap (λ (m : Lister). Ok m) w.3))
-
-  pub unwritten : {n : ℕ} → x.wrote ≡ Ok n → ListedAs o (Err Cut.WriteFailed)
-  unwritten e = let w = has_lines f e in subst (λ (p : Outcome Told). ListedAs p (Err Cut.WriteFailed)) (sym w.1) (◌⊎◌.inr refl)
-
-  pub unlisted : {r : Refusal} → x.wrote ≡ Err r → ListedAs o (Err Cut.TooLong)
-  unlisted {r} e = by o f.answers
-    where
-      by : (p : Outcome Told) → x ≡ listing_of l p → ListedAs p (Err Cut.TooLong)
-      by (Err q) a = refl
-      by (Ok t) a = let g : Err r ≡ Ok (length t.text) = sym e ∙ ap (λ (y : Listing). y.wrote) a in absurd (let z : ◌≡◌ {A = ℕ} 0 1 = cc in omega arith)
-
+-- one that was listed and written leaves the lister that it tells
 listed : {q : Lister} (o : Outcome Told) → ListedAs o (Ok q) → (t : Told) × (o ≡ Ok t) × (q ≡ t.lister)
 listed (Err r) e = absurd (let z : ◌≡◌ {A = ℕ} 0 1 = cc in omega arith)
 listed (Ok t) (◌⊎◌.inl e) = (t, refl, cc)
