@@ -7,7 +7,7 @@ use Rattle.capture.specs.Feeding.{feed_means, filled_by}
 use Rattle.capture.specs.Listers.{Fits}
 use Rattle.capture.specs.Lists.{Told, blocks_in, blocks_told, file_told}
 use Rattle.capture.specs.declared.lister.Lister.{Lister}
-use Rattle.list.specs.declared.Turn.{Turn}
+use Rattle.list.specs.declared.Listed.{Listed}
 use Rattle.list.specs.declared.input.Filled.{Filled}
 use Rattle.list.specs.declared.output.Cut.{Cut}
 
@@ -41,13 +41,13 @@ PieceOf (Filled.Failed k) n size = (n ≤ k) × (n ≤ size) × (n % block_size 
 -- ---- one turn: what was read is in the input buffer, and its first octets are the piece that was listed
 
 -- how the listing stands after it: a list whose input could not be read is cut after its last whole block
-abbrev pub turned_by : Filled → Result Lister Cut → Result Turn Cut
+abbrev pub turned_by : Filled → Result Lister Cut → Result Listed Cut
 turned_by filled (Err c) = Err c
-turned_by Filled.Full (Ok l) = Ok (Turn.More l)
-turned_by (Filled.Ended n) (Ok l) = Ok (Turn.Last l)
+turned_by Filled.Full (Ok l) = Ok (Listed.More l)
+turned_by (Filled.Ended n) (Ok l) = Ok (Listed.Last l)
 turned_by (Filled.Failed n) (Ok l) = Err Cut.ReadFailed
 
-pub record Turned (l : Lister) (input out : List ℕ) (result : Result Turn Cut) (exit : List ℕ) : Type 0 where
+pub record Turned (l : Lister) (input out : List ℕ) (result : Result Listed Cut) (exit : List ℕ) : Type 0 where
   pub filled : Filled
   pub count : ℕ
   pub cut : PieceOf filled count (length input)
@@ -56,10 +56,10 @@ pub record Turned (l : Lister) (input out : List ℕ) (result : Result Turn Cut)
   pub stands : result ≡ turned_by filled after
 
 -- the lister after it may be handed on
-abbrev pub TurnFits : Result Turn Cut → Type 0
+abbrev pub TurnFits : Result Listed Cut → Type 0
 TurnFits (Err c) = Unit {0}
-TurnFits (Ok (Turn.More l)) = Fits l
-TurnFits (Ok (Turn.Last l)) = Fits l
+TurnFits (Ok (Listed.More l)) = Fits l
+TurnFits (Ok (Listed.Last l)) = Fits l
 
 -- ---- all turns
 

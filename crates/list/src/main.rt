@@ -25,7 +25,7 @@ const OUTPUT: usize = BLOCKS * Lister::ROOM;
 
 // Where the listing stands after a buffer that was listed: there is more of the input, or it has ended.
 #[derive(Clone, Copy)]
-enum Turn {
+enum Listed {
     More(Lister),
     Last(Lister),
 }
@@ -49,7 +49,7 @@ fn turn<R: Read, W: Write>(
     lister: Lister,
     input: &mut [u8],
     out: &mut [u8],
-) -> Result<Turn, Cut>
+) -> Result<Listed, Cut>
     requires { Fits lister }
     ensures turned { Turned lister input.new out.old result out.new }
     ensures fits { TurnFits result }
@@ -59,8 +59,8 @@ fn turn<R: Read, W: Write>(
     let count = piece_of(filled, input.len());
     let next = output::list_blocks(to, lister, &input[..count], out)?;
     match filled {
-        Filled::Full => Ok(Turn::More(next)),
-        Filled::Ended(_) => Ok(Turn::Last(next)),
+        Filled::Full => Ok(Listed::More(next)),
+        Filled::Ended(_) => Ok(Listed::Last(next)),
         Filled::Failed(_) => Err(Cut::ReadFailed),
     }
 }
@@ -79,8 +79,8 @@ fn list_all<R: Read, W: Write>(
     let mut lister = Lister::fresh();
     'turns: for _ in 0..Lister::BLOCK_LIMIT {
         match turn(from, to, lister, input, out)? {
-            Turn::More(next) => lister = next,
-            Turn::Last(last) => return Ok(last),
+            Listed::More(next) => lister = next,
+            Listed::Last(last) => return Ok(last),
         }
     }
     Err(Cut::TooLong)
