@@ -1,11 +1,11 @@
 -- Pieces of a file, listed one after the other. Assumes nothing.
-use Rattle.std.specs.Prelude.{Result, Ok, Err, IfOk}
+use Rattle.std.specs.Prelude.{Result, Ok, Err}
 use mathlib.Core.List.{List, [], ◌++◌}
 use mathlib.Core.Logic.{◌⊎◌}
-use mathlib.Core.Path.{◌≡◌, refl, sym, ap, ◌∙◌}
+use mathlib.Core.Path.{◌≡◌, refl, sym, ap, subst, ◌∙◌}
 use Prim.Native.Nat.{ℕ, ◌%◌}
 use native.Mathlib.Omega.{arith}
-use lib.ListN.{length, length-append}
+use lib.ListN.{length, length-append, take}
 use Rattle.answer.specs.Checks.{Outcome}
 use Rattle.block.specs.Blocks.{block_size}
 use Rattle.capture.proofs.Cutting.{cut_at_block}
@@ -14,7 +14,10 @@ use Rattle.capture.proofs.Fitting.{fed_is}
 use Rattle.capture.specs.Listers.{fresh}
 use Rattle.capture.specs.Lists.{Told, blocks_after, blocks_in, blocks_told, file_told}
 use Rattle.capture.specs.declared.lister.Lister.{Lister}
-use Rattle.list.specs.Program.{fed, ListedAs, PieceListed, LeftByFile}
+use Rattle.list.specs.Program.{fed, ListedAs, PieceListed, PieceOf, turned_by, Turned, LeftByFile}
+use Rattle.list.specs.declared.Listed.{Listed}
+use Rattle.list.specs.declared.input.Filled.{Filled}
+use Rattle.std.proofs.Common.{length-take-le}
 use Rattle.list.specs.declared.output.Cut.{Cut}
 
 -- ---- a piece
@@ -51,6 +54,30 @@ module _ {l next : Lister} {out exit : List ℕ} (piece : List ℕ) (r : Reached
   pub whole_more : length piece % block_size ≡ 0 → Reached next
   whole_more whole = record { file = r.file ++ piece; same = one_more; cut = omega (arith, length-append r.file piece, r.cut, whole) }
 
-pub left_by : {l : Lister} {out exit : List ℕ} (piece : List ℕ) (o : Result Lister Cut) → Reached l → PieceListed l piece out o exit → IfOk o LeftByFile
-left_by piece (Ok next) r p = (r.file ++ piece, one_more piece r p)
-left_by piece (Err e) r p = tt
+left_by : {l next : Lister} {out exit : List ℕ} (piece : List ℕ) → Reached l → PieceListed l piece out (Ok next) exit → LeftByFile next
+left_by piece r p = (r.file ++ piece, one_more piece r p)
+
+-- ---- a turn
+
+module _ {l : Lister} {input out exit : List ℕ} {result : Result Listed Cut} (r : Reached l) (t : Turned l input out result exit) where
+  -- the last one leaves what the file leaves
+  pub last_turn : {last : Lister} → result ≡ Ok (Listed.Last last) → LeftByFile last
+  last_turn {last} e = by t.filled t.after t.listed t.stands
+    where
+      by : (f : Filled) (o : Result Lister Cut) → PieceListed l (take t.count input) out o exit → result ≡ turned_by f o → LeftByFile last
+      by f (Err c) p g = absurd (let z : ◌≡◌ {A = ℕ} 0 1 = cc in omega arith)
+      by Filled.Full (Ok m) p g = absurd (let z : ◌≡◌ {A = ℕ} 0 1 = cc in omega arith)
+      by (Filled.Ended n) (Ok m) p g = let same : m ≡ last = cc in subst LeftByFile same (left_by (take t.count input) r p)
+      by (Filled.Failed n) (Ok m) p g = absurd (let z : ◌≡◌ {A = ℕ} 0 1 = cc in omega arith)
+
+  -- one before it has listed the whole buffer
+  pub one_turn : {next : Lister} → result ≡ Ok (Listed.More next) → length input % block_size ≡ 0 → Reached next
+  one_turn {next} e whole = by t.filled t.after t.listed t.stands t.cut
+    where
+      by : (f : Filled) (o : Result Lister Cut) → PieceListed l (take t.count input) out o exit → result ≡ turned_by f o → PieceOf f t.count (length input) → Reached next
+      by f (Err c) p g k = absurd (let z : ◌≡◌ {A = ℕ} 0 1 = cc in omega arith)
+      by Filled.Full (Ok m) p g k =
+          let same : m ≡ next = cc in
+          subst Reached same (whole_more (take t.count input) r p (ap (λ (n : ℕ). n % block_size) (length-take-le t.count input (omega (arith, k)) ∙ k) ∙ whole))
+      by (Filled.Ended n) (Ok m) p g k = absurd (let z : ◌≡◌ {A = ℕ} 0 1 = cc in omega arith)
+      by (Filled.Failed n) (Ok m) p g k = absurd (let z : ◌≡◌ {A = ℕ} 0 1 = cc in omega arith)

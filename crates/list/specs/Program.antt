@@ -1,10 +1,13 @@
 -- The program (01, "Capture blocks and the evening list"): the file is read piece by piece, each piece is listed into a buffer, and what stands there is written. What is
 -- read and written no contract can say, so these are promises about the buffers and the lister.
-use Rattle.std.specs.Prelude.{List, ◌⊎◌, ◌≡◌, ℕ, ◌<◌, ◌≤◌, length, Result, Ok, Err}
+use Rattle.std.specs.Prelude.{List, ◌⊎◌, ◌≡◌, ℕ, ◌%◌, ◌<◌, ◌≤◌, length, take, Result, Ok, Err}
 use Rattle.answer.specs.Checks.{Outcome}
+use Rattle.block.specs.Blocks.{block_size}
 use Rattle.capture.specs.Feeding.{feed_means, filled_by}
+use Rattle.capture.specs.Listers.{Fits}
 use Rattle.capture.specs.Lists.{Told, blocks_in, blocks_told, file_told}
 use Rattle.capture.specs.declared.lister.Lister.{Lister}
+use Rattle.list.specs.declared.Listed.{Listed}
 use Rattle.list.specs.declared.input.Filled.{Filled}
 use Rattle.list.specs.declared.output.Cut.{Cut}
 
@@ -29,7 +32,36 @@ pub record PieceListed (l : Lister) (piece out : List ℕ) (result : Result List
   pub lines : exit ≡ filled_by (fed l piece (length out)) out
   pub stands : ListedAs (fed l piece (length out)) result
 
--- ---- all pieces
+-- a full buffer is a piece, and so is what the input ends with; after a read error only whole blocks are
+abbrev pub PieceOf : Filled → ℕ → ℕ → Type 0
+PieceOf Filled.Full n size = n ≡ size
+PieceOf (Filled.Ended k) n size = (n ≡ k) × (n < size)
+PieceOf (Filled.Failed k) n size = (n ≤ k) × (n ≤ size) × (n % block_size ≡ 0)
+
+-- ---- one turn: what was read is in the input buffer, and its first octets are the piece that was listed
+
+-- how the listing stands after it: a list whose input could not be read is cut after its last whole block
+abbrev pub turned_by : Filled → Result Lister Cut → Result Listed Cut
+turned_by filled (Err c) = Err c
+turned_by Filled.Full (Ok l) = Ok (Listed.More l)
+turned_by (Filled.Ended n) (Ok l) = Ok (Listed.Last l)
+turned_by (Filled.Failed n) (Ok l) = Err Cut.ReadFailed
+
+pub record Turned (l : Lister) (input out : List ℕ) (result : Result Listed Cut) (exit : List ℕ) : Type 0 where
+  pub filled : Filled
+  pub count : ℕ
+  pub cut : PieceOf filled count (length input)
+  pub after : Result Lister Cut
+  pub listed : PieceListed l (take count input) out after exit
+  pub stands : result ≡ turned_by filled after
+
+-- the lister after it may be handed on
+abbrev pub TurnFits : Result Listed Cut → Type 0
+TurnFits (Err c) = Unit {0}
+TurnFits (Ok (Listed.More l)) = Fits l
+TurnFits (Ok (Listed.Last l)) = Fits l
+
+-- ---- all turns
 
 -- the lister is one that some file leaves
 abbrev pub LeftByFile : Lister → Type 0

@@ -7,7 +7,8 @@ mod output;
 
 ghost use Rattle.std.specs.Prelude.{length, ◌%◌, ◌≡◌, IfOk};
 ghost use Rattle.block.specs.Blocks.{block_size};
-ghost use Rattle.list.specs.Program.{LeftByFile};
+ghost use Rattle.capture.specs.Listers.{Fits};
+ghost use Rattle.list.specs.Program.{Within, PieceOf, Turned, TurnFits, LeftByFile};
 
 use capture::Lister;
 use input::Filled;
@@ -22,8 +23,50 @@ const INPUT: usize = BLOCKS * block::SIZE;
 
 const OUTPUT: usize = BLOCKS * Lister::ROOM;
 
-// Buffer after buffer, until the input has ended. Where a read failed, a block that is cut there is not the file's short last one, so only whole blocks
-// are listed. A proved loop has to end, and nothing says that the input does: each turn but the last lists a block, of which there are not so many.
+// Where the listing stands after a buffer that was listed: there is more of the input, or it has ended.
+#[derive(Clone, Copy)]
+enum Listed {
+    More(Lister),
+    Last(Lister),
+}
+
+// How many octets of a buffer are listed. Where a read failed, a block that is cut there is not the file's short last one, so only whole blocks are.
+fn piece_of(filled: Filled, size: usize) -> usize
+    requires { Within filled size }
+    ensures { PieceOf filled result size }
+{
+    match filled {
+        Filled::Full => size,
+        Filled::Ended(count) => count,
+        Filled::Failed(count) => count - count % block::SIZE,
+    }
+}
+
+// Reads a buffer of octets, and lists its blocks.
+fn turn<R: Read, W: Write>(
+    from: &mut R,
+    to: &mut W,
+    lister: Lister,
+    input: &mut [u8],
+    out: &mut [u8],
+) -> Result<Listed, Cut>
+    requires { Fits lister }
+    ensures turned { Turned lister input.new out.old result out.new }
+    ensures fits { TurnFits result }
+    ensures len { length input.new ≡ length input.old }
+{
+    let filled = input::fill(from, input);
+    let count = piece_of(filled, input.len());
+    let next = output::list_blocks(to, lister, &input[..count], out)?;
+    match filled {
+        Filled::Full => Ok(Listed::More(next)),
+        Filled::Ended(_) => Ok(Listed::Last(next)),
+        Filled::Failed(_) => Err(Cut::ReadFailed),
+    }
+}
+
+// Turn after turn, until the input has ended. A proved loop has to end, and nothing says that the input does: each turn but the last lists a block, of which
+// there are not so many.
 fn list_all<R: Read, W: Write>(
     from: &mut R,
     to: &mut W,
@@ -35,16 +78,9 @@ fn list_all<R: Read, W: Write>(
 {
     let mut lister = Lister::fresh();
     'turns: for _ in 0..Lister::BLOCK_LIMIT {
-        match input::fill(from, input) {
-            Filled::Full => lister = output::list_blocks(to, lister, input, out)?,
-            Filled::Ended(count) => {
-                return output::list_blocks(to, lister, &input[..count], out);
-            }
-            Filled::Failed(count) => {
-                let whole = count - count % block::SIZE;
-                output::list_blocks(to, lister, &input[..whole], out)?;
-                return Err(Cut::ReadFailed);
-            }
+        match turn(from, to, lister, input, out)? {
+            Listed::More(next) => lister = next,
+            Listed::Last(last) => return Ok(last),
         }
     }
     Err(Cut::TooLong)

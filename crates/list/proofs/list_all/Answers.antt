@@ -1,7 +1,10 @@
 -- Turn after turn the lister is one that some file leaves.
-use Rattle.std.proofs.Common.{rules, length, ◌%◌, ◌≡◌, ℕ, ap, ◌∙◌}
+use Rattle.std.proofs.Common.{◌%◌, ℕ, ap, ◌∙◌}
+use Rattle.std.specs.Prelude.{Ok}
+use Rattle.std.proofs.Common.{subst}
+use Rattle.list.specs.Program.{TurnFits}
 use Rattle.block.specs.Blocks.{block_size}
-use Rattle.list.proofs.Pieces.{none_listed, whole_more, left_by}
+use Rattle.list.proofs.Pieces.{none_listed, last_turn, one_turn}
 use Rattle.list.proofs.list_all.Goals as goal
 
 pub turns-init : goal.turns-init
@@ -11,17 +14,15 @@ turns-init g c = record {
   whole = c.requires;
 }
 
-pub returns-in-Ended : goal.returns-in-Ended
-returns-in-Ended g c = left_by _ _ c.turns.invariant.reached c.list_blocks-in-Ended.ensures.piece_listed
+pub returns-in-Last : goal.returns-in-Last
+returns-in-Last g c = last_turn c.turns.invariant.reached c.in_ok-next.ensures.turned (ap Ok c.in-Last.is)
 
 pub turns-preserved : goal.turns-preserved
 turns-preserved g c =
     let i = c.turns.invariant in
-    let listed = c.in_ok-lister-in-Full.ensures in
-    let same : length c.fill.new.buffer ≡ length c.turns.input = search rules in
-    let whole = ap (λ (n : ℕ). n % block_size) same ∙ i.whole in
+    let whole = ap (λ (n : ℕ). n % block_size) c.turn.ensures.len ∙ i.whole in
     record {
-      reached = whole_more _ i.reached listed.piece_listed whole;
-      fits = listed.fits;
+      reached = one_turn i.reached c.in_ok-next.ensures.turned (ap Ok c.in-More.is) whole;
+      fits = subst TurnFits (ap Ok c.in-More.is) c.in_ok-next.ensures.fits;
       whole = whole;
     }
