@@ -1,6 +1,6 @@
 -- Each due request has a reply, and a buffer that is long enough takes it (01, "Replies"): every TPC Request, whatever the report, and every element of a
 -- Measurement Request but Enable elements, whatever the clock. Assumes nothing.
-use Rattle.std.specs.Prelude.{Ok, Err}
+use Rattle.std.specs.Prelude.{Ok}
 use mathlib.Core.Bool.{Bool, true, false}
 use mathlib.Core.List.{List}
 use mathlib.Core.Logic.{◌⊎◌, inl, inr}
@@ -11,7 +11,6 @@ use borrow.Author.Tests.{lt-ltb}
 use lib.Dec.{eqb}
 use lib.ListN.{length, length-append}
 use Rattle.answer.proofs.Booleans.{neither}
-use Rattle.answer.proofs.Judged.{never}
 use Rattle.answer.specs.Checks.{Outcome, checked, and_then}
 use Rattle.element.specs.TpcReport.{tpc_report_octets}
 use Rattle.element.specs.declared.tpc_report.TpcReport.{TpcReport}
