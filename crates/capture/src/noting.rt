@@ -22,7 +22,7 @@ pub struct Answered {
 }
 
 // A malformed record: there is no station after it.
-pub fn malformed(lister: Lister) -> Answered
+fn malformed(lister: Lister) -> Answered
     ensures result_value { line_for result ≡ bad_record lister }
     ensures follows { Follows lister result.lister }
 {
