@@ -65,6 +65,7 @@ pub enum Refusal {
 
 impl Refusal {
     // The refusal's number in the table.
+    // Kept as a match: the edit `other_and_left_over_exchanged`, which must fail, exchanges two of its lines.
     pub fn number(self) -> u8
         ensures { result ≡ number_of self }
     {

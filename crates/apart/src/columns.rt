@@ -10,7 +10,7 @@ use element::quiet::Quiet;
 use schedule::Schedule;
 use station::Station;
 
-// A row is a schedule, and every slot of a station has its row.
+// A row is a schedule, and every slot of a station has its row. Kept as columns: the edit `period_for_start`, which must fail, needs a column of starts.
 #[derive(Clone, Copy)]
 pub struct Columns {
     pub starts: [u64; QUIETS],

@@ -58,6 +58,7 @@ pub struct HeardDfs {
 
 // The notice, and the Quiet elements beside it: the first `count` slots in the order of the frame, the others blank.
 // Element 41 is read where it is asked for, and else skipped.
+// Kept as an array and a count, here and where it is handed on: there is no heap.
 #[derive(Clone, Copy)]
 pub struct Heard {
     pub notice: Notice,

@@ -75,6 +75,7 @@ pub fn of_frame(frame: Frame) -> Fields
 }
 
 // What may be absent: 1 and its contents where it is there, and zeros where it is not, as a Power Constraint (`beacon::held_power`).
+// Kept beside one another: each has its own number of octets, and one over a trait would be longer than these.
 fn held_report(report: Option<TpcReport>) -> [u8; 3]
     ensures { result ≡ held_report report }
 {

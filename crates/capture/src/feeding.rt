@@ -12,6 +12,7 @@ use crate::{Lister, listing};
 use answer::Refusal;
 
 // How many octets of the buffer are lines, or why there are none, and the lister after them: the same as before where there are none.
+// Kept beside one another: a refused call gives the lister back, and `FedWith` promises which.
 #[derive(Clone, Copy)]
 pub struct Listing {
     pub wrote: Result<usize, Refusal>,

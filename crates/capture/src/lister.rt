@@ -7,6 +7,7 @@ ghost use Rattle.capture.specs.Lists.{closing_for};
 use pen::Text;
 use station::Station;
 
+// Kept: `Fits` and `Sound` stand in the contracts, as `Valid` does for a station: the fields are public.
 #[derive(Clone, Copy)]
 pub struct Lister {
     // Lines so far, blocks, and damaged blocks among them.

@@ -14,6 +14,7 @@ use pen::Word;
 use station::Station;
 
 // The lister before the line that tells this word and this answer.
+// Kept beside one another: after a refused record the lister is another than before, so it is no value of an accepted one alone.
 #[derive(Clone, Copy)]
 pub struct Answered {
     pub lister: Lister,

@@ -22,6 +22,7 @@ pub struct Parts {
 }
 
 // What a line tells of a record, the lister after it, and until when it is known to be clear then.
+// The answer is kept as its number, as `pen::put_told` takes it: the answer itself would be longer to hand on.
 #[derive(Clone, Copy)]
 pub struct Noted {
     pub word: Word,

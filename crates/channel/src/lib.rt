@@ -21,5 +21,5 @@ pub fn centre(channel: u8) -> Result<u16, Refusal>
     if HIGHEST < channel {
         return Err(Refusal::Impossible);
     }
-    Ok(LOWEST_CENTRE + STEP * (channel as u16))
+    Ok(LOWEST_CENTRE + STEP * u16::from(channel))
 }

@@ -47,10 +47,7 @@ fn is_forbidden(owner: [u8; 6], recovery: u8) -> bool
 fn pairs_in(length: usize) -> usize
     ensures { result ≡ pairs_in length }
 {
-    if length < FIXED_LENGTH {
-        return 0;
-    }
-    (length - FIXED_LENGTH) / PAIR
+    length.saturating_sub(FIXED_LENGTH) / PAIR
 }
 
 #[tactic(auto, unfolding(crate::specs::IbssDfs::dfs_means, answer::specs::Checks::checked))]

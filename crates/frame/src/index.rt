@@ -31,6 +31,7 @@ pub struct Asked {
 }
 
 // The contents at a place of a body: no place is 16.
+// Kept: that the place lies in the body stands in the contracts: it is found in one call and read in another.
 fn contents_at(body: &[u8], place: Option<Contents>) -> Result<&[u8], Refusal>
     requires { PlaceWithin body.now place }
     ensures nowhere { IfNone place (result ≡ Err Refusal.Impossible) }

@@ -15,6 +15,7 @@ use beacon::Heard;
 use header::{Cell, Head};
 
 // The header of a frame. One that is refused by it broke at no octet, and the body of any other is no longer than a body may be.
+// Kept: how long a body may be stands in the contracts, since a body is a slice of the frame, which has no type of its own.
 pub fn read_head(frame: &[u8], cell: Cell, own: [u8; 6], bssid: [u8; 6]) -> Result<Head, Fault>
     ensures means { result ≡ nowhere (header_means cell own bssid frame.now) }
     ensures short { IfOk result (λ head. length (body_of frame.now) ≤ longest_body) }

@@ -20,6 +20,7 @@ pub fn fill<R: Read>(from: &mut R, buffer: &mut [u8]) -> Filled
     ensures { Within result (length buffer.old) }
 {
     let mut done = 0;
+    // Kept as `while`: each read brings any amount.
     while done < buffer.len() {
         match from.read(&mut buffer[done..]) {
             Ok(0) => return Filled::Ended(done),

@@ -18,6 +18,7 @@ pub enum Finding {
     Times,
 }
 
+// Kept beside one another: the promises of the exported replies name both fields.
 #[derive(Clone, Copy)]
 pub struct Readings {
     pub finding: Finding,

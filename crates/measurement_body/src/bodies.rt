@@ -79,6 +79,7 @@ fn may_follow(there: &[u8], opening: Opening, element: Element) -> bool
 }
 
 // A body of one element, and after it some octets that are not written.
+// Kept as an array and a count: there is no heap.
 fn body_octets(opening: Opening, element: &[u8]) -> [u8; ROOM]
     requires { length element.now ≤ longest_element }
     ensures { Fronts (opening_octets (sort_of opening.kind).action opening.token ++ element.now) result }

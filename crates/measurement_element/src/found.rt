@@ -7,7 +7,7 @@ ghost use Rattle.measurement_element.specs.Found.{found_by, found_size, found_fo
 pub(crate) const HIGHEST_KIND: u8 = 2;
 
 // A map, whose bits 0 to 4 are BSS, OFDM preamble, unidentified signal, radar and unmeasured; a busy fraction; or eight densities, which stand
-// beside it, since an enum holds no array.
+// beside it: a report that has them and is no histogram is refused, which a type that holds them here would not take.
 #[derive(Clone, Copy)]
 pub enum Found {
     Map(u8),

@@ -18,6 +18,7 @@ pub enum Matter {
     Uninterpreted,
 }
 
+// The type is kept as a number: one over 2 is read as well, and written back as it is.
 #[derive(Clone, Copy)]
 pub struct Request {
     pub token: u8,
@@ -167,6 +168,7 @@ pub fn may_write(request: Request) -> bool
 }
 
 // The element's octets, and after those of an Enable element some that are not written.
+// Kept octet by octet, and the count beside them: `request_built` says them one by one, and there is no heap.
 pub fn to_octets(request: Request) -> [u8; 16]
     ensures { (length result ≡ 16) × (take (length (request_octets request)) result ≡ request_octets request) × (result ≡ request_built request) }
 {
@@ -192,6 +194,7 @@ pub fn to_octets(request: Request) -> [u8; 16]
 }
 
 // How many octets the element has, with its ID and its length.
+// Kept beside that of reports: one over a trait of both records would be longer than the two.
 pub fn octet_count(request: Request) -> usize
     ensures { (result ≡ length (request_octets request)) × (result ≤ 16) }
 {

@@ -23,6 +23,7 @@ impl Span {
     }
 
     // Channel, start and duration.
+    // Kept octet by octet: eleven octets by slices are no shorter.
     pub fn to_octets(self) -> [u8; 11]
         ensures { result ≡ span_octets self }
     {

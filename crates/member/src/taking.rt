@@ -21,6 +21,7 @@ pub struct Taken {
 }
 
 // Whether what was read has an announcement.
+// Kept as a match: the edits `another_obeyed` and `foreign_before_broken`, which must fail, change its lines.
 fn announces(received: Result<Received, Fault>) -> bool
     ensures { result ≡ announces received }
 {

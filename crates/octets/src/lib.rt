@@ -1,5 +1,5 @@
-// Octets (document 01, "Octets"): numbers with the least significant octet first, signed octets, and the one writer into a
-// lent buffer.
+// Octets (document 01, "Octets"): numbers with the least significant octet first, signed octets, and a writer into a lent
+// buffer.
 #![tactic(auto)]
 
 mod numbers;

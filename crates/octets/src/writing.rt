@@ -1,4 +1,4 @@
-// The one writer that may be refused: every other such writer hands it the octets, and whether they may be written. Lines of the list are put where there is
+// The writer that may be refused: most other such writers hand it the octets, and whether they may be written. Lines of the list are put where there is
 // room for them, which is judged once for many (`capture`).
 ghost use Rattle.std.specs.Prelude.{◌≡◌, ◌+◌, ◌≤◌, IfOk};
 ghost use Rattle.octets.specs.Writing.{room, Written};

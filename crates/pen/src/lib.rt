@@ -19,6 +19,7 @@ pub const DIGITS: usize = numeral::ROOM;
 
 // The number of the latest line, where its digits begin in their room, and how many octets of the buffer are lines by now. The digits are counted up
 // from line to line: to divide for each would cost more than the rest of a line.
+// Kept: `Spells` stands in the contracts: the digits are lent and the pen is copied, so no type holds both.
 #[derive(Clone, Copy)]
 pub struct Pen {
     pub lines: u64,

@@ -18,6 +18,7 @@ pub fn spell(number: u64, digits: &mut [u8]) -> usize
 {
     let mut from = END;
     let mut rest = number;
+    // Kept as `while`: how many digits there are shows only at the last. `write!` would not promise the octets.
     while 10 <= rest {
         from -= 1;
         digits[from] = b'0' + (rest % 10) as u8;

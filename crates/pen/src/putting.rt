@@ -59,6 +59,7 @@ pub fn put_accepted(digits: &[u8], from: usize, word: Word, out: &mut [u8], at: 
 }
 
 // A number in decimal, and where it ends.
+// Kept by hand: the octets are promised (`decimal`), which `write!` does not.
 pub fn put_number(number: u64, out: &mut [u8], at: usize) -> usize
     requires { at + numeral_end ≤ length out.old }
     ensures put { OctetsPut (decimal number) at out.old result out.new }

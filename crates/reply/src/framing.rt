@@ -18,7 +18,9 @@ const TPC_REPORT_BODY: usize = 7;
 
 const LONGEST_REPLY_BODY: usize = 27;
 
-// An action frame to another of the cell: flags, duration and sequence control are 0.
+// An action frame to another of the cell: flags, duration and sequence control are 0. The three addresses are kept as parameters: the definitions take them one
+// by one, and a struct would be taken apart for each.
+// Kept octet by octet: `head_to` says them one by one.
 fn head(own: [u8; 6], to: [u8; 6], bssid: [u8; 6]) -> [u8; header::LENGTH]
     ensures { result ≡ head_to own to bssid }
 {

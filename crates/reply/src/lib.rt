@@ -83,6 +83,7 @@ pub fn to_tpc_request(
 }
 
 // The same of a station of an IBSS (document 02, Five): the reply goes to whoever sent the frame.
+// Kept beside the one of an AP: both are public, and each promise stays as it is.
 pub fn to_tpc_request_in_ibss(
     frame: &[u8],
     own: [u8; 6],
@@ -111,6 +112,7 @@ pub fn to_measurement_request(
 }
 
 // The same of a station of an IBSS.
+// Kept beside the one of an AP: both are public, and each promise stays as it is.
 pub fn to_measurement_request_in_ibss(
     frame: &[u8],
     own: [u8; 6],

@@ -66,6 +66,7 @@ fn at<W: Write, P: Played>(page: &mut Page<W>, played: P, call: Call) -> P
 {
     let mut next = played;
     let mut left = call.units_from(page, played.clock());
+    // Kept as `while`: the last step is what is left, so there is no count of steps to go over.
     while Station::UNIT_LIMIT < left {
         next = told(page, next.after(Station::UNIT_LIMIT), false);
         left -= Station::UNIT_LIMIT;

@@ -42,6 +42,7 @@ fn fresh(subject: Subject) -> Stage
 }
 
 // The stage after a call.
+// Kept as a match: a scene's start names one of the three, and the others are as they were begun.
 fn after<W: Write>(page: &mut Page<W>, mut stage: Stage, call: Call) -> Stage
     requires { ValidStage stage }
     ensures { ValidStage result }
@@ -63,6 +64,7 @@ fn scenes<W: Write>(page: &mut Page<W>, mut stage: Stage, text: &[u8]) -> Stage
 {
     let mut line = stage.line;
     let mut at = 0;
+    // Kept as `while`: how far a line is read only the line knows.
     while at < text.len() {
         let read = line.read(page, text, at);
         at = read.at;
@@ -75,10 +77,12 @@ fn scenes<W: Write>(page: &mut Page<W>, mut stage: Stage, text: &[u8]) -> Stage
 }
 
 // Reads until the buffer is full or the input ends: a pipe may deliver any amount at a time.
+// Kept beside the one of `list`: there a read that failed still says how many octets came.
 fn fill<R: Read>(input: &mut R, buffer: &mut [u8]) -> io::Result<usize>
     ensures { IfOk result (λ count. count ≤ length buffer.old) }
 {
     let mut done = 0;
+    // Kept as `while`: each read brings any amount.
     while done < buffer.len() {
         let more = input.read(&mut buffer[done..])?;
         if more == 0 {

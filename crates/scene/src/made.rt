@@ -24,6 +24,7 @@ const BODY: usize = 24;
 const INTERVAL: usize = 32;
 
 // How many octets the longest frame of a scene has.
+// Kept: this bound stands in the contracts: a slice handed back would lend the frame on.
 pub const LONGEST: usize = 2400;
 
 // A receiver that is named by this first octet is all ones.

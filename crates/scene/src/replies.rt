@@ -53,6 +53,7 @@ pub fn report(call: Call) -> TpcReport {
     call.tpc_report(3)
 }
 
+// Kept beside the one of `boundary`: that is the C interface, which no scene calls.
 fn finding(call: Call) -> Finding {
     match call.numbers[5] {
         0 => Finding::Refused,

@@ -24,6 +24,7 @@ pub enum Permission {
 
 impl Permission {
     // The answer's number.
+    // Kept as a match, as the number of a refusal.
     pub fn number(self) -> u8
         ensures { result ≡ permission_number self }
     {

@@ -11,6 +11,7 @@ use schedule::Schedule;
 use station::Station;
 
 // What a station is started with, its clock and its channel.
+// Kept: the size stands in the contracts: the octets are the keeper's, of any length, and only who lays a record knows that they suffice.
 fn lay_settings(station: &Station, memory: &mut [u8])
     requires { size ≤ length memory.old }
     ensures { memory.new ≡ over memory.old 0 (settings_octets station.now.own station.now.ap station.now.interval station.now.clock station.now.channel) }

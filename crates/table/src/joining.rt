@@ -9,6 +9,7 @@ use answer::Refusal;
 use station::Station;
 
 // 25 where a station of its address sits somewhere, before 24 where no row is free.
+// Kept as a match: the edit `joined_is_full`, which must fail, changes one of its lines.
 fn seat_among(sitting: Option<usize>, vacant: Option<usize>) -> Result<usize, Refusal>
     ensures { result ≡ seat_among sitting vacant }
 {
