@@ -22,7 +22,8 @@ pub struct Listing {
 // The lines of a block, damaged or not. One of another length is damaged whatever it holds, as any short block is.
 fn put_block(lister: Lister, block: &[u8], out: &mut [u8]) -> Put
     requires fits { Fits lister }
-    requires blocks_lt_block_limit { (lister.blocks < block_limit) × (enough_room ≤ length out.old) }
+    requires few_blocks { lister.blocks < block_limit }
+    requires room { enough_room ≤ length out.old }
     ensures fed { Fed lister (block_told block.now lister) result }
     ensures out_after { out.new ≡ filled (block_told block.now lister).text out.old }
 {
@@ -32,7 +33,7 @@ fn put_block(lister: Lister, block: &[u8], out: &mut [u8]) -> Put
     listing::put_blocks(lister, &[0], out)
 }
 
-// Whether so many blocks more may be listed into a buffer of so many octets. What the limit and the buffer leave is compared, since a sum or a product could wrap.
+// Whether so many blocks more may be listed into a buffer of so many octets. What the limit and the buffer leave is compared: a sum or a product could wrap.
 #[tactic(auto, unfolding(crate::specs::CodeTerms::Rooms::room_for, answer::specs::Checks::checked))]
 fn room_for(blocks: u64, many: usize, size: usize) -> Result<(), Refusal>
     requires { blocks ≤ block_limit }

@@ -89,7 +89,8 @@ fn put_verdict(pen: Pen, digits: &mut [u8], verdict: Result<(), Fault>, out: &mu
 // lister is long to copy.
 pub fn put_blocks(lister: Lister, blocks: &[u8], out: &mut [u8]) -> Put
     requires fits { Fits lister }
-    requires blocks_bound { (lister.blocks + length (blocks_in blocks.now) ≤ block_limit) × (length (blocks_in blocks.now) * enough_room ≤ length out.old) }
+    requires few_blocks { lister.blocks + length (blocks_in blocks.now) ≤ block_limit }
+    requires room { length (blocks_in blocks.now) * enough_room ≤ length out.old }
     ensures fed { Fed lister (blocks_told (blocks_in blocks.now) lister) result }
     ensures out_after { out.new ≡ filled (blocks_told (blocks_in blocks.now) lister).text out.old }
 {

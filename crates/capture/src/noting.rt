@@ -24,7 +24,7 @@ pub struct Answered {
 
 // A malformed record: there is no station after it.
 fn malformed(lister: Lister) -> Answered
-    ensures result_value { line_for result ≡ bad_record lister }
+    ensures tells { line_for result ≡ bad_record lister }
     ensures follows { Follows lister result.lister }
 {
     Answered {
@@ -37,7 +37,7 @@ fn malformed(lister: Lister) -> Answered
 // A start, refused or accepted.
 #[tactic(auto, unfolding(crate::specs::Lists::noted), using(crate::proofs::StaysSound::sound_without, crate::proofs::StaysSound::sound_following))]
 fn start(lister: Lister, contents: &[u8]) -> Answered
-    ensures result_value { line_for result ≡ noted lister (starting (settings_of contents.now)) }
+    ensures tells { line_for result ≡ noted lister (starting (settings_of contents.now)) }
     ensures follows { Follows lister result.lister }
 {
     let settings = capture_record::settings_in(contents);
@@ -63,7 +63,7 @@ fn start(lister: Lister, contents: &[u8]) -> Answered
 // A record that comes with no station started.
 fn unstarted(lister: Lister, word: Word) -> Answered
     requires { Sound lister }
-    ensures result_value { line_for result ≡ no_station lister word }
+    ensures tells { line_for result ≡ no_station lister word }
     ensures follows { Follows lister result.lister }
 {
     Answered {
@@ -77,7 +77,7 @@ fn unstarted(lister: Lister, word: Word) -> Answered
 #[tactic(auto, using(crate::proofs::Answering::no_advance, crate::proofs::Answering::an_advance, crate::proofs::StaysSound::sound_following))]
 fn advance(lister: Lister, units: u16) -> Answered
     requires { Sound lister }
-    ensures result_value { line_for result ≡ noted lister (advancing units) }
+    ensures tells { line_for result ≡ noted lister (advancing units) }
     ensures follows { Follows lister result.lister }
 {
     if !lister.active {
@@ -95,7 +95,7 @@ fn advance(lister: Lister, units: u16) -> Answered
 #[tactic(auto, using(crate::proofs::Answering::no_ask, crate::proofs::Answering::an_ask))]
 fn ask(lister: Lister, units: u16) -> Answered
     requires { Sound lister }
-    ensures result_value { line_for result ≡ noted lister (asking units) }
+    ensures tells { line_for result ≡ noted lister (asking units) }
     ensures follows { Follows lister result.lister }
 {
     if !lister.active {
@@ -112,8 +112,8 @@ fn ask(lister: Lister, units: u16) -> Answered
 #[tactic(auto, unfolding(crate::specs::Lists::noted), using(crate::proofs::Answering::no_frame))]
 pub fn note(lister: Lister, entry: Entry, contents: &[u8]) -> Answered
     requires sound { Sound lister }
-    requires active_value { entry ≡ Entry.Frame → lister.active ≡ false }
-    ensures result_value { line_for result ≡ noted lister (entry_told contents.now entry) }
+    requires unheard { entry ≡ Entry.Frame → lister.active ≡ false }
+    ensures tells { line_for result ≡ noted lister (entry_told contents.now entry) }
     ensures follows { Follows lister result.lister }
 {
     match entry {

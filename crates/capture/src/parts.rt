@@ -74,8 +74,8 @@ impl Parts {
 
     // There is no station until the next start, whatever the columns hold.
     pub fn without(self) -> Parts
-        ensures by_index { (n : ℕ) (c : Columns) → lister_of result n c ≡ without (lister_of self n c) }
-        ensures count_value { result.apart.count ≡ 0 }
+        ensures same { (n : ℕ) (c : Columns) → lister_of result n c ≡ without (lister_of self n c) }
+        ensures no_schedule { result.apart.count ≡ 0 }
     {
         Parts {
             active: false,
@@ -88,7 +88,7 @@ impl Parts {
     pub fn note(self, lines: u64, entry: Entry, contents: &[u8], columns: &mut Columns) -> Noted
         requires few { self.apart.count ≤ quiet_limit }
         requires sound { Sound (lister_of self lines columns.old) }
-        requires active_value { entry ≡ Entry.Frame → self.active ≡ false }
+        requires unheard { entry ≡ Entry.Frame → self.active ≡ false }
         ensures { NotedAs (lister_of self lines columns.old) contents.now entry result columns.new }
     {
         let answered = noting::note(self.whole(lines, columns), entry, contents);

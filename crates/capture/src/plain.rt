@@ -72,7 +72,8 @@ pub fn run(
 ) -> Ran
     requires spells { Spells from.pen.lines digits.old from.pen.from }
     requires in_bounds { from.at ≤ length used.now }
-    requires room { (from.pen.lines + lines_left (length used.now - from.at) ≤ line_limit) × (from.pen.count + line_room * lines_left (length used.now - from.at) ≤ length out.old) }
+    requires numbered { from.pen.lines + lines_left (length used.now - from.at) ≤ line_limit }
+    requires room { from.pen.count + line_room * lines_left (length used.now - from.at) ≤ length out.old }
     ensures { RanFrom used.now from.at active from.clock pending clear from.pen out.old result digits.new out.new }
 {
     if !active {

@@ -71,11 +71,11 @@ fits₀ c = subst Fits (sym (same_first c.of-parts.ensures c.begin-pen.ensures.0
 limit : (c : After-run-ran) → Few c.args.blocks.now (first_in c)
 limit c =
     subst (Few c.args.blocks.now) (sym (same_first c.of-parts.ensures c.begin-pen.ensures.0))
-    c.requires.blocks_bound.0
+    c.requires.few_blocks
 
 big : (c : After-run-ran)
     → length (blocks_in c.args.blocks.now) * enough_room ≤ length c.args.out.now
-big c = c.requires.blocks_bound.1
+big c = c.requires.room
 
 standing : (c : After-run-ran)
     → let l = c.loop-columns in
@@ -124,13 +124,13 @@ put_told-pen-requires c =
 pub overflow_add-parts : goal.overflow_add-parts
 overflow_add-parts c =
     let r = (goal.at.overflow_add-parts c).After-run-ran in
-    let same = c.without-parts.ensures.by_index c.run-ran.result.pen.lines (columns_in r) in
+    let same = c.without-parts.ensures.same c.run-ran.result.pen.lines (columns_in r) in
     omega (arith, few_without (fits₀ r) (limit r) (big r) (standing r) same)
 
 pub overflow_add-parts-in-Damaged : goal.overflow_add-parts-in-Damaged
 overflow_add-parts-in-Damaged c =
     let r = (goal.at.overflow_add-parts-in-Damaged c).After-run-ran in
-    let same = c.without-parts.ensures.by_index c.run-ran.result.pen.lines (columns_in r) in
+    let same = c.without-parts.ensures.same c.run-ran.result.pen.lines (columns_in r) in
     omega (arith, few_without (fits₀ r) (limit r) (big r) (standing r) same)
 
 pub loop-columns-preserved-in-Damaged : goal.loop-columns-preserved-in-Damaged
@@ -139,14 +139,14 @@ loop-columns-preserved-in-Damaged c =
     let put = c.put_told-pen in
     let k = c.run-ran.result.pen.lines + 1 in
     let number = ap (λ (m : ℕ). line_of k Word.Block m None) c.number-number.ensures in
-    let same = c.without-parts.ensures.by_index put.result.lines (columns_in r) in
+    let same = c.without-parts.ensures.same put.result.lines (columns_in r) in
     record {
       standing =
           standing_as (ap (λ (x : Lister). one_block_more x 1) same) refl
           (damaged_standing (fits₀ r) (limit r) (big r) (standing r) c.in-End.ensures.used_value
           c.in-Damaged.end c.in-Damaged.ensures put.result _ _
           (penned_as number put.ensures.penned));
-      few = omega (arith, c.without-parts.ensures.count_value);
+      few = omega (arith, c.without-parts.ensures.no_schedule);
     }
 
 -- ---- a whole block
@@ -175,14 +175,14 @@ loop-columns-preserved-in-Cut c =
     let k = c.run-ran.result.pen.lines + 1 in
     let number =
     ap (λ (m : ℕ). line_of k Word.Record m None) c.number-number-in-Cut.ensures in
-    let same = c.without-parts-in-Cut.ensures.by_index put.result.lines (columns_in r) in
+    let same = c.without-parts-in-Cut.ensures.same put.result.lines (columns_in r) in
     record {
       standing =
           standing_as same refl
           (cut_standing (fits₀ r) (limit r) (big r) (standing r) c.in-Cut.ensures.used_value
           (omega (arith, c.in-Cut.ensures.within, size)) put.result _ _
           (penned_as number put.ensures.penned));
-      few = omega (arith, c.without-parts-in-Cut.ensures.count_value);
+      few = omega (arith, c.without-parts-in-Cut.ensures.no_schedule);
     }
 
 -- ---- a whole record
@@ -260,7 +260,7 @@ note-noted-requires c =
     record {
       few = few r;
       sound = (standing r).sound;
-      active_value = no_hearer _ _ (sym c.is_heard.ensures ∙ c.if-is_heard.false);
+      unheard = no_hearer _ _ (sym c.is_heard.ensures ∙ c.if-is_heard.false);
     }
 
 pub loop-columns-preserved : goal.loop-columns-preserved

@@ -30,8 +30,7 @@ pub put_accepted-pen-requires : goal.put_accepted-pen-requires
 put_accepted-pen-requires c =
     let i = c.loop-ran.invariant in
     let n = c.in-Goes.ensures.1 in
-    let bound = c.requires.room in
-    may_put_lem i.spells (ran_room bound.1 i _ line_limit n.past n.within bound.0)
+    may_put_lem i.spells (ran_room c.requires.room i _ line_limit n.past n.within c.requires.numbered)
 
 pub loop-ran-smaller-in-Goes : goal.loop-ran-smaller-in-Goes
 loop-ran-smaller-in-Goes c = let n = c.in-Goes.ensures.1 in omega (arith, n.past, n.within)
@@ -40,7 +39,7 @@ pub loop-ran-preserved-in-Goes : goal.loop-ran-preserved-in-Goes
 loop-ran-preserved-in-Goes c =
     let g = c.in-Goes.ensures in
     let put = c.put_accepted-pen in
-    ran_advance c.requires.room.1 c.loop-ran.invariant g.0 _ put.result _ _ _ g.2 g.1
+    ran_advance c.requires.room c.loop-ran.invariant g.0 _ put.result _ _ _ g.2 g.1
     put.ensures.penned
 
 -- ---- a question
@@ -49,8 +48,7 @@ pub put_accepted-pen-requires-in-Granted : goal.put_accepted-pen-requires-in-Gra
 put_accepted-pen-requires-in-Granted c =
     let i = c.loop-ran.invariant in
     let n = c.in-Granted.ensures.1 in
-    let bound = c.requires.room in
-    may_put_lem i.spells (ran_room bound.1 i _ line_limit n.past n.within bound.0)
+    may_put_lem i.spells (ran_room c.requires.room i _ line_limit n.past n.within c.requires.numbered)
 
 pub loop-ran-smaller : goal.loop-ran-smaller
 loop-ran-smaller c = let n = c.in-Granted.ensures.1 in omega (arith, n.past, n.within)
@@ -59,5 +57,5 @@ pub loop-ran-preserved : goal.loop-ran-preserved
 loop-ran-preserved c =
     let g = c.in-Granted.ensures in
     let put = c.put_accepted-pen-in-Granted in
-    ran_question c.requires.room.1 c.loop-ran.invariant g.0 _ put.result _ _ g.1 g.2 g.3
+    ran_question c.requires.room c.loop-ran.invariant g.0 _ put.result _ _ g.1 g.2 g.3
     put.ensures.penned

@@ -5,6 +5,6 @@ use Rattle.apart.specs.Columns.{columns}
 use Rattle.station.specs.declared.Station.{Station}
 use Rattle.capture.proofs.parts.Parts.without.Goals as goal
 
-pub returns-clause-count_value : goal.returns-clause-count_value
+pub returns-clause-no_schedule : goal.returns-clause-no_schedule
 unfolding whole_of
-returns-clause-count_value c = ap (λ (s : Station). s.count) (c.nobody.ensures (columns [] [] []))
+returns-clause-no_schedule c = ap (λ (s : Station). s.count) (c.nobody.ensures (columns [] [] []))
