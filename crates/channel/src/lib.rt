@@ -15,6 +15,7 @@ const LOWEST_CENTRE: u16 = 5000;
 const STEP: u16 = 5;
 
 // The centre of a channel, worked out (document 02, Three); over 200 there is none.
+#[tactic(auto, unfolding(crate::specs::Centres::centre_of, answer::specs::Checks::checked))]
 pub fn centre(channel: u8) -> Result<u16, Refusal>
     ensures { result ≡ centre_of channel }
 {

@@ -40,10 +40,7 @@ fn announces(received: Result<Received, Fault>) -> bool
 fn is_beacon(received: Result<Received, Fault>) -> bool
     ensures { result ≡ is_beacon received }
 {
-    match received {
-        Err(_) => false,
-        Ok(received) => matches!(received.frame, Frame::Beacon(_)),
-    }
+    received.is_ok_and(|received| matches!(received.frame, Frame::Beacon(_)))
 }
 
 // The owner that a beacon's element 41 names, or the one before.

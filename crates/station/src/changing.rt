@@ -38,7 +38,7 @@ impl Rest {
         }
     }
 
-    // A Power Constraint, if there is one, takes the place of the latest.
+    // A Power Constraint, if there is one, takes the place of the latest. Kept as a match: where there is none, nothing is put together.
     pub fn constrained(self, power: Option<PowerConstraint>) -> Rest
         ensures { result ≡ rest_constrained self power }
     {
