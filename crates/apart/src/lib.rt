@@ -27,6 +27,7 @@ use frame::Hearing;
 use station::{Rest, Station};
 
 // What a station keeps beside its schedules, and how many of these are in use.
+// Kept as a count beside the columns: there is no heap.
 #[derive(Clone, Copy)]
 pub struct Apart {
     pub own: [u8; 6],

@@ -22,6 +22,7 @@ const DENSITIES: usize = 15;
 pub const REPORT: usize = 23;
 
 // A Quiet element as in its contents: count, period, duration, offset.
+// Kept octet by octet: six octets by slices are no shorter.
 pub fn of_quiet(quiet: Quiet) -> [u8; 6]
     ensures { result ≡ quiet_contents quiet }
 {

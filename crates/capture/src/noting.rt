@@ -23,6 +23,7 @@ pub struct Answered {
 }
 
 // A malformed record: there is no station after it.
+// Kept: `Follows` stands in each contract here: each says what its own record does to the lister.
 fn malformed(lister: Lister) -> Answered
     ensures tells { line_for result ≡ bad_record lister }
     ensures follows { Follows lister result.lister }

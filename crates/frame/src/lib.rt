@@ -116,8 +116,8 @@ fn body_kind(subtype: Subtype) -> BodyKind
 }
 
 // A frame that a station hears: `own` is its address, `ap` its AP's, `interval` its beacon interval.
-#[tactic(auto, unfolding(crate::specs::Frames::frame_means))]
 // Kept as parameters: the C interface hands them one by one.
+#[tactic(auto, unfolding(crate::specs::Frames::frame_means))]
 pub fn read(frame: &[u8], own: [u8; 6], ap: [u8; 6], interval: u16) -> Result<Received, Fault>
     ensures { result ≡ frame_laid (frame_means own ap interval frame.now) }
 {

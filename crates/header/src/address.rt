@@ -78,6 +78,7 @@ fn is_elsewhere(frame: &[u8], cell: Cell, own: [u8; 6], bssid: [u8; 6]) -> bool
 }
 
 // Whether a frame that this station takes was sent to all ones, and not to the station alone.
+// Kept as parameters: public calls take them one by one, as the C interface hands them.
 #[tactic(auto, unfolding(crate::specs::Headers::address_means, answer::specs::Checks::checked))]
 pub fn read_address(frame: &[u8], cell: Cell, own: [u8; 6], bssid: [u8; 6]) -> Result<bool, Refusal>
     ensures { result ≡ address_means cell own bssid frame.now }

@@ -228,6 +228,7 @@ fn last_of(matter: Matter, density: u8) -> u8
 }
 
 // Whether this type can report this; uninterpreted contents are never written.
+// Kept as a match: each case has an answer of its own.
 fn agrees(matter: Matter, kind: u8) -> bool
     ensures { result ≡ report_agrees matter kind }
 {

@@ -60,6 +60,7 @@ pub fn put_accepted(digits: &[u8], from: usize, word: Word, out: &mut [u8], at: 
 
 // A number in decimal, and where it ends.
 // Kept by hand: the octets are promised (`decimal`), which `write!` does not.
+// Kept: how much room there has to be stands in each contract here: each part of a line takes its own.
 pub fn put_number(number: u64, out: &mut [u8], at: usize) -> usize
     requires { at + numeral_end ≤ length out.old }
     ensures put { OctetsPut (decimal number) at out.old result out.new }
@@ -71,6 +72,7 @@ pub fn put_number(number: u64, out: &mut [u8], at: usize) -> usize
 }
 
 // The answer in decimal, and where it ends. Most have one digit, which needs no spelling.
+// Kept by hand, as `put_number`.
 fn put_answer(answer: u8, out: &mut [u8], at: usize) -> usize
     requires { at + numeral_end ≤ length out.old }
     ensures { OctetsPut (decimal answer) at out.old result out.new }

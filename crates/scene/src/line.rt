@@ -8,6 +8,7 @@ use crate::{last, say};
 use std::io::Write;
 
 // Which part of a line the next character belongs to.
+// Kept: a line is read in pieces, so what comes next in it has to be kept.
 #[derive(Clone, Copy, PartialEq, Eq)]
 enum Part {
     Remark,

@@ -25,6 +25,7 @@ const INTERVAL: usize = 32;
 
 // How many octets the longest frame of a scene has.
 // Kept: this bound stands in the contracts: a slice handed back would lend the frame on.
+// A frame is kept as a buffer of the caller's and a length: there is no heap.
 pub const LONGEST: usize = 2400;
 
 // A receiver that is named by this first octet is all ones.

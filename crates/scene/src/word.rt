@@ -6,6 +6,7 @@ use crate::verb::Verb;
 const ROOM: usize = 17;
 
 // Letters that find no room are counted too.
+// Kept as an array and a count: there is no heap.
 #[derive(Clone, Copy)]
 pub struct Word {
     letters: [u8; ROOM],

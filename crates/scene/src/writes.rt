@@ -52,6 +52,7 @@ fn span(call: Call, place: usize) -> Span
     }
 }
 
+// Kept beside the one of `boundary`: that is the C interface, which no scene calls.
 fn asked(call: Call) -> measurement_request::Matter {
     match call.numbers[6] {
         0 => measurement_request::Matter::Enable {
@@ -78,6 +79,7 @@ fn measured(call: Call, found: Found) -> measurement_report::Matter {
     }
 }
 
+// Kept beside the one of `boundary`: that is the C interface, which no scene calls.
 fn said(call: Call) -> measurement_report::Matter {
     match call.numbers[6] {
         0 => measurement_report::Matter::NotMeasured(Reason::Late),

@@ -25,6 +25,7 @@ pub use taking::Taken;
 // What one station keeps between calls. The first `count` slots are the quiet schedules in use, the others are blank. Before `until` it is quiet by
 // what had begun of schedules that were replaced: the latest end counts, and 0 says that nothing runs on (document 02, Two).
 // Kept: `Valid` stands in the contracts and not in the type, since the fields are public and `nobody` is no valid station.
+// The schedules are kept as an array and a count: there is no heap.
 #[derive(Clone, Copy)]
 pub struct Station {
     pub own: [u8; 6],

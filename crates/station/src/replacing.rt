@@ -13,6 +13,7 @@ use element::quiet::Quiet;
 use schedule::Schedule;
 
 // How far the slots are gone through, and how many are in use after that.
+// Kept: that no count is over the number of slots stands in the contracts: a type of its own would be longer.
 #[derive(Clone, Copy)]
 pub struct Extent {
     pub top: usize,
