@@ -19,7 +19,7 @@ pub const FIXED_FIELDS: usize = 3;
 pub const SWITCH_FIXED_FIELDS: usize = 2;
 
 // How a body begins: with no token (action 4), or with an action below 4 and its token.
-// The action is kept as a number: `sort_of` and `forbids_token`, which theorems cite, go by it.
+// Kept as a number: `opens_with` and `forbids_token`, which theorems cite, say the action so.
 #[derive(Clone, Copy)]
 pub enum Opening {
     Switch,

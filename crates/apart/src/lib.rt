@@ -1,5 +1,6 @@
 // A station taken apart (document 01, "The station"): its quiet schedules stand in columns of numbers, which can be lent and changed where they are. A
 // station is long to copy, and most of it is its schedules.
+// Kept beside the calls by value: frames heard in place are quicker (docs/BENCHMARKS.md).
 #![tactic(auto)]
 
 mod columns;

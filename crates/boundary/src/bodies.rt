@@ -70,6 +70,7 @@ pub extern "C" fn oneiralth_append_request(
 }
 
 // The same of reports.
+// Kept beside that of requests: each is a C function with parameters of its own.
 #[unsafe(no_mangle)]
 pub extern "C" fn oneiralth_append_report(
     buffer: &mut [u8],

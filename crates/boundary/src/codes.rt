@@ -1,4 +1,5 @@
 // What a call gives back: a number of 0 or more, or a refusal as minus its number, in the 64 bits of a signed number.
+// Kept as a number: it is all that a C function gives back.
 ghost use Rattle.std.specs.Prelude.{◌≡◌, Ok};
 ghost use Rattle.boundary.specs.Codes.{code_of, refusal_code, address_of, Given};
 ghost use Rattle.boundary.specs.Stations.{answer_told, verdict_told};

@@ -1,4 +1,5 @@
 // An element of a frame as its fields, each at its place (docs/BOUNDARY.md). What it has not got is 0.
+// Kept as numbers: C reads them so, as it hands them to the writers.
 ghost use Rattle.std.specs.Prelude.{◌≡◌};
 ghost use Rattle.element.specs.Quiet.{quiet_contents};
 ghost use Rattle.boundary.specs.ElementFields.{pair_fields, asked_by, request_fields, reason_number, found_number, found_value, said_by, report_fields};

@@ -108,6 +108,7 @@ pub extern "C" fn oneiralth_write_request(
     codes::wrote(measurement_request::write(record, out, 0))
 }
 
+// Kept beside that of requests: each is a C function with parameters of its own.
 #[unsafe(no_mangle)]
 pub extern "C" fn oneiralth_write_report(
     token: u8,

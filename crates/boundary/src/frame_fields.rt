@@ -25,6 +25,7 @@ const SWITCH: usize = 34;
 pub const LENGTH: usize = 38;
 
 // What the seven kinds have in common: the kind's number, its token, how many measurement elements it has, and what it says of a notice's fields.
+// Kept as a number: the kind is the first octet that C reads (docs/BOUNDARY.md).
 #[derive(Clone, Copy)]
 pub struct Fields {
     pub kind: u8,

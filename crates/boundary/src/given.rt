@@ -1,4 +1,5 @@
 // The records of a TPC Report and of the measurement elements, as a caller gives them by numbers.
+// Kept as numbers: C hands them so (docs/BOUNDARY.md).
 ghost use Rattle.std.specs.Prelude.{◌≡◌};
 ghost use Rattle.boundary.specs.Given.{tpc_given, asks_given, says_given, request_given, report_given};
 

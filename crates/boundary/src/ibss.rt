@@ -1,4 +1,5 @@
 // Frames as a station of an IBSS reads them (document 02, Five), put as fields at fixed places (docs/BOUNDARY.md), from the front of the buffer on.
+// Kept beside those of `reading`: each is a C function with a promise of its own.
 ghost use Rattle.std.specs.Prelude.{◌≡◌, Ok};
 ghost use Rattle.answer.specs.Checks.{and_then};
 ghost use Rattle.element.specs.Quiet.{quiet_contents};

@@ -1,4 +1,5 @@
 // What programs in C and Rust call: functions on numbers and octets that keep nothing between calls (docs/BOUNDARY.md).
+// Kept as numbers, and one exported function a call: C knows neither Rattle's enums nor generics.
 #![tactic(auto)]
 
 mod bodies;

@@ -26,6 +26,7 @@ pub extern "C" fn oneiralth_reply_to_tpc_request(
 }
 
 // 0 the caller refuses, 1 a map, 2 a busy time; every other number stands for the eight times.
+// Kept as a number: C hands it so (docs/BOUNDARY.md).
 #[tactic(auto, unfolding(crate::specs::Findings::finding_given))]
 pub fn finding(number: u8, value: u32) -> Finding
     ensures { result ≡ finding_given number value }

@@ -1,4 +1,5 @@
 // A station in the caller's own memory (document 02, Eight), thin over `station_record`. A range that holds no station is refused with 16.
+// The replies are kept beside those of `replies`: each is a C function with parameters of its own.
 ghost use Rattle.std.specs.Prelude.{◌∷◌, [], ◌≡◌, Ok};
 ghost use Rattle.answer.specs.Checks.{and_then};
 ghost use Rattle.answer.specs.Faults.{without_place};

@@ -72,6 +72,7 @@ fn is_heard(entry: Entry, active: bool) -> bool
 }
 
 // The line of a frame that a station heard.
+// Kept as a number what the pen is handed, here and below: `pen::put_told` says why.
 fn put_verdict(pen: Pen, digits: &mut [u8], verdict: Result<(), Fault>, out: &mut [u8]) -> Pen
     requires { Ready pen digits.old out.old }
     ensures { Penned (answer_line (pen.lines + 1) Word.Frame (Response.Frame verdict)) pen out.old result digits.new out.new }

@@ -13,6 +13,7 @@ use capture_record::Entry;
 use pen::Word;
 
 // Blocks, damaged blocks among them, and the station that is followed, if one is. A flag beside it as in `Lister`: the columns hold a part of the station.
+// An Option of the other part would be taken apart at each turn of `put_blocks`.
 #[derive(Clone, Copy)]
 pub struct Parts {
     pub blocks: u64,
@@ -22,7 +23,7 @@ pub struct Parts {
 }
 
 // What a line tells of a record, the lister after it, and until when it is known to be clear then.
-// The answer is kept as its number, as `pen::put_told` takes it: the answer itself would be longer to hand on.
+// The answer is kept as its number, as `pen::put_told` takes it, which says why.
 #[derive(Clone, Copy)]
 pub struct Noted {
     pub word: Word,

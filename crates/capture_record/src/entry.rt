@@ -2,7 +2,8 @@
 ghost use Rattle.std.specs.Prelude.{◌≡◌};
 ghost use Rattle.capture_record.specs.Entries.{settings_of, entry_told, entry_means};
 
-// A frame's octets and a start's settings stay in the contents. What is malformed is a case and no refusal: the list notes it as a record of its own.
+// A frame's octets and a start's settings stay in the contents.
+// What is malformed is kept as a case: `entry_means` says so, and the list notes it as a record.
 #[derive(Clone, Copy)]
 pub enum Entry {
     // An unknown kind, or a wrong length.

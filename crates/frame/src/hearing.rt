@@ -18,7 +18,7 @@ use element::quiet::Quiet;
 use header::Cell;
 
 // Whether the Quiet elements of a frame replace all schedules, its Power Constraint, and its announcement.
-// Kept as a flag, and no Option of the Quiet elements: they are long to copy and stand beside it.
+// Kept as a flag: `by_frame` has the frame alone, whose Quiet elements stand beside, long to copy.
 #[derive(Clone, Copy)]
 pub struct Change {
     pub replaces: bool,

@@ -26,7 +26,9 @@ pub enum Matter {
     Uninterpreted,
 }
 
-// The eight densities stand beside what is reported, and are 0 where it is no RPI histogram.
+// The eight densities stand beside what is reported (`Found` says why), and are 0 where it is no
+// RPI histogram.
+// The type is kept as a number: a report may say of one over 2 why nothing was measured.
 #[derive(Clone, Copy)]
 pub struct Report {
     pub token: u8,

@@ -14,6 +14,7 @@ use owner::Owner;
 
 // The verdict on a frame, and the station after it: the same as before where the frame was refused.
 // Kept beside one another: a refused call gives the station back, and `take_of` promises which. The field says whose state it is.
+// The edit `refused_names`, which must fail, needs a station beside a refusal.
 #[derive(Clone, Copy)]
 pub struct Taken {
     pub verdict: Result<(), Fault>,

@@ -41,7 +41,8 @@ pub fn begin(lines: u64, digits: &mut [u8]) -> Pen
 }
 
 // The next line tells a call that was accepted: this word, the answer 0, and no offset.
-// Kept beside `put_told`: most lines are such, and end in constant octets, which is quicker.
+// Kept beside `put_told`: most lines are such, and end in constant octets, which is quicker
+// (docs/BENCHMARKS.md).
 pub fn put_accepted(pen: Pen, digits: &mut [u8], word: Word, out: &mut [u8]) -> Pen
     requires { Ready pen digits.old out.old }
     ensures penned { Penned (line_of (pen.lines + 1) word 0 None) pen out.old result digits.new out.new }
@@ -56,7 +57,8 @@ pub fn put_accepted(pen: Pen, digits: &mut [u8], word: Word, out: &mut [u8]) -> 
     }
 }
 
-// The next line tells this word, the number of this answer, and where a frame broke. The answer itself would be longer to hand on.
+// The next line tells this word, the number of this answer, and where a frame broke.
+// Kept as a number: with the answer itself frames were slower (docs/BENCHMARKS.md).
 pub fn put_told(
     pen: Pen,
     digits: &mut [u8],

@@ -100,6 +100,7 @@ fn put_offset(offset: Option<usize>, out: &mut [u8], at: usize) -> usize
 }
 
 // The line of a record or a damaged block, and where it ends: its number, its word, the answer, and where a frame broke.
+// The answer is kept as a number, as in `put_told`.
 pub fn put_line(
     digits: &[u8],
     from: usize,

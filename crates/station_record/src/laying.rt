@@ -24,6 +24,7 @@ fn lay_settings(station: &Station, memory: &mut [u8])
 }
 
 // A pending switch, or zeros where there is none.
+// Kept beside `beacon::held_power`: this one has eleven octets, and puts them in place.
 #[tactic(auto, using(crate::proofs::Laid::pending_put))]
 fn lay_pending(pending: Option<Switch>, memory: &mut [u8])
     requires { size ≤ length memory.old }
