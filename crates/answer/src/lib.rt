@@ -140,6 +140,7 @@ impl Fault {
     }
 }
 
+// Kept beside number: it reads the refusal out of a Fault, and one over a trait of both would be longer.
 // The number of what a call answers that is handed a frame: 0 for accepted, and else the refusal's.
 pub fn verdict_number(verdict: Result<(), Fault>) -> u8
     ensures { result ≡ verdict_number verdict }

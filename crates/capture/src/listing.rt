@@ -27,6 +27,7 @@ pub struct Put {
 }
 
 // What stands at the place where a block may begin: no block, or a damaged or a whole one that ends at `end`. The records of a whole one end at `stop`.
+// Kept as an enum of its own: an Option of a Result would name the three cases in two steps.
 #[derive(Clone, Copy)]
 enum BlockAt {
     End,

@@ -14,6 +14,7 @@ use station::Advanced;
 
 // What stands at a place of the used part: an advance to a moment, a question that is granted, each with the place where it ends, or another record
 // or none.
+// Kept as an enum of its own: three cases of which two have values, where an Option would hold another enum.
 #[derive(Clone, Copy)]
 pub enum Plain {
     Goes { clock: u32, end: usize },

@@ -11,6 +11,7 @@ pub use entry::{Entry, Settings, entry_of, settings_in};
 
 // What stands at a place of the used part of a block: nothing, a record that runs past the end, or a record with its contents from
 // `start` up to `end`.
+// Kept as an enum of its own: an Option of a Result would name the three cases in two steps.
 #[derive(Clone, Copy)]
 pub enum Found {
     End,

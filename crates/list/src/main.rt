@@ -24,6 +24,7 @@ const INPUT: usize = BLOCKS * block::SIZE;
 const OUTPUT: usize = BLOCKS * Lister::ROOM;
 
 // Where the listing stands after a buffer that was listed: there is more of the input, or it has ended.
+// Kept as an enum of its own: both cases hold the lister, and Ok and Err would call the end a failure.
 #[derive(Clone, Copy)]
 enum Listed {
     More(Lister),

@@ -37,6 +37,7 @@ fn plain(request: Request, matter: Matter) -> Report
     }
 }
 
+// Kept as three: they differ in the type, in what is worked out, and in which of it may fail.
 // A map answers type 0. The type is kept as a number, here and below, as `Request` has it.
 fn map_report(request: Request, span: Span, map: u8) -> Result<Report, Refusal>
     ensures { result ≡ map_report request.token request.kind span map }

@@ -30,6 +30,7 @@ pub struct Opening {
 }
 
 // An element that is to be put: its own token, whether it may be written at all, and its octets.
+// Kept as a flag beside the octets: Written, which is promised, takes both, and octets::put takes both so.
 #[derive(Clone, Copy)]
 pub struct Element<'a> {
     pub token: u8,

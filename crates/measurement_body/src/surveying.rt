@@ -9,6 +9,7 @@ use answer::{Fault, Refusal};
 use walk::Contents;
 
 // What one walk finds out.
+// Kept as flags: each is a fact of all elements, and no value beside it hangs on it.
 #[derive(Clone, Copy)]
 pub struct Surveyed {
     // how many elements there are

@@ -67,6 +67,7 @@ pub fn put_return(
     Ok(count)
 }
 
+// Kept beside put_report: each builds a body of its own, and put_frame is what both share.
 // A TPC Report frame.
 pub fn put_tpc_report(
     own: [u8; 6],

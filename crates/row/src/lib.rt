@@ -65,6 +65,7 @@ impl Row {
         self.joined && own == self.station.own
     }
 
+    // Kept beside hear: both are two lines after the same test, and one over a closure would promise by the closure.
     // What its station's advance by so many TU leaves, which is the same station where that is refused; a free row stays so.
     #[tactic(auto, unfolding(crate::specs::Rows::row_ticked))]
     pub fn advance(self, units: u32) -> Row

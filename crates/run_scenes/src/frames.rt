@@ -11,6 +11,7 @@ use scene::verb::Form;
 use scene::{answers, fields, made, say};
 use std::io::Write;
 
+// Kept as three: they differ in who sends, who receives and where the frame's numbers begin, and each is one call.
 // A frame of the AP to the station.
 pub fn of_ap(form: Form, call: Call, frame: &mut [u8]) -> usize
     ensures { result ≤ 2400 }

@@ -16,6 +16,7 @@ const VENDOR: u8 = 221;
 
 // What stands at a place of a run: nothing, this one octet that is no header, a header whose contents run past the end, or an
 // element with its contents from `start` up to `end`.
+// Kept as an enum of its own: an Option of a Result would name the four cases in two steps.
 #[derive(Clone, Copy)]
 pub enum Found {
     End,
