@@ -82,6 +82,7 @@ impl Columns {
     }
 
     // The schedules that Quiet elements set, so many, go into the first rows.
+    // Kept: that the interval is not 0 stands in the contract, as for `replace` of a station.
     pub(crate) fn set(&mut self, quiets: [Quiet; QUIETS], count: usize, clock: u32, interval: u16)
         requires { (1 ≤ interval) × (count ≤ quiet_limit) }
         ensures schedules { schedules_in count self.new ≡ schedules_of (clock / interval) interval (take count quiets) }

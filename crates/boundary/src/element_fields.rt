@@ -23,7 +23,7 @@ const DENSITIES: usize = 15;
 pub const REPORT: usize = 23;
 
 // A Quiet element as in its contents: count, period, duration, offset.
-// Kept octet by octet: six octets by slices are no shorter.
+// Kept as one literal, in the order of the octets: by slices each number would need its place.
 pub fn of_quiet(quiet: Quiet) -> [u8; 6]
     ensures { result ≡ quiet_contents quiet }
 {

@@ -30,6 +30,7 @@ fn asks(number: u8, request: bool, report: bool, span: Span) -> measurement_requ
     }
 }
 
+// Kept as parameters, here and of a report: the C interface hands each field by itself.
 pub fn request(
     token: u8,
     kind: u8,

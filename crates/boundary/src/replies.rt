@@ -39,6 +39,7 @@ pub fn finding(number: u8, value: u32) -> Finding
     }
 }
 
+// The eight times are kept as parameters, here and elsewhere: the C interface hands numbers.
 #[unsafe(no_mangle)]
 pub extern "C" fn oneiralth_reply_to_measurement_request(
     frame: &[u8],

@@ -17,6 +17,8 @@ pub struct Progress {
 }
 
 // Lines after the `at` octets before them, or 13 where they do not fit: stored where `store` says so.
+// Kept as a flag: of a list that does not fit nothing may be put, so the blocks are passed twice,
+// and both passes are one walk.
 fn put_lines(lines: &[u8], store: bool, out: &mut [u8], at: usize) -> Result<usize, Refusal>
     requires { at ≤ length out.old }
     ensures { Passes store lines.now at out.old result out.new }

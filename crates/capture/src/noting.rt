@@ -23,7 +23,8 @@ pub struct Answered {
 }
 
 // A malformed record: there is no station after it.
-// Kept: `Follows` stands in each contract here: each says what its own record does to the lister.
+// Kept: `Follows` stands in each contract here: it relates the lister handed in to the one handed
+// back, so it is no fact of one type.
 fn malformed(lister: Lister) -> Answered
     ensures tells { line_for result ≡ bad_record lister }
     ensures follows { Follows lister result.lister }

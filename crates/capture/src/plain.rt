@@ -62,6 +62,7 @@ pub struct Ran {
 }
 
 // The lines of such records from a place on, up to the first other record; where no station is followed there are none.
+// Kept as parameters: the digits are lent and the pen is copied, so no type holds both.
 pub fn run(
     used: &[u8],
     from: Ran,

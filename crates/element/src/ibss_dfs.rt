@@ -105,7 +105,7 @@ pub fn write(
     if !may_write(owner, recovery, pairs.len()) {
         return Err(Refusal::Impossible);
     }
-    // Kept octet by octet: a head of nine octets by slices is no shorter.
+    // Kept as one literal, in the order of the octets: by slices the owner would need its place.
     let head = [
         ID,
         (FIXED_LENGTH + pairs.len()) as u8,

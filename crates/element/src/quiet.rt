@@ -48,7 +48,7 @@ pub fn write(quiet: Quiet, interval: u16, buffer: &mut [u8], at: usize) -> Resul
 {
     let duration = octets::octets16(quiet.duration);
     let offset = octets::octets16(quiet.offset);
-    // Kept octet by octet: eight octets by slices are no shorter.
+    // Kept as one literal, in the order of the octets: by slices each number would need its place.
     let element = [
         ID,
         6,

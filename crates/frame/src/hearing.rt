@@ -63,6 +63,7 @@ impl Change {
 }
 
 // The first `count` slots are the Quiet elements in the order of the frame, and the others are blank.
+// Kept as an array and a count, as in `beacon::Heard`: there is no heap.
 #[derive(Clone, Copy)]
 pub struct Hearing {
     pub change: Change,

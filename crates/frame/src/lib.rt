@@ -42,6 +42,7 @@ pub enum Frame {
 
 // What was received: the frame, whether it was sent to all ones, and the Quiet elements of a beacon or a probe response beside it,
 // the first `count` slots in the order of the frame and the others blank.
+// Kept as an array and a count, as in `beacon::Heard`: there is no heap.
 #[derive(Clone, Copy)]
 pub struct Received {
     pub frame: Frame,
@@ -116,7 +117,8 @@ fn body_kind(subtype: Subtype) -> BodyKind
 }
 
 // A frame that a station hears: `own` is its address, `ap` its AP's, `interval` its beacon interval.
-// Kept as parameters: the C interface hands them one by one.
+// Kept as parameters: the C interface and a station's fields have them one by one, so each caller
+// would put a struct together first.
 #[tactic(auto, unfolding(crate::specs::Frames::frame_means))]
 pub fn read(frame: &[u8], own: [u8; 6], ap: [u8; 6], interval: u16) -> Result<Received, Fault>
     ensures { result ≡ frame_laid (frame_means own ap interval frame.now) }

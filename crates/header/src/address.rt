@@ -6,7 +6,7 @@ ghost use Rattle.header.specs.Headers.{same, da, sa, to_all, foreign_sender, for
 use answer::Refusal;
 
 // Whose frames a station takes: its AP's, whose address is the BSSID (document 01), or those of any member of its IBSS (document 02, Five).
-// Kept as an enum: two matches, and a trait would be longer.
+// Kept as an enum: only `is_foreign_sender` and `reply` match on it, and a trait would be longer.
 #[derive(Clone, Copy)]
 pub enum Cell {
     Ap,

@@ -5,7 +5,7 @@ ghost use Rattle.measurement_body.specs.Kinds.{sort_of};
 
 use measurement_element::{measurement_report, measurement_request};
 
-// Kept as an enum: theorems say `sort_of` of it.
+// Kept as an enum: what `survey` promises says `sort_of` of it.
 #[derive(Clone, Copy)]
 pub enum Kind {
     Requests,

@@ -260,7 +260,8 @@ pub fn may_write(report: Report) -> bool
 }
 
 // The element's octets, and after those of a shorter report some that are not written.
-// Kept octet by octet, and the count beside them: `report_built` says them one by one, and there is no heap.
+// Kept as one literal, in the order of `report_built`: by slices each part would need its place.
+// The count is kept beside it: there is no heap.
 pub fn to_octets(report: Report) -> [u8; 24]
     ensures { (length result ≡ 24) × (take (length (report_octets report)) result ≡ report_octets report) × (result ≡ report_built report) }
 {

@@ -168,7 +168,8 @@ pub fn may_write(request: Request) -> bool
 }
 
 // The element's octets, and after those of an Enable element some that are not written.
-// Kept octet by octet, and the count beside them: `request_built` says them one by one, and there is no heap.
+// Kept as one literal, in the order of `request_built`: by slices each part would need its place.
+// The count is kept beside it: there is no heap.
 pub fn to_octets(request: Request) -> [u8; 16]
     ensures { (length result ≡ 16) × (take (length (request_octets request)) result ≡ request_octets request) × (result ≡ request_built request) }
 {

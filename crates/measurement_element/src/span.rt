@@ -23,7 +23,7 @@ impl Span {
     }
 
     // Channel, start and duration.
-    // Kept octet by octet: eleven octets by slices are no shorter.
+    // Kept as one literal, in the order of the octets: by slices each number would need its place.
     pub fn to_octets(self) -> [u8; 11]
         ensures { result ≡ span_octets self }
     {

@@ -15,7 +15,7 @@ pub struct Stepped {
 }
 
 // How many TBTTs lie after one moment and no later than another.
-// Kept: that the interval is not 0 stands in the contract, as `Valid` does for a station.
+// Kept: that the interval is not 0 stands in the contract: a station's field holds 0 in `nobody`.
 fn tbtts_between(moment: u32, later: u32, interval: u16) -> u32
     requires { (1 ≤ interval) × (moment ≤ later) }
     ensures { result ≡ later / interval - moment / interval }

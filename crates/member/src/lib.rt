@@ -15,7 +15,7 @@ use station::{Permission, Station};
 pub use taking::Taken;
 
 // The station keeps and answers what document 01 says, with the BSSID for its AP.
-// Kept: `ValidMember` stands in the contracts, as `Valid` does for a station.
+// Kept: `ValidMember` stands in the contracts, as `Valid` of a station: the fields are public.
 #[derive(Clone, Copy)]
 pub struct Member {
     pub station: Station,

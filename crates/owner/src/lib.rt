@@ -6,7 +6,8 @@ ghost use Rattle.owner.specs.Owners.{is_owner, named, heard_from, past_tbtts, Ow
 
 // What is kept of an owner while one is known: its address, after how many misses it is given up, how many there were, and whether a beacon from it was
 // accepted since the latest TBTT. At start none is known.
-// Kept: `OwnerFits` stands in the contracts, as `Valid` does for a station: the fields are public.
+// Kept: `OwnerFits` stands in the contracts: `named` takes an interval of 0 too, and makes an owner
+// that does not fit.
 #[derive(Clone, Copy)]
 pub struct Owner {
     pub address: [u8; 6],

@@ -20,7 +20,7 @@ const LONGEST_REPLY_BODY: usize = 27;
 
 // An action frame to another of the cell: flags, duration and sequence control are 0. The three addresses are kept as parameters: the definitions take them one
 // by one, and a struct would be taken apart for each.
-// Kept octet by octet: `head_to` says them one by one.
+// Kept octet by octet: by slices it is a blank head and four puts at their places, which is longer.
 fn head(own: [u8; 6], to: [u8; 6], bssid: [u8; 6]) -> [u8; header::LENGTH]
     ensures { result ≡ head_to own to bssid }
 {

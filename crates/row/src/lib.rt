@@ -21,7 +21,7 @@ pub const ROWS: usize = 16;
 
 // Where it is free, `station` is one fixed station that no call may be handed. Kept as a flag beside it: the edit `old_schedules_kept`, which must
 // fail, needs a station in a row that is free.
-// Kept: `ValidRow` and `ValidRows` stand in the contracts, as `Valid` does for a station.
+// Kept: `ValidRow` and `ValidRows` stand in the contracts, as `Valid` does: the fields are public.
 #[derive(Clone, Copy)]
 pub struct Row {
     pub joined: bool,

@@ -42,7 +42,8 @@ fn fresh(subject: Subject) -> Stage
 }
 
 // The stage after a call.
-// Kept as a match: a scene's start names one of the three, and the others are as they were begun.
+// Kept as a match: only as a scene is read it is known which of the three is played, and `Played`
+// has calls over any writer, so no `dyn` holds one.
 fn after<W: Write>(page: &mut Page<W>, mut stage: Stage, call: Call) -> Stage
     requires { ValidStage stage }
     ensures { ValidStage result }

@@ -12,7 +12,8 @@ pub const ROOM: usize = 128;
 
 pub const WHOLE: usize = 16;
 
-// The octets are kept beside the numbers, and a count: numbers of all the places would be eight times as long, and there is no heap.
+// Kept: the octets beside the numbers, since they are lent as slices, which numbers are not; and a
+// count, since there is no heap.
 #[derive(Clone, Copy)]
 pub struct Call {
     pub verb: Verb,

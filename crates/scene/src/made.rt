@@ -24,7 +24,7 @@ const BODY: usize = 24;
 const INTERVAL: usize = 32;
 
 // How many octets the longest frame of a scene has.
-// Kept: this bound stands in the contracts: a slice handed back would lend the frame on.
+// Kept: this bound stands in the contracts: a slice handed back would keep the buffer lent.
 // A frame is kept as a buffer of the caller's and a length: there is no heap.
 pub const LONGEST: usize = 2400;
 

@@ -6,7 +6,7 @@ use element::channel_switch::ChannelSwitch;
 use element::tpc_report::TpcReport;
 use element::{channel_switch, tpc_report, tpc_request};
 
-// Kept as an enum: theorems say `id_of` and `contents_mean` of it.
+// Kept as an enum: what `read` promises says `id_of` and `contents_mean` of it.
 #[derive(Clone, Copy)]
 pub enum Kind {
     TpcRequest,

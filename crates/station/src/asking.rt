@@ -24,7 +24,7 @@ pub enum Permission {
 
 impl Permission {
     // The answer's number.
-    // Kept as a match, as the number of a refusal.
+    // Kept as a match like the number of a refusal, so that both are read in one way.
     pub fn number(self) -> u8
         ensures { result ≡ permission_number self }
     {

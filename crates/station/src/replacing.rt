@@ -13,7 +13,8 @@ use element::quiet::Quiet;
 use schedule::Schedule;
 
 // How far the slots are gone through, and how many are in use after that.
-// Kept: that no count is over the number of slots stands in the contracts: a type of its own would be longer.
+// Kept: that no count is over the number of slots stands in the contracts: a type of its own would
+// be taken apart at each slice and each index.
 #[derive(Clone, Copy)]
 pub struct Extent {
     pub top: usize,
@@ -60,6 +61,7 @@ pub struct Replaced {
 
 // The schedules of Quiet elements take the place of those there were, slot by slot: of these a run that has begun keeps its whole length, and of
 // several the latest end counts (document 02, Two). A blank slot ends nothing. It is one pass over one copy, since the schedules are long to copy.
+// Kept: that the interval is not 0 stands in the contract: a station's field holds 0 in `nobody`.
 pub fn replace(
     schedules: [Schedule; QUIETS],
     until: u64,

@@ -19,7 +19,7 @@ use row::Row;
 pub use taking::Taken;
 
 // What is kept between calls. Every station that is joined has the table's AP, interval and clock.
-// Kept: `ValidTable` stands in the contracts, as `Valid` does for a station.
+// Kept: `ValidTable` stands in the contracts, as `Valid` does for a station: the fields are public.
 #[derive(Clone, Copy)]
 pub struct Table {
     pub ap: [u8; 6],
