@@ -61,7 +61,7 @@ pub extern "C" fn oneiralth_station_ask(station: &[u8], units: u32) -> u64
 {
     match station_record::ask(station, units) {
         Err(refusal) => codes::refused(refusal),
-        Ok(permission) => permission.number() as u64,
+        Ok(permission) => u64::from(permission.number()),
     }
 }
 

@@ -66,10 +66,7 @@ fn goes_on(entry: Entry, end: usize, stop: usize) -> usize
 fn is_heard(entry: Entry, active: bool) -> bool
     ensures { result ≡ heard_by active entry }
 {
-    match entry {
-        Entry::Frame => active,
-        _ => false,
-    }
+    active && matches!(entry, Entry::Frame)
 }
 
 // The line of a frame that a station heard.

@@ -37,9 +37,6 @@ impl Kind {
     pub fn has_tokens_once(self) -> bool
         ensures { result ≡ (sort_of self).once }
     {
-        match self {
-            Kind::Requests => true,
-            Kind::Reports => false,
-        }
+        matches!(self, Kind::Requests)
     }
 }

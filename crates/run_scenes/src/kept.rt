@@ -10,7 +10,7 @@ use std::io::Write;
 pub fn show<W: Write>(page: &mut Page<W>, station: Station, call: Call) {
     match call.verb {
         Verb::Channel => say::octet(page, station.channel),
-        Verb::Clock => say::number(page, station.clock as u64),
+        Verb::Clock => say::number(page, u64::from(station.clock)),
         Verb::Constraint => fields::kept(page, station.power),
         Verb::Pending => fields::pending(page, station.pending),
         _ => alone::show(page, call),
@@ -18,7 +18,7 @@ pub fn show<W: Write>(page: &mut Page<W>, station: Station, call: Call) {
 }
 
 pub fn all<W: Write>(page: &mut Page<W>, station: Station) {
-    say::number(page, station.clock as u64);
+    say::number(page, u64::from(station.clock));
     say::octet(page, station.channel);
     fields::kept(page, station.power);
     fields::pending(page, station.pending);

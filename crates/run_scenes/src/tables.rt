@@ -86,7 +86,7 @@ impl Played for Table {
                 say::octet(page, table::number(asked));
             }
             Verb::Row => row(page, self, made::named(octets[1], octets[2])),
-            Verb::Clock => say::number(page, self.clock as u64),
+            Verb::Clock => say::number(page, u64::from(self.clock)),
             Verb::Reply(to) => reply(page, self, to, call),
             _ => alone::show(page, call),
         }

@@ -15,10 +15,7 @@ fn seat_among(sitting: Option<usize>, vacant: Option<usize>) -> Result<usize, Re
 {
     match sitting {
         Some(_) => Err(Refusal::AlreadyJoined),
-        None => match vacant {
-            None => Err(Refusal::NoFreeRow),
-            Some(place) => Ok(place),
-        },
+        None => vacant.ok_or(Refusal::NoFreeRow),
     }
 }
 

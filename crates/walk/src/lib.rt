@@ -40,7 +40,7 @@ pub fn element_at(run: &[u8], at: usize) -> Found
         return Found::CutHeader(id);
     }
     let start = at + 2;
-    let length = octets::octet_at(run, at + 1) as usize;
+    let length = usize::from(octets::octet_at(run, at + 1));
     if run.len() - start < length {
         return Found::CutContents(id);
     }
