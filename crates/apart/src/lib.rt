@@ -56,6 +56,7 @@ fn left_after(switch: Option<ChannelSwitch>, count: usize) -> usize
 }
 
 impl Apart {
+    // Kept field by field, here and in `whole`: a Station in it would bring the schedules along, which are long to copy.
     // What a station keeps beside its schedules.
     fn beside(station: Station) -> Apart
         ensures { result ≡ apart_of station }

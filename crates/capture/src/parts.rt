@@ -46,6 +46,7 @@ fn clear_after(lister: Lister, entry: Entry) -> u64
 }
 
 impl Parts {
+    // Kept field by field, here and in `whole`: a Lister in it would bring the schedules along, which are long to copy.
     // The parts of a lister, with its station's schedules in the columns.
     pub fn of(lister: Lister, columns: &mut Columns) -> Parts
         requires { Sound lister }

@@ -60,6 +60,7 @@ impl Station {
         duration: 0,
     };
 
+    // Kept field by field, here and in `with`: callers and theorems name the fields of a Station, of which a Rest is a part.
     // What it keeps beside its addresses and its schedules, where it stays quiet until then.
     pub fn rest(self, until: u64) -> Rest
         ensures { result ≡ rest_of self until }

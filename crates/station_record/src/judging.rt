@@ -34,6 +34,7 @@ fn is_switch_broken(switch: Switch, flag: u8, clock: u32) -> bool
     ensures { result ≡ switch_broken switch flag clock }
 {
     if flag == 0 {
+        // Kept field by field: equality of a Switch is asked nowhere else.
         return switch.at != 0 || switch.mode != 0 || switch.channel != 0;
     }
     flag != 1

@@ -15,6 +15,7 @@ impl Table {
         ensures value { result ≡ tick_of self units }
         ensures kept { ValidTable result.table }
     {
+        // Kept beside that of a station: a table has a clock without any station, and no switch that is pending.
         if Station::UNIT_LIMIT < units || Station::CLOCK_LIMIT - self.clock < units {
             return Stepped::refused(Refusal::PastClock, self);
         }
