@@ -35,7 +35,7 @@ pub fn survey(body: &[u8], kind: Kind, index: usize, token: u8) -> Result<Survey
         let at_element = |refusal| Fault::at(refusal, at);
         let contents = walk::required_at(body, at, kind.id()).map_err(at_element)?;
         let judged = judging::judge(kind, &body[contents.start..contents.end]).map_err(at_element)?;
-        // Kept as casts, here and below: with usize::from the proof did not close.
+        // Casts as yet, here and below: with usize::from the answers do not fit as they stand.
         let mark = judged.token as usize;
         if kind.has_tokens_once() && marks[mark] {
             return Err(Fault::at(Refusal::Repeated, at));

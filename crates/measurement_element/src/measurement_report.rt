@@ -299,7 +299,7 @@ pub fn to_octets(report: Report) -> [u8; 24]
 pub fn octet_count(report: Report) -> usize
     ensures { (result ≡ length (report_octets report)) × (result ≤ 24) }
 {
-    // Kept as a cast: with usize::from the proof did not close.
+    // A cast as yet: with usize::from the answers do not fit as they stand.
     2 + (size_of(report.matter) as usize)
 }
 

@@ -199,7 +199,7 @@ pub fn to_octets(request: Request) -> [u8; 16]
 pub fn octet_count(request: Request) -> usize
     ensures { (result ≡ length (request_octets request)) × (result ≤ 16) }
 {
-    // Kept as a cast: with usize::from the proof did not close.
+    // A cast as yet: with usize::from the answers do not fit as they stand.
     2 + (size_of(request.matter) as usize)
 }
 

@@ -41,7 +41,7 @@ impl Station {
         interval == 0 || Station::CHANNEL_LIMIT < channel || own[0] % 2 == 1 || ap[0] % 2 == 1
     }
 
-    // Kept as four: C and the callers have each apart, and a record of them would be put together for one call.
+    // Four as yet: C hands each apart, but a record of a capture has them as one (capture_record::Settings).
     #[tactic(auto, unfolding(crate::specs::Starting::start_means, answer::specs::Checks::checked), using(crate::proofs::StaysValid::valid_fresh))]
     pub fn start(own: [u8; 6], ap: [u8; 6], interval: u16, channel: u8) -> Result<Station, Refusal>
         ensures value { result ≡ start_means own ap interval channel }
