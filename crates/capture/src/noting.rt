@@ -62,7 +62,8 @@ fn start(lister: Lister, contents: &[u8]) -> Answered
     }
 }
 
-// A record that comes with no station started.
+// A record that comes with no station started. `Parts::note` answers it before it puts a lister together; it is here since `note` promises the line of every
+// record.
 fn unstarted(lister: Lister, word: Word) -> Answered
     requires { Sound lister }
     ensures tells { line_for result ≡ no_station lister word }

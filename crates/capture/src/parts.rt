@@ -4,10 +4,11 @@ ghost use Rattle.apart.specs.declared.columns.Columns.{Columns};
 ghost use Rattle.beacon.specs.Beacons.{quiet_limit};
 ghost use Rattle.capture_record.specs.declared.entry.Entry.{Entry};
 ghost use Rattle.station.specs.Clear.{Clear};
-ghost use Rattle.capture.specs.CodeTerms.Parts.{lister_of, PartsOf, NotedAs};
+ghost use Rattle.capture.specs.CodeTerms.Parts.{lister_of, PartsOf, unstarted, NotedAs};
 ghost use Rattle.capture.specs.Listers.{without, Sound};
 
 use crate::{Lister, noting};
+use answer::Refusal;
 use apart::{Apart, Columns};
 use capture_record::Entry;
 use pen::Word;
@@ -86,20 +87,41 @@ impl Parts {
         }
     }
 
+    // A record that comes with no station started: nothing changes, so that no lister is put together for it.
+    fn unstarted(self, word: Word) -> Noted
+        ensures { result ≡ unstarted self word }
+    {
+        Noted {
+            word,
+            number: Refusal::NoStation.number(),
+            offset: None,
+            parts: self,
+            clear: 0,
+        }
+    }
+
     // A record after so many lines, but for the frames that a station hears.
+    #[tactic(auto, using(crate::proofs::Together::advance_unstarted, crate::proofs::Together::ask_unstarted, crate::proofs::Together::frame_unstarted))]
     pub fn note(self, lines: u64, entry: Entry, contents: &[u8], columns: &mut Columns) -> Noted
         requires few { self.apart.count ≤ quiet_limit }
         requires sound { Sound (lister_of self lines columns.old) }
         requires unheard { entry ≡ Entry.Frame → self.active ≡ false }
         ensures { NotedAs (lister_of self lines columns.old) contents.now entry result columns.new }
     {
-        let answered = noting::note(self.whole(lines, columns), entry, contents);
-        Noted {
-            word: answered.word,
-            number: answered.answer.number(),
-            offset: answered.answer.offset(),
-            parts: Parts::of(answered.lister, columns),
-            clear: clear_after(answered.lister, entry),
+        match entry {
+            Entry::Advance(_) if !self.active => self.unstarted(Word::Advance),
+            Entry::Ask(_) if !self.active => self.unstarted(Word::Ask),
+            Entry::Frame => self.unstarted(Word::Frame),
+            _ => {
+                let answered = noting::note(self.whole(lines, columns), entry, contents);
+                Noted {
+                    word: answered.word,
+                    number: answered.answer.number(),
+                    offset: answered.answer.offset(),
+                    clear: clear_after(answered.lister, entry),
+                    parts: Parts::of(answered.lister, columns),
+                }
+            }
         }
     }
 }

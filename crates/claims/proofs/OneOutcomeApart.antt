@@ -16,6 +16,8 @@ use Rattle.apart.specs.declared.Apart.{Apart}
 use Rattle.apart.specs.declared.columns.Columns.{Columns}
 use Rattle.frame.proofs.hear as FrameHear
 use Rattle.frame.proofs.hearing.Change.by_frame as ByFrame
+use Rattle.frame.proofs.hearing.Change.by_reading as ByReading
+use Rattle.frame.proofs.verdict_on as VerdictOn
 use Rattle.station.proofs.Station.rest as StationRest
 use Rattle.station.proofs.changing.Rest.announced as RestAnnounced
 use Rattle.station.proofs.changing.Rest.constrained as RestConstrained
@@ -32,6 +34,12 @@ frame_hear κs a e f x y p q = once p q
 
 pub change_by_frame : OneResult 0 ByFrame.Kinds.ps ByFrame.Kinds.r ByFrame.Reads.Post
 change_by_frame κs a e f x y p q = once p q
+
+pub change_by_reading : OneResult 0 ByReading.Kinds.ps ByReading.Kinds.r ByReading.Reads.Post
+change_by_reading κs a e f x y p q = once p q
+
+pub verdict_on_lem : OneResult 0 VerdictOn.Kinds.ps VerdictOn.Kinds.r VerdictOn.Reads.Post
+verdict_on_lem κs a e f x y p q = once p q
 
 -- ---- what it keeps beside its schedules
 

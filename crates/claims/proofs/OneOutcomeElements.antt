@@ -5,6 +5,7 @@ use Rattle.element.proofs.ibss_dfs.pair_at as DfsPairAt
 use Rattle.element.proofs.ibss_dfs.read as DfsRead
 use Rattle.element.proofs.ibss_dfs.write as DfsWrite
 use Rattle.measurement_element.proofs.measurement_report.read as ReportRead
+use Rattle.measurement_element.proofs.measurement_report.refused as ReportRefused
 use Rattle.measurement_element.proofs.measurement_report.write as ReportWrite
 use Rattle.measurement_element.proofs.measurement_request.read as RequestRead
 use Rattle.measurement_element.proofs.measurement_request.write as RequestWrite
@@ -117,6 +118,9 @@ report_octet_count κs a e f x y p q = once p.0 q.0
 
 pub report_to_octets : OneResult 0 ReportToOctets.Kinds.ps ReportToOctets.Kinds.r ReportToOctets.Reads.Post
 report_to_octets κs a e f x y p q = once p.2 q.2
+
+pub report_refused : OneResult 0 ReportRefused.Kinds.ps ReportRefused.Kinds.r ReportRefused.Reads.Post
+report_refused κs a e f x y p q = once p q
 
 -- ---- where and when something is measured
 

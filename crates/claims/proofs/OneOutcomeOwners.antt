@@ -4,7 +4,11 @@ use Rattle.owner.proofs.heard_from as HeardFrom
 use Rattle.owner.proofs.is_owner as IsOwner
 use Rattle.owner.proofs.named as Named
 use Rattle.owner.proofs.past as Past
+use Rattle.owner.proofs.unknown as Unknown
 use Rattle.claims.proofs.Same.{once}
+
+pub owner_unknown : OneResult 0 Unknown.Kinds.ps Unknown.Kinds.r Unknown.Reads.Post
+owner_unknown κs a e f x y p q = once p.0 q.0
 
 pub owner_is : OneResult 0 IsOwner.Kinds.ps IsOwner.Kinds.r IsOwner.Reads.Post
 owner_is κs a e f x y p q = once p q

@@ -3,7 +3,7 @@
 ghost use Rattle.std.specs.Prelude.{◌≡◌, Bool, false, [], ◌≤◌, length};
 ghost use Rattle.answer.specs.Faults.{placed_past};
 ghost use Rattle.frame.specs.Frames.{kind_of, sent, frame_means};
-ghost use Rattle.frame.specs.Hearing.{by_notice, by_frame, heard_of, hearing_of};
+ghost use Rattle.frame.specs.Hearing.{verdict_on, by_notice, by_frame, by_reading, heard_of, hearing_of};
 ghost use Rattle.frame.specs.Laid.{received, frame_laid, notice_subtype};
 ghost use Rattle.header.specs.Headers.{header_length};
 ghost use Rattle.header.specs.declared.management.Subtype.{Subtype};
@@ -60,6 +60,20 @@ impl Change {
             | Frame::TpcReport { .. } => Change::NOTHING,
         }
     }
+
+    // By what was read: a refused frame changes nothing.
+    pub fn by_reading(reading: Result<Frame, Fault>) -> Change
+        ensures { result ≡ by_reading reading }
+    {
+        reading.map_or(Change::NOTHING, Change::by_frame)
+    }
+}
+
+// The verdict on what was read.
+pub fn verdict_on(reading: Result<Frame, Fault>) -> Result<(), Fault>
+    ensures { result ≡ verdict_on reading }
+{
+    reading.map(|_| ())
 }
 
 // The first `count` slots are the Quiet elements in the order of the frame, and the others are blank.

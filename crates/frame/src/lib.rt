@@ -24,7 +24,7 @@ use element::channel_switch::ChannelSwitch;
 use element::quiet::Quiet;
 use element::tpc_report::TpcReport;
 use header::{Cell, Subtype};
-pub use hearing::{Change, Hearing, hear};
+pub use hearing::{Change, Hearing, hear, verdict_on};
 pub use ibss::{ReceivedInIbss, dfs_pair_at, read_in_ibss};
 pub use index::{Asked, read_request, report_at, request_at, request_in};
 

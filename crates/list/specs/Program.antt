@@ -66,3 +66,23 @@ TurnFits (Ok (Listed.Last l)) = Fits l
 -- the lister is one that some file leaves
 abbrev pub LeftByFile : Lister → Type 0
 LeftByFile l = (file : List ℕ) × (l ≡ (file_told file).lister)
+
+-- and that file ends with a block
+pub record LeftByBlocks (l : Lister) : Type 0 where
+  pub file : List ℕ
+  pub same : l ≡ (file_told file).lister
+  pub cut : length file % block_size ≡ 0
+
+-- as long as the listing goes on the file ends with a block
+abbrev pub Reached : Result Listed Cut → Type 0
+Reached (Err c) = Unit {0}
+Reached (Ok (Listed.More l)) = LeftByBlocks l
+Reached (Ok (Listed.Last l)) = LeftByFile l
+
+-- ---- the end
+
+-- a whole listing is closed; one that did not come to an end has too many blocks; one that was cut stays so
+abbrev pub ClosedAs : Result Listed Cut → Result Unit Cut → Type 0
+ClosedAs (Err c) result = result ≡ Err c
+ClosedAs (Ok (Listed.More l)) result = result ≡ Err Cut.TooLong
+ClosedAs (Ok (Listed.Last l)) result = (result ≡ Ok tt) ⊎ (result ≡ Err Cut.WriteFailed)

@@ -5,10 +5,10 @@
 mod input;
 mod output;
 
-ghost use Rattle.std.specs.Prelude.{length, ◌%◌, ◌≡◌, IfOk};
+ghost use Rattle.std.specs.Prelude.{length, ◌%◌, ◌≡◌};
 ghost use Rattle.block.specs.Blocks.{block_size};
 ghost use Rattle.capture.specs.Listers.{Fits};
-ghost use Rattle.list.specs.Program.{Within, PieceOf, Turned, TurnFits, LeftByFile};
+ghost use Rattle.list.specs.Program.{Within, PieceOf, Turned, TurnFits, Reached};
 
 use capture::Lister;
 use input::Filled;
@@ -73,25 +73,25 @@ fn list_all<R: Read, W: Write>(
     to: &mut W,
     input: &mut [u8],
     out: &mut [u8],
-) -> Result<Lister, Cut>
+) -> Result<Listed, Cut>
     requires { length input.old % block_size ≡ 0 }
-    ensures { IfOk result LeftByFile }
+    ensures { Reached result }
 {
     let mut lister = Lister::fresh();
     'turns: for _ in 0..Lister::BLOCK_LIMIT {
         match turn(from, to, lister, input, out)? {
             Listed::More(next) => lister = next,
-            Listed::Last(last) => return Ok(last),
+            Listed::Last(last) => return Ok(Listed::Last(last)),
         }
     }
-    Err(Cut::TooLong)
+    Ok(Listed::More(lister))
 }
 
 fn list<R: Read, W: Write>(from: &mut R, to: &mut W) -> Result<(), Cut> {
     let mut input = [0u8; INPUT];
     let mut out = [0u8; OUTPUT];
-    let lister = list_all(from, to, &mut input, &mut out)?;
-    output::close(to, lister)
+    let listed = list_all(from, to, &mut input, &mut out);
+    output::close(to, listed)
 }
 
 fn main(rt: HostRuntime) -> io::Result<()> {

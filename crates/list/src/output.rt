@@ -1,8 +1,9 @@
 // Listing a piece of the file, with its lines written at once.
-ghost use Rattle.std.specs.Prelude.{length, IfOk, IsOkUnless};
+ghost use Rattle.std.specs.Prelude.{length, IfOk};
 ghost use Rattle.capture.specs.Listers.{Fits};
-ghost use Rattle.list.specs.Program.{PieceListed};
+ghost use Rattle.list.specs.Program.{ClosedAs, PieceListed};
 
+use crate::Listed;
 use capture::Lister;
 use std::io::Write;
 
@@ -37,11 +38,16 @@ pub fn list_blocks<W: Write>(
     }
 }
 
-// The closing line of a whole list.
-pub fn close<W: Write>(to: &mut W, lister: Lister) -> Result<(), Cut>
-    ensures { IsOkUnless result Cut.WriteFailed }
+// The closing line of a whole list. One that did not come to its end has too many blocks.
+pub fn close<W: Write>(to: &mut W, listed: Result<Listed, Cut>) -> Result<(), Cut>
+    ensures { ClosedAs listed result }
 {
-    let text = lister.closing();
-    to.write_all(&text.bytes[..text.count])
-        .map_err(|_| Cut::WriteFailed)
+    match listed? {
+        Listed::More(_) => Err(Cut::TooLong),
+        Listed::Last(lister) => {
+            let text = lister.closing();
+            to.write_all(&text.bytes[..text.count])
+                .map_err(|_| Cut::WriteFailed)
+        }
+    }
 }

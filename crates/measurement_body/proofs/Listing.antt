@@ -17,7 +17,7 @@ use Rattle.answer.specs.Faults.{fault_at, placed_at}
 use Rattle.answer.specs.declared.Fault.{Fault}
 use Rattle.answer.specs.declared.Refusal.{Refusal}
 use Rattle.walk.proofs.Requiring.{whole, there}
-use Rattle.walk.proofs.Passing.{past_passed, no_further_back}
+use Rattle.walk.proofs.Passing.{past_passed, stands_at, no_further_back}
 use Rattle.walk.specs.CodeTerms.Next.{next_after}
 use Rattle.walk.specs.Elements.{Elements, past_element}
 use Rattle.walk.specs.Elements as Raw
@@ -83,7 +83,7 @@ module _ {A : Type 0} (s : Sort A) where
   clear_onward cut_header n {m} e = let here : m ≡ n = cc in simp (eq-eqb m n here)
   clear_onward (cut_contents id) n {m} e = let here : m ≡ n = cc in simp (eq-eqb m n here)
   clear_onward (more id c hs) n {m} e = let here : m ≡ n = cc in simp (eq-eqb m n here)
-  clear_onward (passed c hs) n {m} e = let on = no_further_back hs (past_element n c) e in sym (and_stop (eqb m n) (all_clear s (past_passed hs)) (ne_eqb m n (λ z. omega arith)))
+  clear_onward (passed c hs) n {m} e = let on = no_further_back hs (past_element n c) (ap stands_at e) in sym (and_stop (eqb m n) (all_clear s (past_passed hs)) (ne_eqb m n (λ z. omega arith)))
   clear_onward cut_passed n e = absurd (never e)
 
   -- ---- and back

@@ -15,7 +15,7 @@ use Rattle.answer.specs.Faults as Faults
 use Rattle.answer.specs.Faults.{fault_at}
 use Rattle.answer.specs.declared.Fault.{Fault}
 use Rattle.answer.specs.declared.Refusal.{Refusal}
-use Rattle.walk.proofs.Passing.{onward_at, no_further_back}
+use Rattle.walk.proofs.Passing.{onward_at, stands_at, no_further_back}
 use Rattle.walk.proofs.Requiring.{Lies, whole, long, past}
 use Rattle.walk.proofs.RunLaws.{empty}
 use Rattle.walk.proofs.Walking.{at_end}
@@ -163,7 +163,7 @@ module _ {A : Type 0} {s : Sort A} {body : List ℕ} {index : ℕ} {marks : List
                 ∙ sym (listed_onward s (w.before ++ (a ∷ [])) rest d.end on) ∙ listed_after e;
             marked = one_more s w.marked a j.token h.tokened small;
             counted = simp length-append (omega (arith, w.counted));
-            few = omega (arith, w.few, l.begins, l.ordered, no_further_back rest d.end on);
+            few = omega (arith, w.few, l.begins, l.ordered, no_further_back rest d.end (ap stands_at on));
             placed =
                 subst (λ (x : Handed). Placed (place_in index body) x index (count + 1) next (pick (eqb count index) (Some d) place)) stands
                 (placed_onward rest on

@@ -1,5 +1,5 @@
 // Element 39, Measurement Report (7.3.2.22).
-ghost use Rattle.std.specs.Prelude.{◌≡◌, ◌≤◌, length, take};
+ghost use Rattle.std.specs.Prelude.{◌≡◌, ◌≤◌, length, take, Err};
 ghost use Rattle.octets.specs.Writing.{Written};
 ghost use Rattle.measurement_element.specs.CodeTerms.Built.{report_span, report_last, report_built};
 ghost use Rattle.measurement_element.specs.MeasurementReport.{report_flags, report_measured, report_matter_in, is_histogram, densities_in, report_in, matter_interpreted, report_size, report_misfits, report_forbids, report_means, report_mode, report_agrees, silent, report_may, report_octets, report_interpreted, map_clear, report_clear};
@@ -151,22 +151,29 @@ fn is_forbidden(matter: Matter) -> bool
 // At most so many of Late, Incapable and Refused are set.
 const MOST_FLAGS: u8 = 1;
 
+// The reading of a refusal: it has no report beside it.
+pub fn refused(refusal: Refusal) -> Result<Report, Refusal>
+    ensures { result ≡ Err refusal }
+{
+    Err(refusal)
+}
+
 #[tactic(auto, unfolding(crate::specs::MeasurementReport::report_means, answer::specs::Checks::checked))]
 pub fn read(contents: &[u8]) -> Result<Report, Refusal>
     ensures { result ≡ report_means contents.now }
 {
     if contents.len() < 3 {
-        return Err(Refusal::WrongLength);
+        return refused(Refusal::WrongLength);
     }
     if MOST_FLAGS < flags_in(contents[1]) {
-        return Err(Refusal::ForbiddenValue);
+        return refused(Refusal::ForbiddenValue);
     }
     let report = report_in(contents);
     if is_misfit(report.matter, contents.len()) {
-        return Err(Refusal::WrongLength);
+        return refused(Refusal::WrongLength);
     }
     if is_forbidden(report.matter) {
-        return Err(Refusal::ForbiddenValue);
+        return refused(Refusal::ForbiddenValue);
     }
     Ok(report)
 }

@@ -19,7 +19,7 @@ impl Member {
     {
         Ok(Member {
             station: Station::start(own, bssid, interval, channel)?,
-            owner: None,
+            owner: owner::unknown(),
         })
     }
 }

@@ -1,6 +1,4 @@
 -- Octets that are copied over as many others: at a place, and where those before them end. Assumes nothing.
-use Rattle.std.specs.Prelude.{Ok}
-use mathlib.Core.Bool.{true}
 use mathlib.Core.List.{List, [], ◌∷◌, ◌++◌, append_assoc, append-nil}
 use mathlib.Core.Path.{◌≡◌, refl, sym, ap, ap₂, ◌∙◌}
 use Prim.Native.Nat.{ℕ, zero, suc, ◌+◌, ◌<◌, ◌≤◌}
@@ -8,8 +6,8 @@ use native.Mathlib.Omega.{arith}
 use borrow.Rule.Slice.PartMut.{put_mid}
 use lib.ListN.{length, take, drop, set, length-append, take-append-drop}
 use lib.Seq.{length-take-le, take_at, drop_at, drop-drop}
-use Rattle.octets.proofs.Storing.{room_answer, room_left, over_length}
-use Rattle.octets.specs.Writing.{over, filled, Written}
+use Rattle.octets.proofs.Storing.{over_length}
+use Rattle.octets.specs.Writing.{over, filled}
 
 pub copied_over : (at : ℕ) {n : ℕ} (buffer : List ℕ) {part os : List ℕ} → part ≡ os → n ≡ length os → put_mid at n buffer part ≡ over buffer at os
 copied_over at {n} buffer {part} {os} e many =
@@ -85,8 +83,3 @@ module _ {at : ℕ} {xs buffer now : List ℕ} (p : Put at xs buffer now) (n : �
 
 pub same_size : {at : ℕ} {os buffer now : List ℕ} → Put at os buffer now → length now ≡ length buffer
 same_size {at} {os} {buffer} p = ap length p.stands ∙ over_length buffer at os p.fits
-
--- all of them
-pub all_put : {at : ℕ} {os buffer now : List ℕ} → Put at os buffer now → (n : ℕ) → n ≡ length os → Written true os at buffer (Ok n) now
-all_put {at} {os} {buffer} p n many =
-    record { answers = ap Ok many ∙ sym (room_answer os at buffer p.fits); leaves = p.stands ∙ sym (room_left os at buffer p.fits) }

@@ -15,6 +15,11 @@ room may count at size =
 unfoldable pub wrote : Bool → List ℕ → ℕ → List ℕ → Outcome ℕ
 wrote may os at buffer = room may (length os) at (length buffer)
 
+-- how many octets it stores
+abbrev pub stored_by : Outcome ℕ → ℕ
+stored_by (Err r) = 0
+stored_by (Ok n) = n
+
 -- the octets in place of as many from a place on, with every other byte as it was
 abbrev pub over : List ℕ → ℕ → List ℕ → List ℕ
 over buffer at os = take at buffer ++ os ++ drop (at + length os) buffer

@@ -6,6 +6,10 @@ use Rattle.answer.specs.Checks.{pick}
 use Rattle.header.specs.Headers.{same}
 use Rattle.owner.specs.declared.Owner.{Owner}
 
+-- at start, and where an owner is given up
+abbrev pub unknown : Option Owner
+unknown = None
+
 -- this address is the owner's
 abbrev pub is_owner : Option Owner → List ℕ → Bool
 is_owner None a = false
@@ -37,7 +41,7 @@ missing o n = record { address = o.address; recovery = o.recovery; misses = n; h
 
 -- one miss more: there, at or past the recovery interval, the owner is unknown
 abbrev pub missed : Owner → Option Owner
-missed o = pick (leb o.recovery (o.misses + 1)) None (Some (missing o (o.misses + 1)))
+missed o = pick (leb o.recovery (o.misses + 1)) unknown (Some (missing o (o.misses + 1)))
 
 abbrev pub at_tbtt : Option Owner → Option Owner
 at_tbtt None = None

@@ -2,7 +2,7 @@
 #![tactic(auto)]
 
 ghost use Rattle.std.specs.Prelude.{◌≡◌, ◌≤◌};
-ghost use Rattle.owner.specs.Owners.{is_owner, named, heard_from, past_tbtts, OwnerFits, KeptFits};
+ghost use Rattle.owner.specs.Owners.{unknown, is_owner, named, heard_from, past_tbtts, OwnerFits, KeptFits};
 
 // What is kept of an owner while one is known: its address, after how many misses it is given up, how many there were, and whether a beacon from it was
 // accepted since the latest TBTT. At start none is known.
@@ -14,6 +14,14 @@ pub struct Owner {
     pub recovery: u8,
     pub misses: u8,
     pub heard: bool,
+}
+
+// As at start, and where an owner is given up.
+pub fn unknown() -> Option<Owner>
+    ensures value { result ≡ unknown }
+    ensures fits { KeptFits result }
+{
+    None
 }
 
 // Whether an address is the owner's.
@@ -69,7 +77,7 @@ pub fn past(owner: Option<Owner>, tbtts: u32) -> Option<Owner>
     let missed = tbtts - u32::from(owner.heard);
     let count = u64::from(owner.misses) + u64::from(missed);
     if u64::from(owner.recovery) <= count {
-        return None;
+        return unknown();
     }
     Some(Owner {
         misses: count as u8,

@@ -58,7 +58,9 @@ pub fn put_accepted(pen: Pen, digits: &mut [u8], word: Word, out: &mut [u8]) -> 
 }
 
 // The next line tells this word, the number of this answer, and where a frame broke.
-// Kept as a number: with the answer itself frames were slower (docs/BENCHMARKS.md).
+// Kept as a number: with the answer itself frames were slower (docs/BENCHMARKS.md). Inlined, since
+// most callers have a word that is known.
+#[inline(always)]
 pub fn put_told(
     pen: Pen,
     digits: &mut [u8],

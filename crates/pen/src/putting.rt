@@ -17,9 +17,8 @@ pub fn put(octets: &[u8], out: &mut [u8], at: usize) -> usize
     requires { at + length octets.now ≤ length out.old }
     ensures { OctetsPut octets.now at out.old result out.new }
 {
-    let end = at + octets.len();
-    out[at..end].copy_from_slice(octets);
-    end
+    octets::copy(octets, out, at);
+    at + octets.len()
 }
 
 // The digits, and where they end: the first of them in a whole piece, which is quicker than one by one, and few numbers have more. What comes along after
@@ -62,7 +61,7 @@ pub fn put_accepted(digits: &[u8], from: usize, word: Word, out: &mut [u8], at: 
 // Kept by hand: the octets are promised (`decimal`), which `write!` does not.
 // Kept: how much room there has to be stands in each contract here: each part of a line takes its own.
 pub fn put_number(number: u64, out: &mut [u8], at: usize) -> usize
-    requires { at + numeral_end ≤ length out.old }
+    requires { at + length (decimal number) ≤ length out.old }
     ensures put { OctetsPut (decimal number) at out.old result out.new }
     ensures short { length (decimal number) ≤ numeral_end }
 {
@@ -101,6 +100,7 @@ fn put_offset(offset: Option<usize>, out: &mut [u8], at: usize) -> usize
 
 // The line of a record or a damaged block, and where it ends: its number, its word, the answer, and where a frame broke.
 // The answer is kept as a number, as in `put_told`.
+#[inline(always)]
 pub fn put_line(
     digits: &[u8],
     from: usize,

@@ -1,17 +1,15 @@
 -- The parts that a frame is put in, its header and its body. Assumes nothing.
-use Rattle.std.specs.Prelude.{Ok, Err}
+use Rattle.std.specs.Prelude.{Err}
 use mathlib.Core.Bool.{true}
 use mathlib.Core.List.{List, [], ◌∷◌, ◌++◌, append-nil}
-use mathlib.Core.Path.{◌≡◌, sym, ap, ◌∙◌}
-use Prim.Native.Nat.{ℕ, ◌+◌, ◌-◌, ◌<◌, ◌≤◌}
+use mathlib.Core.Path.{◌≡◌, ap, ◌∙◌}
+use Prim.Native.Nat.{ℕ, ◌+◌, ◌<◌}
 use native.Mathlib.Omega.{arith}
-use borrow.Rule.Slice.PartMut.{put_mid}
-use lib.ListN.{length, drop, length-append, drop_of_length-le}
+use lib.ListN.{length, length-append, drop_of_length-le}
 use Rattle.answer.specs.declared.Refusal.{Refusal}
 use Rattle.header.specs.Headers.{header_length}
 use Rattle.octets.specs.Numbers.{octet}
 use Rattle.octets.specs.Writing.{left, Written}
-use Rattle.octets.proofs.Copied.{front_over, first_put, next_copied, all_put}
 use Rattle.octets.proofs.JoinSplit.{all_from}
 use Rattle.octets.proofs.Storing.{front_left, short_written}
 use Rattle.reply.specs.Frames.{head_to, frame_to}
@@ -24,7 +22,7 @@ six xs h = all_from 6 xs h
 pub head_length_lem : (own to bss : List ℕ) → length own ≡ 6 → length to ≡ 6 → length bss ≡ 6 → length (head_to own to bss) ≡ header_length
 head_length_lem own to bss o t a = simp (length-append, o, t, a)
 
--- ---- header and body, copied one after the other
+-- ---- a buffer that is too short for a frame
 
 module _ (own to bss body buffer : List ℕ) (o : length own ≡ 6) (t : length to ≡ 6) (b : length bss ≡ 6) where
   frame_length : length (frame_to own to bss body) ≡ header_length + length body
@@ -32,15 +30,6 @@ module _ (own to bss body buffer : List ℕ) (o : length own ≡ 6) (t : length 
 
   pub no_room : length buffer < header_length + length body → Written true (frame_to own to bss body) 0 buffer (Err Refusal.BufferShort) buffer
   no_room short = short_written (frame_to own to bss body) 0 buffer (omega (arith, short, frame_length))
-
-  pub copied : {head part : List ℕ} → head ≡ head_to own to bss → part ≡ body → header_length + length body ≤ length buffer
-      → Written true (frame_to own to bss body) 0 buffer (Ok (header_length + length body))
-      (put_mid header_length (header_length + length body - header_length) (head ++ drop header_length buffer) part)
-  copied e f fits =
-      let long = head_length_lem own to bss o t b in
-      let front = first_put 0 (head_to own to bss) buffer (omega (arith, fits, long)) (front_over header_length buffer e (sym long)) in
-      let whole = next_copied front header_length (omega (arith, long)) body (omega (arith, fits, long)) f (omega arith) in
-      all_put whole (header_length + length body) (sym frame_length)
 
 -- ---- a body that is built in a buffer of its own
 

@@ -45,8 +45,10 @@ fn put_frame(
     if buffer.len() < size {
         return Err(Refusal::BufferShort);
     }
-    buffer[..header::LENGTH].copy_from_slice(&head(own, to, bssid));
-    buffer[header::LENGTH..size].copy_from_slice(body);
+    let head = head(own, to, bssid);
+    // Kept as two calls: `copy_from_slice` needs `memmove` of whoever links the library. There is room for both, so that neither is refused.
+    let _ = octets::put(true, &head, buffer, 0);
+    let _ = octets::put(true, body, buffer, header::LENGTH);
     Ok(size)
 }
 
@@ -63,7 +65,8 @@ pub fn put_return(
     ensures { Written true (frame_to own to bssid (error_return body.now)) 0 buffer.old result buffer.new }
 {
     let count = put_frame(own, to, bssid, body, buffer)?;
-    buffer[header::LENGTH + CATEGORY] = body[CATEGORY] + 128;
+    let category = body[CATEGORY];
+    buffer[header::LENGTH + CATEGORY] = category + 128;
     Ok(count)
 }
 

@@ -1,1 +1,1 @@
-pub mod ArrayMap
+pub mod InTurn

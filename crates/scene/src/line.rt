@@ -10,7 +10,7 @@ use std::io::Write;
 // Which part of a line the next character belongs to.
 // Kept: a line is read in pieces, so what comes next in it has to be kept.
 #[derive(Clone, Copy, PartialEq, Eq)]
-enum Part {
+pub enum Part {
     Remark,
     // Its word, and of a scene the word that says what it plays.
     Verb,

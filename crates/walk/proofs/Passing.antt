@@ -1,5 +1,5 @@
 -- What the walk of an action body hands out and passes over, by its octets. Assumes nothing.
-use Rattle.std.specs.Prelude.{Ok}
+use Rattle.std.specs.Prelude.{Option, Some, Ok, Err}
 use mathlib.Core.Path.{◌≡◌, refl, sym, ap, ◌∙◌}
 use mathlib.Core.Bool.{Bool, true, false}
 use mathlib.Core.List.{List, [], ◌∷◌, ◌++◌}
@@ -11,6 +11,7 @@ use lib.Dec.{eqb}
 use lib.ListN.{length, drop}
 use Rattle.answer.proofs.Judged.{never}
 use Rattle.answer.specs.Checks.{pick}
+use Rattle.answer.specs.Faults.{Placed}
 use Rattle.octets.specs.Elements.{element}
 use Rattle.walk.specs.CodeTerms.Next.{next_after}
 use Rattle.walk.specs.Elements.{Elements, elements_in, past_element}
@@ -27,6 +28,10 @@ front_handed id c rest = ap handing (front id c rest)
 pub front_own : (id : ℕ) (c rest : List ℕ) → eqb id vendor_id ≡ false → passing_in (element id c ++ rest) ≡ more id c (passing_in rest)
 unfolding passing
 front_own id c rest own = ap passing (front id c rest) ∙ simp own
+
+pub front_vendor : (c rest : List ℕ) → passing_in (element vendor_id c ++ rest) ≡ passed c (passing_in rest)
+unfolding passing
+front_vendor c rest = ap passing (front vendor_id c rest)
 
 pub none_handed : handed_in [] ≡ end
 unfolding handing
@@ -174,22 +179,28 @@ past_passed (more id c hs) = more id c hs
 past_passed (passed c hs) = past_passed hs
 past_passed cut_passed = cut_passed
 
-pub no_further_back : (hs : Handed) (n : ℕ) {m : ℕ} → next_after n hs ≡ Ok m → n ≤ m
+-- where the walk stands then, at a vendor's element that is cut too
+abbrev pub stands_at : Placed ℕ → Option ℕ
+stands_at (Ok n) = Some n
+stands_at (Err x) = x.offset
+
+pub no_further_back : (hs : Handed) (n : ℕ) {m : ℕ} → stands_at (next_after n hs) ≡ Some m → n ≤ m
 unfolding next_after
 no_further_back end n {m} e = let here : n ≡ m = cc in omega arith
 no_further_back cut_header n {m} e = let here : n ≡ m = cc in omega arith
 no_further_back (cut_contents id) n {m} e = let here : n ≡ m = cc in omega arith
 no_further_back (more id c hs) n {m} e = let here : n ≡ m = cc in omega arith
 no_further_back (passed c hs) n {m} e = let on = no_further_back hs (past_element n c) e in omega arith
-no_further_back cut_passed n e = absurd (never e)
+no_further_back cut_passed n {m} e = let here : n ≡ m = cc in omega arith
 
 -- in a run, by the elements from a place on
 module _ (run : List ℕ) where
   -- past one of them
-  lies : (at id : ℕ) (d : List ℕ) (fs : Elements) → elements_in (drop at run) ≡ Raw.more id d fs → elements_in (drop (past_element at d) run) ≡ fs
+  lies : (at id : ℕ) (d : List ℕ) (fs : Elements) → elements_in (drop at run) ≡ Raw.more id d fs → (elements_in (drop (past_element at d) run) ≡ fs) × (past_element at d ≤ length run)
   lies at id d fs e =
       let y = split (drop at run) id d fs e in
-      ap elements_in (lying run at id d y.rest y.octets).after ∙ y.after
+      let z = lying run at id d y.rest y.octets in
+      (ap elements_in z.after ∙ y.after, z.inside)
 
   module _ (m : ℕ) where
     -- what is handed out next stands where the walk goes on
@@ -212,11 +223,40 @@ module _ (run : List ℕ) where
         by : (t : Bool) → Onward at (pick t cut_passed (cut_contents i))
         by true = λ h. absurd (never h)
         by false = λ h. stays at (cut_contents i) (sym (ap handing e)) cc
-    goes_on (Raw.more i d fs) at e = by (eqb i vendor_id) (goes_on fs (past_element at d) (lies at i d fs e))
+    goes_on (Raw.more i d fs) at e = by (eqb i vendor_id) (goes_on fs (past_element at d) (lies at i d fs e).0)
       where
         by : (t : Bool) → Onward (past_element at d) (passing fs) → Onward at (pick t (passed d (passing fs)) (more i d (passing fs)))
         by true on = on
         by false on = λ h. stays at (more i d (passing fs)) (sym (ap handing e)) cc
+
+    abbrev Inside : ℕ → Handed → Type 0
+    Inside at hs = stands_at (next_after at hs) ≡ Some m → m ≤ length run
+
+    here : (at : ℕ) → at ≤ length run → Some at ≡ Some m → m ≤ length run
+    here at h e = let same : at ≡ m = cc in omega (arith, h)
+
+    inside_by : (es : Elements) (at : ℕ) → elements_in (drop at run) ≡ es → at ≤ length run → Inside at (passing es)
+    unfolding passing next_after
+    inside_by Raw.end at e h = here at h
+    inside_by (Raw.cut_header o) at e h = by (eqb o vendor_id)
+      where
+        by : (t : Bool) → Inside at (pick t cut_passed cut_header)
+        by true = here at h
+        by false = here at h
+    inside_by (Raw.cut_contents i) at e h = by (eqb i vendor_id)
+      where
+        by : (t : Bool) → Inside at (pick t cut_passed (cut_contents i))
+        by true = here at h
+        by false = here at h
+    inside_by (Raw.more i d fs) at e h = let s = lies at i d fs e in by (eqb i vendor_id) (inside_by fs (past_element at d) s.0 s.1)
+      where
+        by : (t : Bool) → Inside (past_element at d) (passing fs) → Inside at (pick t (passed d (passing fs)) (more i d (passing fs)))
+        by true on = on
+        by false on = here at h
+
+  -- and lies in the run
+  pub inside : (at : ℕ) {m : ℕ} → at ≤ length run → stands_at (next_after at (passing_in (drop at run))) ≡ Some m → m ≤ length run
+  inside at {m} h = inside_by m (elements_in (drop at run)) at refl h
 
   pub onward_at : (at : ℕ) {m : ℕ} → next_after at (passing_in (drop at run)) ≡ Ok m → past_passed (passing_in (drop at run)) ≡ handed_in (drop m run)
   onward_at at {m} e = goes_on m (elements_in (drop at run)) at refl e

@@ -1,8 +1,11 @@
 -- The lister with its station taken apart.
-use Rattle.std.specs.Prelude.{true, List, ◌≡◌, ℕ, ◌≤◌}
+use Rattle.std.specs.Prelude.{true, List, ◌≡◌, ℕ, ◌≤◌, None}
+use Rattle.answer.specs.Numbers.{number_of}
+use Rattle.answer.specs.declared.Refusal.{Refusal}
 use Rattle.apart.specs.Apart.{whole_of}
 use Rattle.apart.specs.declared.columns.Columns.{Columns}
 use Rattle.beacon.specs.Beacons.{quiet_limit}
+use Rattle.pen.specs.declared.words.Word.{Word}
 use Rattle.capture_record.specs.Entries.{entry_told}
 use Rattle.capture_record.specs.declared.entry.Entry.{Entry}
 use Rattle.station.specs.Clear.{Clear}
@@ -22,6 +25,10 @@ lister_of p n c = record { lines = n; blocks = p.blocks; damaged = p.damaged; ac
 pub record PartsOf (l : Lister) (p : Parts) (c : Columns) : Type 0 where
   pub few : p.apart.count ≤ quiet_limit
   pub same : (n : ℕ) → lister_of p n c ≡ with_lines l n
+
+-- what comes with no station changes nothing
+abbrev pub unstarted : Parts → Word → Noted
+unstarted p word = record { word = word; number = number_of Refusal.NoStation; offset = None; parts = p; clear = 0 }
 
 -- a record that was noted: its line, and the parts after it
 pub record NotedAs (l : Lister) (contents : List ℕ) (entry : Entry) (r : Noted) (after : Columns) : Type 0 where

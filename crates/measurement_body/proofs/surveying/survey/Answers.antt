@@ -5,7 +5,7 @@ use Rattle.std.proofs.Common.{List, ap, arith, drop, eqb, false, true, set, ne_e
 use Rattle.std.proofs.lemmas.Grind.{common_steps}
 use Rattle.answer.specs.Checks.{pick}
 use Rattle.walk.proofs.Kept.{kept_ok}
-use Rattle.walk.proofs.Passing.{no_further_back}
+use Rattle.walk.proofs.Passing.{stands_at, no_further_back}
 use Rattle.walk.proofs.Requiring.{Lies, lies}
 use Rattle.measurement_body.specs.Kinds.{sort_of}
 use Rattle.measurement_body.specs.Surveys.{surveyed}
@@ -78,7 +78,7 @@ returns-in_err-at c =
 pub loop-contents-smaller : goal.loop-contents-smaller
 loop-contents-smaller c =
     let p = place (goal.at.loop-contents-smaller c).After-judge in
-    let on = no_further_back _ _ (sym c.pass_over.ensures ∙ c.in_ok-at.was) in
+    let on = no_further_back _ _ (ap stands_at (sym c.pass_over.ensures ∙ c.in_ok-at.was)) in
     omega (arith, p.begins, p.ordered, p.inside)
 
 -- the walk with this one too

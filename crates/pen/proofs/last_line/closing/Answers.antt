@@ -3,11 +3,18 @@
 use Rattle.std.proofs.Common.{arith}
 use Rattle.pen.proofs.ClosingLine.{closing_short, closing_put}
 use Rattle.pen.proofs.InRoom.{put_in_front}
+use Rattle.pen.proofs.Lengths.{number_short}
 use Rattle.pen.proofs.last_line.closing.Goals as goal
 
 -- There is room for each part after the one before it.
+pub put_number-counted-requires : goal.put_number-counted-requires
+put_number-counted-requires c = omega (arith, number_short c.args.blocks (omega arith))
+
 pub put-parted-requires : goal.put-parted-requires
 put-parted-requires c = omega (arith, c.put_number-counted.ensures.short)
+
+pub put_number-told-requires : goal.put_number-told-requires
+put_number-told-requires c = omega (arith, c.put_number-counted.ensures.short, number_short c.args.damaged (omega arith))
 
 pub returns : goal.returns
 returns c =

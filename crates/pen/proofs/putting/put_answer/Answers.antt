@@ -3,6 +3,7 @@
 use Rattle.std.proofs.Common.{[], ap, arith, length, sym, ◌+◌, ◌∙◌, ◌∷◌}
 use lib.Seq.{sets-eq}
 use Rattle.octets.specs.Writing.{over}
+use Rattle.pen.proofs.Lengths.{number_short}
 use Rattle.pen.proofs.Spelling.{one_alone}
 use Rattle.pen.proofs.putting.put_answer.Goals as goal
 
@@ -14,3 +15,6 @@ returns-then-answer-lt10 c =
       ends = omega (arith, ap length one);
       stands = sets-eq ((48 + a.answer) ∷ []) a.out.now a.at (omega (arith, c.requires, ap length one)) ∙ ap (over a.out.now a.at) (sym one);
     }
+
+pub put_number-requires : goal.put_number-requires
+put_number-requires c = omega (arith, c.requires, number_short c.from.result (omega (arith, c.from.ensures)))

@@ -3,10 +3,11 @@ use Rattle.std.proofs.Common.{[], ap, arith, sym, length, ◌∷◌}
 use lib.Seq.{sets-eq}
 use Rattle.pen.specs.Lines.{placed}
 use Rattle.pen.proofs.Following.{put_as, put_after}
+use Rattle.pen.proofs.Lengths.{number_short}
 use Rattle.pen.proofs.putting.put_offset.Goals as goal
 
 pub put_number-requires : goal.put_number-requires
-put_number-requires c = omega (arith, c.put-spaced.ensures.ends)
+put_number-requires c = omega (arith, c.put-spaced.ensures.ends, number_short c.in-Some.before (omega arith))
 
 pub returns-in-None : goal.returns-in-None
 returns-in-None c =

@@ -11,6 +11,6 @@ loop-row-preserved c =
     let i = c.loop-row.row-index in
     let here : i < length rows = omega arith in (
       ap (λ w. set rows i w) c.advance.ensures.value
-          ∙ map_over_more (row_ticked c.args.units) c.args.rows.now rows i _ (omega arith) c.loop-row.invariant.0 (get_or_default rows i _ _ here),
+          ∙ map_over_more (row_ticked c.args.units) _ rows i _ (omega arith) c.loop-row.invariant.0 (get_or_default rows i _ _ here),
       All-set ValidRow rows i _ c.advance.ensures.kept c.loop-row.invariant.1,
     )
