@@ -18,9 +18,7 @@ use Rattle.octets.proofs.octets32 as Octets32
 use Rattle.octets.proofs.octets64 as Octets64
 use Rattle.octets.proofs.from_signed as FromSigned
 use Rattle.octets.proofs.to_signed as ToSigned
-use Rattle.octets.proofs.copy as Copy
 use Rattle.octets.proofs.put as Put
-use mathlib.Core.Path.{refl}
 use Rattle.answer.specs.Outcomes.{OneResult, OneOutcome}
 use Rattle.claims.proofs.Same.{once, written_once}
 
@@ -80,9 +78,6 @@ busy_fraction κs a e f x y p q = once p q
 
 pub rpi_densities : OneResult 0 RpiDensities.Kinds.ps RpiDensities.Kinds.r RpiDensities.Reads.Post
 rpi_densities κs a e f x y p q = once p.0 q.0
-
-pub copy : OneOutcome 2 Copy.Kinds.ps Copy.Kinds.r Copy.Reads.Post (λ κs e. e.1.0.now)
-copy κs a e f x y p q = (refl, once p q)
 
 pub put : OneOutcome 2 Put.Kinds.ps Put.Kinds.r Put.Reads.Post (λ κs e. e.1.1.0.now)
 put κs a e f x y p q = written_once p q

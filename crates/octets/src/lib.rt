@@ -10,4 +10,4 @@ pub use numbers::{
     address_at, number16, number32, number64, octet_at, octets16, octets32, octets64,
 };
 pub use signed::{from_signed, to_signed};
-pub use writing::{copy, put};
+pub use writing::put;

@@ -32,7 +32,7 @@ fn stored(answer: Result<usize, Refusal>) -> usize
 
 // Octets, copied into a buffer from a place on.
 // Kept place by place: between two slices that are lent `copy_from_slice` needs `memmove` of whoever links the library.
-pub fn copy(octets: &[u8], buffer: &mut [u8], at: usize)
+fn copy(octets: &[u8], buffer: &mut [u8], at: usize)
     requires { (i : ℕ) → i < length octets.now → at + i < length buffer.old }
     ensures { buffer.new ≡ over buffer.old at octets.now }
 {

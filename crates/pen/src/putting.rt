@@ -1,5 +1,5 @@
 // Lines put into a lent buffer. The digits of a line's number are those that are kept, and a line of an accepted call ends in constant octets.
-ghost use Rattle.std.specs.Prelude.{◌≡◌, [], ◌∷◌, ◌++◌, ℕ, ◌+◌, ◌≤◌, length, take, drop, None};
+ghost use Rattle.std.specs.Prelude.{[], ◌∷◌, ◌++◌, ℕ, ◌+◌, ◌≤◌, length, None};
 ghost use Rattle.pen.specs.Decimals.{decimal};
 ghost use Rattle.pen.specs.Lines.{spelled, placed, line_of};
 ghost use Rattle.pen.specs.Numerals.{numeral_end, numeral_room, Spells};
@@ -13,11 +13,15 @@ use crate::words::Word;
 const PIECE: usize = 8;
 
 // The octets, from a place on, and where they end.
+// Kept as a loop of its own. `octets::put` would judge the room again, which is judged once for many lines. Between two slices that are lent
+// `copy_from_slice` needs `memmove` of whoever links the library.
 pub fn put(octets: &[u8], out: &mut [u8], at: usize) -> usize
     requires { at + length octets.now ≤ length out.old }
     ensures { OctetsPut octets.now at out.old result out.new }
 {
-    octets::copy(octets, out, at);
+    for i in 0..octets.len() {
+        out[at + i] = octets[i];
+    }
     at + octets.len()
 }
 
