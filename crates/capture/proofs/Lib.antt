@@ -7,4 +7,5 @@ pub mod Passing
 pub mod Plainly
 pub mod Recording
 pub mod StaysSound
+pub mod Telling
 pub mod Together

@@ -29,7 +29,7 @@ use Rattle.station.proofs.Clearing.{nothing_clear}
 use Rattle.station.specs.Clear.{Clear}
 use Rattle.station.specs.Stations.{with_clock}
 use Rattle.capture.specs.CodeTerms.Blocks.{block_from, Begins, rest_from}
-use Rattle.capture.specs.CodeTerms.Following.{line_for, Follows, Fed}
+use Rattle.capture.specs.CodeTerms.Following.{Answered, line_for, Follows, Fed}
 use Rattle.capture.specs.CodeTerms.Noting.{entry_malformed}
 use Rattle.capture.specs.CodeTerms.Plain.{lines_left, clocked_at, Notes, Watched, RanFrom}
 use Rattle.capture.specs.Feeding.{enough_room}
@@ -37,7 +37,6 @@ use Rattle.capture.specs.Listers.{block_limit, most_lines, line_limit, with_line
 use Rattle.capture.specs.Lists as Lists
 use Rattle.capture.specs.Lists.{Told, nothing, before, refusal, answer_line, bad_record, noted, is_malformed, recorded, blocks_in, blocks_told}
 use Rattle.capture.specs.declared.lister.Lister.{Lister}
-use Rattle.capture.specs.declared.noting.Answered.{Answered}
 use Rattle.capture.specs.declared.parts.Parts.{Parts}
 use Rattle.capture.specs.declared.plain.Ran.{Ran}
 use Rattle.capture.proofs.Cutting.{next_block}

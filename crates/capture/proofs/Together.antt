@@ -12,8 +12,7 @@ use Rattle.apart.specs.declared.columns.Columns.{Columns}
 use Rattle.apart.specs.declared.Apart.{Apart}
 use Rattle.apart.specs.declared.Told.{Told}
 use Rattle.beacon.specs.Beacons.{quiet_limit}
-use Rattle.answer.specs.declared.Refusal.{Refusal}
-use Rattle.capture_record.specs.Entries.{hearing, entry_told}
+use Rattle.capture_record.specs.Entries.{hearing}
 use Rattle.capture_record.specs.declared.entry.Entry.{Entry}
 use Rattle.pen.specs.declared.words.Word.{Word}
 use Rattle.station.specs.Starting.{blank}
@@ -21,16 +20,15 @@ use Rattle.station.specs.Stations.{slotted, in_use}
 use Rattle.station.specs.Taking.{take_of}
 use Rattle.station.specs.Validity.{Valid}
 use Rattle.station.specs.declared.Station.{Station}
-use Rattle.capture.specs.CodeTerms.Following.{line_for, Follows}
+use Rattle.capture.specs.CodeTerms.Following.{Answered, line_for, Follows}
 use Rattle.capture.specs.CodeTerms.Noting.{heard_by}
-use Rattle.capture.specs.CodeTerms.Parts.{lister_of, PartsOf, unstarted, NotedAs}
+use Rattle.capture.specs.CodeTerms.Parts.{lister_of, PartsOf}
 use Rattle.capture.specs.Listers.{following, Sound}
-use Rattle.capture.specs.Lists.{line, refusal, no_station, noted}
+use Rattle.capture.specs.Lists.{line, noted}
 use Rattle.capture.specs.declared.lister.Lister.{Lister}
-use Rattle.capture.specs.declared.noting.Answered.{Answered}
 use Rattle.capture.specs.declared.parts.Parts.{Parts}
 use Rattle.capture.specs.declared.response.Response.{Response}
-use Rattle.capture.proofs.Answering.{no_advance, no_frame, no_ask, a_frame}
+use Rattle.capture.proofs.Answering.{a_frame}
 use Rattle.capture.proofs.StaysSound.{sound_following}
 use Rattle.answer.specs.Faults.{Verdict}
 
@@ -104,28 +102,3 @@ module _ (p : Parts) (c : Columns) (there : p.active ≡ true) (f : List ℕ) (t
 
   pub frame_few : t.apart.count ≤ quiet_limit
   frame_few = few_rows t.apart after h.valid
-
--- ---- a record that comes with no station
-
-module _ (p : Parts) (n : ℕ) (c : Columns) (idle : p.active ≡ false) (rows : p.apart.count ≤ quiet_limit) (sound : Sound (lister_of p n c)) where
-  pub unstarted_noted : (contents : List ℕ) (entry : Entry) (word : Word) → no_station (lister_of p n c) word ≡ noted (lister_of p n c) (entry_told contents entry) → NotedAs (lister_of p n c) contents entry (unstarted p word) c
-  unstarted_noted contents entry word says =
-      record {
-        answered = record { lister = lister_of p n c; word = word; answer = refusal Refusal.NoStation };
-        says = says;
-        follows = record { sound = sound; same_lines = refl; same_blocks = refl; same_damaged = refl };
-        word = refl;
-        number = refl;
-        offset = refl;
-        parts = record { few = rows; same = λ n. refl };
-        clears = λ a. clash (sym a ∙ idle);
-      }
-
-  pub advance_unstarted : (contents : List ℕ) (units : ℕ) → NotedAs (lister_of p n c) contents (Entry.Advance units) (unstarted p Word.Advance) c
-  advance_unstarted contents units = unstarted_noted contents (Entry.Advance units) Word.Advance (no_advance (lister_of p n c) idle units)
-
-  pub ask_unstarted : (contents : List ℕ) (units : ℕ) → NotedAs (lister_of p n c) contents (Entry.Ask units) (unstarted p Word.Ask) c
-  ask_unstarted contents units = unstarted_noted contents (Entry.Ask units) Word.Ask (no_ask (lister_of p n c) idle units)
-
-  pub frame_unstarted : (contents : List ℕ) → NotedAs (lister_of p n c) contents Entry.Frame (unstarted p Word.Frame) c
-  frame_unstarted contents = unstarted_noted contents Entry.Frame Word.Frame (no_frame (lister_of p n c) idle contents)

@@ -1,7 +1,7 @@
 // What the lister keeps from block to block.
 ghost use Rattle.std.specs.Prelude.{◌≡◌};
 ghost use Rattle.pen.specs.Rooms.{fronted};
-ghost use Rattle.capture.specs.Listers.{fresh, without, following, Fits};
+ghost use Rattle.capture.specs.Listers.{fresh, Fits};
 ghost use Rattle.capture.specs.Lists.{closing_for};
 
 use pen::Text;
@@ -50,22 +50,4 @@ impl Lister {
     {
         pen::closing(self.blocks, self.damaged)
     }
-}
-
-// The lister with no station until the next start.
-pub fn without(mut lister: Lister) -> Lister
-    ensures { result ≡ without lister }
-{
-    lister.active = false;
-    lister.station = Station::nobody();
-    lister
-}
-
-// The lister that follows a station.
-pub fn following(mut lister: Lister, station: Station) -> Lister
-    ensures { result ≡ following lister station }
-{
-    lister.active = true;
-    lister.station = station;
-    lister
 }

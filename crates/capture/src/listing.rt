@@ -162,7 +162,7 @@ pub fn put_blocks(lister: Lister, blocks: &[u8], out: &mut [u8]) -> Put
                     clear = 0;
                     at = end;
                 } else {
-                    let noted = parts.note(pen.lines, entry, contents, &mut columns);
+                    let noted = parts.note(entry, contents, &mut columns);
                     pen = pen::put_told(
                         pen,
                         &mut digits,

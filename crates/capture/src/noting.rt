@@ -1,129 +1,151 @@
-// What the list says of a record (document 01, "Capture blocks and the evening list"): its word, its answer, and the station after it.
-ghost use Rattle.std.specs.Prelude.{◌≡◌, true, false};
+// What the list says of a record (document 01, "Capture blocks and the evening list"): its word, its answer, and the station after it. No lister is put
+// together for it, which costs more than most records do: a question and an advance put the station alone together.
+ghost use Rattle.std.specs.Prelude.{◌≡◌, true, false, List, ℕ, ◌≤◌, Err};
+ghost use Rattle.answer.specs.declared.Refusal.{Refusal};
+ghost use Rattle.apart.specs.Apart.{whole_of};
+ghost use Rattle.apart.specs.declared.columns.Columns.{Columns};
+ghost use Rattle.beacon.specs.Beacons.{quiet_limit};
 ghost use Rattle.capture_record.specs.declared.entry.Entry.{Entry};
-ghost use Rattle.capture_record.specs.Entries.{starting, settings_of, advancing, asking, entry_told};
-ghost use Rattle.capture.specs.CodeTerms.Following.{line_for, Follows};
-ghost use Rattle.capture.specs.Listers.{Sound};
-ghost use Rattle.capture.specs.Lists.{bad_record, no_station, noted};
+ghost use Rattle.pen.specs.declared.words.Word.{Word};
+ghost use Rattle.station.specs.Clear.{Clear};
+ghost use Rattle.station.specs.Validity.{Valid};
+ghost use Rattle.capture.specs.CodeTerms.Parts.{lister_of, noted_with, asked, FollowedAs, NotedAs};
+ghost use Rattle.capture.specs.Listers.{without, Sound};
+ghost use Rattle.capture.specs.declared.response.Response.{Response};
 
+use crate::parts::Parts;
 use crate::response::Response;
-use crate::{Lister, lister};
 use answer::Refusal;
+use apart::{Apart, Columns};
 use capture_record::Entry;
 use pen::Word;
 use station::Station;
 
-// The lister before the line that tells this word and this answer.
-// Kept beside one another: after a refused record the lister is another than before, so it is no value of an accepted one alone.
+// What a line tells of a record, the lister after it, and until when it is known to be clear then.
+// The answer is kept as its number, as `pen::put_told` takes it, which says why.
 #[derive(Clone, Copy)]
-pub struct Answered {
-    pub lister: Lister,
+pub struct Noted {
     pub word: Word,
-    pub answer: Response,
+    pub number: u8,
+    pub offset: Option<usize>,
+    pub parts: Parts,
+    pub clear: u64,
 }
 
-// A malformed record: there is no station after it.
-// Kept: `Follows` stands in each contract here: it relates the lister handed in to the one handed
-// back, so it is no fact of one type.
-fn malformed(lister: Lister) -> Answered
-    ensures tells { line_for result ≡ bad_record lister }
-    ensures follows { Follows lister result.lister }
-{
-    Answered {
-        lister: lister::without(lister),
-        word: Word::Record,
-        answer: Response::Call(Err(Refusal::RecordMalformed)),
+impl Parts {
+    // The line that tells this word and this answer, and leaves these parts.
+    fn told(self, word: Word, answer: Response, clear: u64) -> Noted
+        ensures { result ≡ noted_with word answer self clear }
+    {
+        Noted {
+            word,
+            number: answer.number(),
+            offset: answer.offset(),
+            parts: self,
+            clear,
+        }
     }
-}
 
-// A start, refused or accepted.
-#[tactic(auto, unfolding(crate::specs::Lists::noted), using(crate::proofs::StaysSound::sound_without, crate::proofs::StaysSound::sound_following))]
-fn start(lister: Lister, contents: &[u8]) -> Answered
-    ensures tells { line_for result ≡ noted lister (starting (settings_of contents.now)) }
-    ensures follows { Follows lister result.lister }
-{
-    let settings = capture_record::settings_in(contents);
-    match Station::start(
-        settings.own,
-        settings.ap,
-        settings.interval,
-        settings.channel,
-    ) {
-        Ok(station) => Answered {
-            lister: lister::following(lister, station),
-            word: Word::Start,
-            answer: Response::Call(Ok(())),
-        },
-        Err(refusal) => Answered {
-            lister: lister::without(lister),
-            word: Word::Start,
-            answer: Response::Call(Err(refusal)),
-        },
+    // A record that is refused with no station after it: a malformed one, or a start.
+    fn dropped(self, word: Word, refusal: Refusal) -> Noted
+        ensures told { result ≡ noted_with word (Response.Call (Err refusal)) result.parts 0 }
+        ensures same { (n : ℕ) (c : Columns) → lister_of result.parts n c ≡ without (lister_of self n c) }
+        ensures no_schedule { result.parts.apart.count ≡ 0 }
+    {
+        self.without().told(word, Response::Call(Err(refusal)), 0)
     }
-}
 
-// A record that comes with no station started. `Parts::note` answers it before it puts a lister together; it is here since `note` promises the line of every
-// record.
-fn unstarted(lister: Lister, word: Word) -> Answered
-    requires { Sound lister }
-    ensures tells { line_for result ≡ no_station lister word }
-    ensures follows { Follows lister result.lister }
-{
-    Answered {
-        lister,
-        word,
-        answer: Response::Call(Err(Refusal::NoStation)),
+    // A malformed record is 20 with a station or without.
+    fn malformed(self) -> Noted
+        ensures told { result ≡ noted_with Word.Record (Response.Call (Err Refusal.RecordMalformed)) result.parts 0 }
+        ensures same { (n : ℕ) (c : Columns) → lister_of result.parts n c ≡ without (lister_of self n c) }
+        ensures no_schedule { result.parts.apart.count ≡ 0 }
+    {
+        self.dropped(Word::Record, Refusal::RecordMalformed)
     }
-}
 
-// An advance, refused or accepted.
-#[tactic(auto, using(crate::proofs::Answering::no_advance, crate::proofs::Answering::an_advance, crate::proofs::StaysSound::sound_following))]
-fn advance(lister: Lister, units: u16) -> Answered
-    requires { Sound lister }
-    ensures tells { line_for result ≡ noted lister (advancing units) }
-    ensures follows { Follows lister result.lister }
-{
-    if !lister.active {
-        return unstarted(lister, Word::Advance);
+    // A record that comes with no station started: nothing changes.
+    fn unstarted(self, word: Word) -> Noted
+        ensures { result ≡ noted_with word (Response.Call (Err Refusal.NoStation)) self 0 }
+    {
+        self.told(word, Response::Call(Err(Refusal::NoStation)), 0)
     }
-    let stepped = lister.station.advance(u32::from(units));
-    Answered {
-        lister: lister::following(lister, stepped.station),
-        word: Word::Advance,
-        answer: Response::Call(stepped.answer),
-    }
-}
 
-// A question.
-#[tactic(auto, using(crate::proofs::Answering::no_ask, crate::proofs::Answering::an_ask))]
-fn ask(lister: Lister, units: u16) -> Answered
-    requires { Sound lister }
-    ensures tells { line_for result ≡ noted lister (asking units) }
-    ensures follows { Follows lister result.lister }
-{
-    if !lister.active {
-        return unstarted(lister, Word::Ask);
+    // A call that leaves this station.
+    #[tactic(auto, using(apart::proofs::Parts::put_back_valid))]
+    fn followed(
+        self,
+        word: Word,
+        answer: Response,
+        station: Station,
+        columns: &mut Columns,
+    ) -> Noted
+        requires { Valid station }
+        ensures { FollowedAs self word answer station result columns.new }
+    {
+        let parts = Parts {
+            active: true,
+            apart: Apart::of(station, columns),
+            ..self
+        };
+        parts.told(word, answer, 0)
     }
-    Answered {
-        lister,
-        word: Word::Ask,
-        answer: Response::Question(lister.station.ask(u32::from(units))),
-    }
-}
 
-// Any record, by what it notes, but for the frames that a station hears. A malformed one is 20 with a station or without, and a start needs none.
-#[tactic(auto, unfolding(crate::specs::Lists::noted), using(crate::proofs::Answering::no_frame))]
-pub fn note(lister: Lister, entry: Entry, contents: &[u8]) -> Answered
-    requires sound { Sound lister }
-    requires unheard { entry ≡ Entry.Frame → lister.active ≡ false }
-    ensures tells { line_for result ≡ noted lister (entry_told contents.now entry) }
-    ensures follows { Follows lister result.lister }
-{
-    match entry {
-        Entry::Malformed => malformed(lister),
-        Entry::Start => start(lister, contents),
-        Entry::Advance(units) => advance(lister, units),
-        Entry::Frame => unstarted(lister, Word::Frame),
-        Entry::Ask(units) => ask(lister, units),
+    // A start, refused or accepted.
+    fn start(self, contents: &[u8], columns: &mut Columns) -> Noted
+        ensures { (n : ℕ) → NotedAs (lister_of self n columns.old) contents.now Entry.Start result columns.new }
+    {
+        let settings = capture_record::settings_in(contents);
+        match Station::start(
+            settings.own,
+            settings.ap,
+            settings.interval,
+            settings.channel,
+        ) {
+            Ok(station) => self.followed(Word::Start, Response::Call(Ok(())), station, columns),
+            Err(refusal) => self.dropped(Word::Start, refusal),
+        }
+    }
+
+    // An advance of the station, refused or accepted.
+    #[tactic(auto, using(apart::proofs::Parts::few_rows))]
+    fn advance(self, units: u16, columns: &mut Columns) -> Noted
+        requires valid { Valid (whole_of self.apart columns.old) }
+        requires started { self.active ≡ true }
+        ensures { (n : ℕ) (contents : List ℕ) → NotedAs (lister_of self n columns.old) contents (Entry.Advance units) result columns.new }
+    {
+        let stepped = self.apart.whole(columns).advance(u32::from(units));
+        let answer = Response::Call(stepped.answer);
+        self.followed(Word::Advance, answer, stepped.station, columns)
+    }
+
+    // A question to the station. Until when it is known to be clear is worked out, since more questions may follow.
+    #[tactic(auto, using(apart::proofs::Parts::few_rows, station::proofs::Clearing::until_clear))]
+    fn ask(self, units: u16, columns: &Columns) -> Noted
+        requires { Valid (whole_of self.apart columns.now) }
+        ensures asked { result ≡ asked (whole_of self.apart columns.now) units self result.clear }
+        ensures clears { Clear (whole_of self.apart columns.now) result.clear }
+    {
+        let station = self.apart.whole(columns);
+        let answer = Response::Question(station.ask(u32::from(units)));
+        self.told(Word::Ask, answer, station.clear_until())
+    }
+
+    // Any record but the frames that a station hears. A start needs no station.
+    pub fn note(self, entry: Entry, contents: &[u8], columns: &mut Columns) -> Noted
+        requires few { self.apart.count ≤ quiet_limit }
+        requires sound { (n : ℕ) → Sound (lister_of self n columns.old) }
+        requires unheard { entry ≡ Entry.Frame → self.active ≡ false }
+        ensures { (n : ℕ) → NotedAs (lister_of self n columns.old) contents.now entry result columns.new }
+    {
+        match entry {
+            Entry::Malformed => self.malformed(),
+            Entry::Start => self.start(contents, columns),
+            Entry::Advance(units) if self.active => self.advance(units, columns),
+            Entry::Ask(units) if self.active => self.ask(units, columns),
+            Entry::Advance(_) => self.unstarted(Word::Advance),
+            Entry::Ask(_) => self.unstarted(Word::Ask),
+            Entry::Frame => self.unstarted(Word::Frame),
+        }
     }
 }

@@ -4,7 +4,14 @@ use Rattle.capture.specs.Listers.{Sound, Fits}
 use Rattle.capture.specs.Lists.{Told, line}
 use Rattle.capture.specs.declared.lister.Lister.{Lister}
 use Rattle.capture.specs.declared.listing.Put.{Put}
-use Rattle.capture.specs.declared.noting.Answered.{Answered}
+use Rattle.capture.specs.declared.response.Response.{Response}
+use Rattle.pen.specs.declared.words.Word.{Word}
+
+-- the lister before the line that tells this word and this answer
+pub record Answered : Type 0 where
+  pub lister : Lister
+  pub word : Word
+  pub answer : Response
 
 abbrev pub line_for : Answered → Told
 line_for a = line a.lister a.word a.answer

@@ -259,7 +259,7 @@ note-noted-requires c =
     let r = (goal.at.note-noted-requires c).After-run-ran in
     record {
       few = few r;
-      sound = (standing r).sound;
+      sound = λ n. record { followed = (standing r).sound.followed; idle = (standing r).sound.idle };
       unheard = no_hearer _ _ (sym c.is_heard.ensures ∙ c.if-is_heard.false);
     }
 
@@ -268,7 +268,7 @@ loop-columns-preserved c =
     let r = (goal.at.loop-columns-preserved c).After-run-ran in
     let e = (goal.at.loop-columns-preserved c).After-entry_of-entry in
     let m = c.note-noted in
-    let n = m.ensures in
+    let n = m.ensures c.run-ran.result.pen.lines in
     let put = c.put_told-pen-else-is_heard in
     let k = c.run-ran.result.pen.lines + 1 in
     let w = c.in-Whole in
